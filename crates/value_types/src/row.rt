@@ -1,0 +1,38 @@
+//! A row of values.
+
+ghost use Rattle.std.specs.Prelude.{◌≡◌};
+
+use crate::Value;
+use std::marker::Model;
+
+/// The values of a row, in the order of their columns.
+#[derive(Debug, Drop)]
+pub struct Row {
+    values: Vec<Value>,
+}
+
+impl Model for Row {
+    ghost use Rattle.std.specs.Prelude.{List};
+    ghost use Rattle.value_types.specs.declared.value.Value.{Value as SqlValue};
+
+    ghost Value = { List SqlValue };
+
+    ghost view = { λ row. row.values.items };
+}
+
+impl From<Vec<Value>> for Row {
+    ghost from_gives = { λ values row. row ≡ values.items };
+
+    fn from(values: Vec<Value>) -> Row {
+        Row { values }
+    }
+}
+
+impl Row {
+    /// The values in order.
+    pub fn as_slice(&self) -> &[Value]
+        ensures { result.now ≡ self.now }
+    {
+        self.values.as_slice()
+    }
+}

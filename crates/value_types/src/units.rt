@@ -1,0 +1,110 @@
+//! Texts of 16-bit units, as the protocol sends them.
+
+ghost use Rattle.std.specs.Prelude.{◌≡◌, ◌<◌, ◌%◌, ◌↔◌, [], length, All, IfOk};
+ghost use Rattle.value_types.specs.Units.{units_of, le_bytes_of};
+ghost use Rattle.value_types.specs.declared.units.UnitsFault.TheVariants.{Memory as NoMemory};
+
+use crate::Memory;
+use byteorder::{ByteOrder, LittleEndian};
+use std::alloc::{AllocError, AllocFailed, Global};
+use std::marker::Model;
+
+/// A text as a list of 16-bit units. The units need not be well-formed UTF-16.
+#[derive(Debug, Drop)]
+pub struct Units {
+    units: Vec<u16>,
+}
+
+impl Model for Units {
+    ghost use Rattle.std.specs.Prelude.{ℕ, List};
+
+    ghost Value = { List ℕ };
+
+    ghost view = { λ text. text.units.items };
+}
+
+impl From<Vec<u16>> for Units {
+    ghost from_gives = { λ units text. text ≡ units.items };
+
+    fn from(units: Vec<u16>) -> Units {
+        Units { units }
+    }
+}
+
+impl Units {
+    /// The text of no units.
+    pub fn new(alloc: Global) -> Units
+        ensures { result ≡ [] }
+    {
+        Units {
+            units: Vec::new(alloc),
+        }
+    }
+
+    /// The units of an ASCII text, one for each byte.
+    pub fn of_ascii(alloc: Global, text: &[u8]) -> Result<Units, Memory>
+        requires { All (λ byte. byte < 128) text.now }
+        ensures { IfOk result (λ units. units ≡ text.now) }
+    {
+        let mut units = Vec::with_capacity(alloc, text.len())?;
+        for byte in text {
+            units.push(u16::from(*byte))?;
+        }
+        Ok(Units { units })
+    }
+
+    /// The units in order.
+    pub fn as_slice(&self) -> &[u16]
+        ensures { result.now ≡ self.now }
+    {
+        self.units.as_slice()
+    }
+
+    /// How many units there are.
+    pub fn len(&self) -> usize
+        ensures { result ≡ length self.now }
+    {
+        self.units.len()
+    }
+}
+
+/// Why bytes are no text.
+#[derive(Clone, Copy, Debug, PartialEq, Eq)]
+pub enum UnitsFault {
+    /// A unit has two bytes, and the bytes are odd in number.
+    OddLength,
+    /// Memory was wanting.
+    Memory,
+}
+
+impl From<AllocError> for UnitsFault {
+    ghost from_gives = { λ _ fault. fault ≡ NoMemory };
+
+    fn from(_e: AllocError) -> UnitsFault {
+        UnitsFault::Memory
+    }
+}
+
+impl<T: Drop> From<AllocFailed<T>> for UnitsFault {
+    ghost from_gives = { λ _ fault. fault ≡ NoMemory };
+
+    fn from(_e: AllocFailed<T>) -> UnitsFault {
+        UnitsFault::Memory
+    }
+}
+
+/// The units of a text in UTF-16LE: two bytes each, the lower first.
+pub fn units_of_le(alloc: Global, bytes: &[u8]) -> Result<Units, UnitsFault>
+    ensures value { IfOk result (λ units. units ≡ units_of bytes.now) }
+    ensures spelled { IfOk result (λ units. le_bytes_of units ≡ bytes.now) }
+    ensures odd { (result ≡ Err UnitsFault.OddLength) ↔ (length bytes.now % 2 ≡ 1) }
+{
+    if bytes.len() % 2 == 1 {
+        return Err(UnitsFault::OddLength);
+    }
+    let mut units = Vec::with_capacity(alloc, bytes.len() / 2)?;
+    for pair in bytes.chunks_exact(2) {
+        units.push(LittleEndian::read_u16(pair))?;
+    }
+    Ok(Units { units })
+}
