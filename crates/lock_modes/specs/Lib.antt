@@ -1,0 +1,3 @@
+pub mod Modes
+pub mod Agreement
+pub mod Join
