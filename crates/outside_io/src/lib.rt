@@ -1,0 +1,20 @@
+//! What the server reads from and writes to: sources and sinks of bytes, each with a count of its
+//! faults, so that a contract can say which bytes went through and whose fault an end was.
+//!
+//! Read `specs/Bytes.antt` first. The layers above rely on the clauses of [`Source::read`] and
+//! [`Sink::write`] alone: which bytes a call moved where they are told, and that a failure comes
+//! only with a risen count.
+#![tactic(auto)]
+
+mod adapters;
+mod memory_sink;
+mod memory_source;
+mod schedule;
+mod sink;
+mod source;
+
+pub use adapters::{ReadSource, WriteSink};
+pub use memory_sink::MemorySink;
+pub use memory_source::MemorySource;
+pub use sink::{Sink, SinkFault};
+pub use source::{Failed, Source};

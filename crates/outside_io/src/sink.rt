@@ -1,0 +1,36 @@
+//! Where bytes go.
+
+ghost use Rattle.std.specs.Prelude.{◌≡◌, ℕ, ◌≤◌, ◌<◌, List, [], length, take, IfOk, Option};
+ghost use Rattle.std.specs.Io.KnownBytes.{Appends};
+ghost use Rattle.outside_io.specs.Bytes.{HasRisen, AppendsOrHides};
+
+/// Why bytes could not be written.
+#[derive(Clone, Copy, Debug, PartialEq, Eq)]
+pub enum SinkFault {
+    /// The sink failed, and counts it among its faults.
+    Failed,
+    /// Memory was wanting. Nothing was taken, and it is no fault of the sink.
+    Memory,
+}
+
+/// Where bytes go: a socket, standard output, a list in memory.
+pub trait Sink {
+    // The bytes written so far, where it tells them.
+    ghost written: { Self → Option (List ℕ) };
+
+    // How many faults there were. At 2^64 - 1 the count stands still.
+    ghost faults: { Self → ℕ };
+
+    /// Takes some bytes from the front of `from` and answers how many. An answer of 0 for a
+    /// nonempty slice is a fault too, and is counted.
+    fn write(&mut self, from: &[u8]) -> Result<usize, SinkFault>
+        ensures bound { IfOk result (λ n. n ≤ length from.now) }
+        ensures takes { IfOk result (λ n. Appends (written self.old) (written self.new) (take n from.now)) }
+        ensures zero { IfOk result (λ n. n ≡ 0 → 0 < length from.now → HasRisen (faults self.old) (faults self.new)) }
+
+        // A write that failed took nothing, or the sink tells its bytes no longer.
+        ensures failed { result ≡ Err SinkFault.Failed → HasRisen (faults self.old) (faults self.new) }
+        ensures hidden { result ≡ Err SinkFault.Failed → AppendsOrHides (written self.old) (written self.new) [] }
+        ensures memory { result ≡ Err SinkFault.Memory → Appends (written self.old) (written self.new) [] }
+        ensures counted { faults self.old ≤ faults self.new };
+}
