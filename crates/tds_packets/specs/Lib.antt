@@ -1,0 +1,4 @@
+pub mod Header
+pub mod Stream
+pub mod Reading
+pub mod Packets
