@@ -1,0 +1,5 @@
+pub mod Lengths
+pub mod Joins
+pub mod Rows
+pub mod Tokens
+pub mod Vectors

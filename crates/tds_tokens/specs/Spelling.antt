@@ -1,0 +1,84 @@
+-- [MS-TDS] 2.2.7: the bytes of each token that a server sends. One case a token; the code appends
+-- to a buffer instead.
+use Rattle.std.specs.Prelude.{ℕ, List, [], ◌∷◌, ◌++◌, length, codes}
+use Rattle.std.specs.List.{flat_map}
+use Rattle.std.specs.Int.{w16, w32, w64, to_le_bytes, cast_unsigned}
+use Rattle.value_types.specs.declared.sql_type.SqlType.{SqlType}
+use Rattle.value_types.specs.declared.sql_type.SqlType.TheVariants.{Int}
+use Rattle.value_types.specs.declared.value.Value.{Value}
+use Rattle.value_types.specs.declared.value.Value.TheVariants.{Whole}
+use Rattle.value_types.specs.Units.{le_bytes_of}
+use Rattle.tds_tokens.specs.declared.notice.Notice.{Notice}
+use Rattle.tds_tokens.specs.declared.columns.ColumnInfo.{ColumnInfo}
+use Rattle.tds_tokens.specs.declared.token.DoneKind.{DoneKind}
+use Rattle.tds_tokens.specs.declared.token.DoneKind.TheVariants.{Done, Proc, InProc}
+use Rattle.tds_tokens.specs.declared.token.Token.{Token}
+use Rattle.tds_tokens.specs.declared.token.Token.TheVariants.{Error, Columns, Row, Finished}
+
+-- B_VARCHAR (2.2.5.1.2): a count of units in one byte, and the units
+abbrev pub b_varchar : List ℕ → List ℕ
+b_varchar units = length units ∷ le_bytes_of units
+
+-- US_VARCHAR (2.2.5.1.2): a count of units in two bytes, and the units
+abbrev pub us_varchar : List ℕ → List ℕ
+us_varchar units = to_le_bytes w16 (length units) ++ le_bytes_of units
+
+-- a length of two bytes, and as many bytes
+abbrev pub with_length : List ℕ → List ℕ
+with_length body = to_le_bytes w16 (length body) ++ body
+
+-- the name that the server gives itself
+abbrev pub server_name : List ℕ
+server_name = codes "tsqld"
+
+-- TYPE_INFO (2.2.5.6): INTNTYPE and its size
+abbrev pub type_info : SqlType → List ℕ
+type_info Int = 0x26 ∷ 4 ∷ []
+
+-- a value as its column's type has it: the length, and the number in two's complement
+abbrev pub value_bytes : SqlType → Value → List ℕ
+value_bytes Int (Whole number) = 4 ∷ to_le_bytes w32 (cast_unsigned w32 number)
+
+-- the values of a row, each as its column has it
+abbrev pub row_bytes : List ColumnInfo → List Value → List ℕ
+row_bytes [] values = []
+row_bytes (column ∷ columns) [] = []
+row_bytes (column ∷ columns) (value ∷ values) = value_bytes column.kind value ++ row_bytes columns values
+
+-- ColumnData (2.2.7.4): user type 0, the flag fNullable, the type and the name
+abbrev pub column_bytes : ColumnInfo → List ℕ
+column_bytes column = to_le_bytes w32 0 ++ to_le_bytes w16 1 ++ type_info column.kind ++ b_varchar column.name
+
+-- ERROR (2.2.7.10) behind its length: number, state, class, text, server, procedure and line
+abbrev pub notice_bytes : Notice → List ℕ
+notice_bytes notice = to_le_bytes w32 (cast_unsigned w32 notice.number) ++ (notice.state ∷ notice.class ∷ [])
+    ++ us_varchar notice.text ++ b_varchar server_name ++ b_varchar notice.procedure
+    ++ to_le_bytes w32 (cast_unsigned w32 notice.line)
+
+-- DONE, DONEPROC and DONEINPROC (2.2.7.6 to 2.2.7.8)
+abbrev pub done_tag : DoneKind → ℕ
+done_tag Done = 0xFD
+done_tag Proc = 0xFE
+done_tag InProc = 0xFF
+
+-- a token, where the latest COLMETADATA before it described these columns
+abbrev pub token_bytes : List ColumnInfo → Token → List ℕ
+token_bytes columns (Error notice) = 0xAA ∷ with_length (notice_bytes notice)
+token_bytes columns (Columns described) = 0x81 ∷ to_le_bytes w16 (length described) ++ flat_map column_bytes described
+token_bytes columns (Row values) = 0xD1 ∷ row_bytes columns values
+token_bytes columns (Finished kind status command rows) =
+    done_tag kind ∷ to_le_bytes w16 status ++ to_le_bytes w16 command ++ to_le_bytes w64 rows
+
+-- the columns that rows have after a token
+abbrev pub columns_after : List ColumnInfo → Token → List ColumnInfo
+columns_after columns (Columns described) = described
+columns_after columns _ = columns
+
+-- the tokens one after another, where the latest COLMETADATA before them described these columns
+unfoldable pub tokens_bytes : List ColumnInfo → List Token → List ℕ
+tokens_bytes columns [] = []
+tokens_bytes columns (token ∷ tokens) = token_bytes columns token ++ tokens_bytes (columns_after columns token) tokens
+
+-- a stream of tokens, before which no columns were described
+abbrev pub TokenBytes : List Token → List ℕ
+TokenBytes tokens = tokens_bytes [] tokens
