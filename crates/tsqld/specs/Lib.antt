@@ -1,0 +1,4 @@
+pub mod Batch
+pub mod Talk
+pub mod Conversation
+pub mod Program
