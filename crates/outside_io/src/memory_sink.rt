@@ -78,8 +78,10 @@ impl Sink for MemorySink {
         ensures piece { IfOk result (λ n. n ≡ min self.old.piece (length from.now)) }
         ensures calls { self.new.calls ≡ min (self.old.calls + 1) (2 ^ 64 - 1) }
         ensures no_fault { result ≢ Err SinkFault.Failed → self.new.faults ≡ self.old.faults }
+        ensures one_fault { result ≡ Err SinkFault.Failed → self.new.faults ≡ min (self.old.faults + 1) (2 ^ 64 - 1) }
+        ensures kept { (self.new.piece ≡ self.old.piece) × (self.new.failing ≡ self.old.failing) }
     {
-        if self.schedule.fails() {
+        if self.schedule.next_call_fails() {
             return Err(SinkFault::Failed);
         }
         let n = from.len().min(self.piece as usize);

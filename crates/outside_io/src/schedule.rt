@@ -22,8 +22,8 @@ impl Schedule {
         }
     }
 
-    /// Counts a call and says whether it fails, which is a fault.
-    pub(crate) fn fails(&mut self) -> bool
+    /// Counts the next call and says whether it fails, which is a fault.
+    pub(crate) fn next_call_fails(&mut self) -> bool
         ensures calls { self.new.calls ≡ min (self.old.calls + 1) (2 ^ 64 - 1) }
         ensures failing { self.new.failing ≡ self.old.failing }
         ensures script { IsTrue result ↔ Contains self.old.failing.items self.new.calls }

@@ -18,7 +18,7 @@ pub trait Sink {
     // The bytes written so far, where it tells them.
     ghost written: { Self → Option (List ℕ) };
 
-    // How many faults there were. At 2^64 - 1 the count stands still.
+    // How many faults there were. `HasRisen` says when one more was counted.
     ghost faults: { Self → ℕ };
 
     /// Takes some bytes from the front of `from` and answers how many. An answer of 0 for a
@@ -32,5 +32,9 @@ pub trait Sink {
         ensures failed { result ≡ Err SinkFault.Failed → HasRisen (faults self.old) (faults self.new) }
         ensures hidden { result ≡ Err SinkFault.Failed → AppendsOrHides (written self.old) (written self.new) [] }
         ensures memory { result ≡ Err SinkFault.Memory → Appends (written self.old) (written self.new) [] }
-        ensures counted { faults self.old ≤ faults self.new };
+        ensures counted { faults self.old ≤ faults self.new }
+
+        // A write that took something is no fault, and neither is one of nothing or want of memory.
+        ensures no_fault { IfOk result (λ n. (n ≡ 0 → length from.now ≡ 0) → faults self.new ≡ faults self.old) }
+        ensures memory_no_fault { result ≡ Err SinkFault.Memory → faults self.new ≡ faults self.old };
 }

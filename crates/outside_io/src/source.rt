@@ -16,7 +16,7 @@ pub trait Source {
     // The bytes that reads have given so far, where it tells those.
     ghost given: { Self → Option (List ℕ) };
 
-    // How many faults there were. At 2^64 - 1 the count stands still.
+    // How many faults there were. `HasRisen` says when one more was counted.
     ghost faults: { Self → ℕ };
 
     /// Reads some bytes into the front of `into` and answers how many. An answer of 0 for a
@@ -29,5 +29,8 @@ pub trait Source {
         // A read that failed gave nothing, and the count of faults rose.
         ensures failed { OnErr result (HasRisen (faults self.old) (faults self.new)) }
         ensures unchanged { OnErr result (Takes left given self.old self.new []) }
-        ensures counted { faults self.old ≤ faults self.new };
+        ensures counted { faults self.old ≤ faults self.new }
+
+        // A read that did not fail is no fault.
+        ensures no_fault { IfOk result (λ _. faults self.new ≡ faults self.old) };
 }

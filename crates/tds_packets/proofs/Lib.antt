@@ -2,5 +2,9 @@ pub mod Taken
 pub mod Sent
 pub mod Packed
 pub mod Fronts
+pub mod Read
+pub mod Open
 pub mod Joined
+pub mod Ends
+pub mod Draft
 pub mod Rows

@@ -26,7 +26,7 @@ body_at room payload k = take room (drop (room * k) payload)
 abbrev pub status_at : ℕ → List ℕ → ℕ → ℕ
 status_at room payload k = if nat_lt (k + 1) (packet_count room (length payload)) then 0 else 1
 
--- packet k of a message, counted from 0; its PacketID counts from 1, modulo 256
+-- packet k of a message, counted from 0; its PacketID counts from 1, modulo 256 (2.2.3.1.5)
 abbrev pub packet_at : ℕ → ℕ → ℕ → List ℕ → ℕ → List ℕ
 packet_at kind spid size payload k =
     let body = body_at (size - 8) payload k in

@@ -1,40 +1,100 @@
 -- What a reader that wants the next message gives, by the bytes that it took for it.
-use Rattle.std.specs.Prelude.{◌≡◌, ℕ, ◌+◌, ◌^◌, ◌≤◌, ◌<◌, List, length, take, Result, Ok, Err}
+use Rattle.std.specs.Prelude.{◌≡◌, ℕ, ◌+◌, ◌^◌, ◌≤◌, ◌<◌, List, ◌++◌, length, drop, Option, None, Result, Ok, Err}
+use Rattle.tds_packets.specs.declared.header.PacketHeader.{PacketHeader}
 use Rattle.tds_packets.specs.declared.message.Message.{Message}
 use Rattle.tds_packets.specs.declared.reader.MessageFault.{MessageFault}
-use Rattle.tds_packets.specs.declared.reader.MessageFault.TheVariants.{Closed, Cut, BadHeader, ReadFault, Memory, Spent}
-use Rattle.tds_packets.specs.Stream.{IsMessage, IsPartial, stream_end}
+use Rattle.tds_packets.specs.declared.reader.MessageFault.TheVariants.{Closed, Cut, BadHeader, TooLong, ReadFault, Memory, Spent}
+use Rattle.tds_packets.specs.Header.{kind_of, ends_message, length_of}
+use Rattle.tds_packets.specs.Stream.{IsMessage, Stops, IsTail, header_fault, tail_end}
 
--- how many bytes a reader takes at most
+-- how many bytes a reader takes at most (own)
 abbrev pub byte_limit : ℕ
 byte_limit = 2 ^ 40
 
--- Why no message came, where these bytes were taken from offset `at` on. Closed, Cut and BadHeader
--- are the stream's end; behind the header that is refused nothing is taken. Memory is wanted only
--- behind a whole header, and a byte too many only at the limit.
+-- more bytes might make a message
+abbrev pub Awaits : MessageFault → Type 0
+Awaits Closed = Unit {0}
+Awaits (Cut place) = Unit {0}
+Awaits fault = ⊥
+
+-- no whole message begins the rest, and no header in it is refused
+abbrev pub IsUnrefused : ℕ → List ℕ → Type 0
+IsUnrefused at rest = (fault : MessageFault) × Stops at rest fault × Awaits fault
+
+-- Why no message came, where these bytes were taken from offset `at` on. Closed, Cut, BadHeader and
+-- TooLong are the stream's end; behind a header that is refused nothing is taken. Memory is wanted
+-- only behind a whole header. Spent: a byte is wanted where 2^40 are taken, also where the source has
+-- ended there.
 abbrev pub StopsBy : ℕ → List ℕ → MessageFault → Type 0
-StopsBy at bytes Closed = stream_end at bytes ≡ Closed
-StopsBy at bytes (Cut place) = stream_end at bytes ≡ Cut place
-StopsBy at bytes (BadHeader place) = (stream_end at bytes ≡ BadHeader place) × (length bytes ≡ 8)
-StopsBy at bytes ReadFault = Unit {0}
-StopsBy at bytes Memory = 8 ≤ length bytes
-StopsBy at bytes Spent = at + length bytes ≡ byte_limit
+StopsBy at bytes Closed = Stops at bytes Closed × (at + length bytes < byte_limit)
+StopsBy at bytes (Cut place) = Stops at bytes (Cut place) × (at + length bytes < byte_limit)
+StopsBy at bytes (BadHeader place) = Stops at bytes (BadHeader place) × (at + length bytes ≡ place + 8)
+StopsBy at bytes (TooLong place) = Stops at bytes (TooLong place) × (at + length bytes ≡ place + 8)
+StopsBy at bytes ReadFault = IsUnrefused at bytes
+StopsBy at bytes Memory = IsUnrefused at bytes × (8 ≤ length bytes)
+StopsBy at bytes Spent = IsUnrefused at bytes × (at + length bytes ≡ byte_limit)
 
 -- What the bytes taken from offset `at` on have given.
 abbrev pub Gives : ℕ → List ℕ → Result Message MessageFault → Type 0
 Gives at bytes (Ok message) = IsMessage at bytes message
-Gives at bytes (Err fault) = IsPartial bytes × StopsBy at bytes fault
+Gives at bytes (Err fault) = StopsBy at bytes fault
 
 -- the source ended
-abbrev pub IsEnd : Result Message MessageFault → Type 0
+abbrev pub IsEnd : {T : Type 0} → Result T MessageFault → Type 0
 IsEnd (Err Closed) = Unit {0}
 IsEnd (Err (Cut place)) = Unit {0}
 IsEnd _ = ⊥
 
+-- the fact, where the source ended within a message
+abbrev pub OnCut : MessageFault → Type 0 → Type 0
+OnCut (Cut place) P = P
+OnCut fault P = Unit {0}
+
+-- nothing was wrong with the bytes
+abbrev pub IsNoRefusal : MessageFault → Type 0
+IsNoRefusal (Cut place) = ⊥
+IsNoRefusal (BadHeader place) = ⊥
+IsNoRefusal (TooLong place) = ⊥
+IsNoRefusal fault = Unit {0}
+
+-- ---- what the parts of a reader give; no public clause cites these
+
+-- What a header tells of its packet, which may come behind packets of this type that carry `size`
+-- bytes. Bytes may follow the header.
+pub record IsHeader (begun : Option ℕ) (size : ℕ) (bytes : List ℕ) (header : PacketHeader) : Type 0 where
+  pub right : header_fault begun size 0 bytes ≡ None
+  pub kind : header.kind ≡ kind_of bytes
+  pub last : header.last ≡ ends_message bytes
+  pub body_len : header.body_len + 8 ≡ length_of bytes
+
+-- a tail that is no whole packet, and whose header, if it is whole, is not refused
+abbrev pub IsOpenTail : Option ℕ → ℕ → ℕ → List ℕ → Type 0
+IsOpenTail begun size at tail = IsTail begun size tail × Awaits (tail_end begun size at tail)
+
+-- why no packet came, where these bytes were taken for it from offset `at` on
+abbrev pub TailStopsBy : Option ℕ → ℕ → ℕ → List ℕ → MessageFault → Type 0
+TailStopsBy begun size at bytes ReadFault = IsOpenTail begun size at bytes
+TailStopsBy begun size at bytes Memory = IsOpenTail begun size at bytes × (8 ≤ length bytes)
+TailStopsBy begun size at bytes Spent = IsOpenTail begun size at bytes × (at + length bytes ≡ byte_limit)
+TailStopsBy begun size at bytes (BadHeader place) = (tail_end begun size at bytes ≡ BadHeader place) × (length bytes ≡ 8)
+TailStopsBy begun size at bytes (TooLong place) = (tail_end begun size at bytes ≡ TooLong place) × (length bytes ≡ 8)
+TailStopsBy begun size at bytes fault = IsTail begun size bytes × (tail_end begun size at bytes ≡ fault) × (at + length bytes < byte_limit)
+
+-- what the bytes taken for a header have given
+abbrev pub GivesHeader : Option ℕ → ℕ → ℕ → List ℕ → Result PacketHeader MessageFault → Type 0
+GivesHeader begun size at bytes (Ok header) = IsHeader begun size bytes header × (length bytes ≡ 8)
+GivesHeader begun size at bytes (Err fault) = TailStopsBy begun size at bytes fault
+
+-- what the bytes taken for a packet have given, and what its data have made of those before
+abbrev pub GivesPacket : Option ℕ → ℕ → List ℕ → List ℕ → List ℕ → Result PacketHeader MessageFault → Type 0
+GivesPacket begun at bytes old new (Ok header) = IsHeader begun (length old) bytes header × (length bytes ≡ length_of bytes) × (new ≡ old ++ drop 8 bytes)
+GivesPacket begun at bytes old new (Err fault) = TailStopsBy begun (length old) at bytes fault
+
 -- What the bytes taken have made of a buffer that was to be filled, `taken` being how many bytes
 -- the reader then has taken in all.
-abbrev pub Fills : ℕ → List ℕ → List ℕ → Result ℕ MessageFault → Type 0
-Fills taken buffer bytes (Ok n) = (n ≤ length buffer) × (bytes ≡ take n buffer)
+abbrev pub Fills : ℕ → List ℕ → List ℕ → Result (Unit {0}) MessageFault → Type 0
+Fills taken buffer bytes (Ok _) = bytes ≡ buffer
+Fills taken buffer bytes (Err (Cut place)) = (length bytes < length buffer) × (place ≡ taken) × (taken < byte_limit)
 Fills taken buffer bytes (Err ReadFault) = length bytes < length buffer
 Fills taken buffer bytes (Err Spent) = (length bytes < length buffer) × (taken ≡ byte_limit)
 Fills taken buffer bytes (Err _) = ⊥

@@ -1,8 +1,10 @@
 //! Laws of the streams of messages. Each is a function with no effect, whose contract is the law.
 
-ghost use Rattle.std.specs.Prelude.{◌≡◌, ℕ, ◌+◌, List, [], ◌∷◌, ◌++◌, length};
-ghost use Rattle.tds_packets.specs.Stream.{IsMessage, Joins, Splits};
+ghost use Rattle.std.specs.Prelude.{◌≡◌, ℕ, ◌+◌, ◌-◌, List, [], ◌∷◌, ◌++◌, length};
+ghost use Rattle.tds_packets.specs.Stream.{IsMessage, Joins, Splits, Stops};
+ghost use Rattle.tds_packets.specs.Reading.{StopsBy, OnCut, IsNoRefusal};
 ghost use Rattle.tds_packets.specs.declared.message.Message.{Message};
+ghost use Rattle.tds_packets.specs.declared.reader.MessageFault.{MessageFault};
 
 /// A stream has one list of messages and one rest.
 pub fn law_one_split()
@@ -10,12 +12,17 @@ pub fn law_one_split()
         Splits bytes messages rest → Splits bytes others more → (messages ≡ others) × (rest ≡ more) }
 {}
 
-/// Whatever messages were taken from the front of a stream of whole messages, what is left is
-/// whole messages again.
+/// And it ends in one way.
+pub fn law_one_end()
+    ensures { (at : ℕ) (rest : List ℕ) (fault other : MessageFault) → Stops at rest fault → Stops at rest other → fault ≡ other }
+{}
+
+/// Messages that were taken from the front of a stream of whole messages are the first of these, and
+/// what is left is the others.
 pub fn law_front()
     ensures { (at : ℕ) (front back : List ℕ) (messages others : List Message) (rest : List ℕ) →
         Joins at (front ++ back) messages [] → Joins at front others rest →
-        (place : ℕ) × (later : List Message) × Joins place (rest ++ back) later [] }
+        (place : ℕ) × (later : List Message) × (messages ≡ others ++ later) × Joins place (rest ++ back) later [] }
 {}
 
 /// Behind whole messages comes one more, or a rest.
@@ -25,4 +32,12 @@ pub fn law_join()
         Joins at (front ++ more) (messages ++ message ∷ []) [] }
     ensures rest { (at : ℕ) (front rest : List ℕ) (messages : List Message) →
         Joins at front messages [] → Joins at (front ++ rest) messages rest }
+{}
+
+/// A stream of whole messages is never refused: a reader that took some of its messages, and then
+/// stopped, found no fault in it, and no cut but where bytes are missing.
+pub fn law_complete()
+    ensures { (front back : List ℕ) (messages others : List Message) (rest : List ℕ) (fault : MessageFault) →
+        Joins 0 (front ++ back) messages [] → Joins 0 front others rest → StopsBy (length front - length rest) rest fault →
+        OnCut fault (back ≡ []) → IsNoRefusal fault }
 {}

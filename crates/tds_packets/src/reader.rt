@@ -1,12 +1,13 @@
 //! Reading messages.
 
-ghost use Rattle.std.specs.Prelude.{◌≡◌, ◌+◌, ◌≤◌, ◌<◌, List, ℕ, length, IfOk};
+ghost use Rattle.std.specs.Prelude.{◌≡◌, ◌≢◌, ◌+◌, ◌≤◌, List, ℕ, length, vec_len};
 ghost use Rattle.std.specs.Io.KnownBytes.{IsAtEnd};
 ghost use Rattle.outside_io.specs.Bytes.{Takes, HasRisen};
-ghost use Rattle.tds_packets.specs.Reading.{Gives, Fills, IsEnd, byte_limit};
+ghost use Rattle.tds_packets.specs.Reading.{Gives, GivesPacket, GivesHeader, Fills, IsEnd, byte_limit};
+ghost use Rattle.tds_packets.specs.Stream.{payload_limit};
 ghost use Rattle.tds_packets.specs.declared.reader.MessageFault.TheVariants.{Memory as NoMemory};
 
-use crate::header::{HEADER_LEN, batch_len};
+use crate::header::{HEADER_LEN, PacketHeader, read_header};
 use crate::message::{Message, Payload};
 use outside_io::{Failed, Source};
 use std::alloc::{AllocError, Global};
@@ -22,8 +23,14 @@ pub enum MessageFault {
         /// How many bytes were read in all.
         at: u64,
     },
-    /// The header of a packet is none that is read here.
+    /// The header of a packet has an unknown type, a type other than its message's first, or a
+    /// Length below 8.
     BadHeader {
+        /// Where the packet begins, in bytes from 0.
+        at: u64,
+    },
+    /// The data of a packet would take its message past 1,048,576 bytes.
+    TooLong {
         /// Where the packet begins, in bytes from 0.
         at: u64,
     },
@@ -81,36 +88,86 @@ impl Reader {
             × (self.new ≡ self.old + length bytes) × Gives self.old bytes result }
         ensures ended { IsEnd result → IsAtEnd (S.left source.new) }
         ensures read_fault { result ≡ Err MessageFault.ReadFault → HasRisen (S.faults source.old) (S.faults source.new) }
+        ensures no_fault { result ≢ Err MessageFault.ReadFault → S.faults source.new ≡ S.faults source.old }
+        ensures counted { S.faults source.old ≤ S.faults source.new }
+        ensures within { self.new ≤ byte_limit }
+    {
+        let at = self.taken;
+        let mut begun = None;
+        let mut payload = Vec::new(alloc);
+        'packets: loop {
+            let packet = self.next_packet(source, begun, &mut payload)?;
+            if packet.last {
+                return Ok(Message {
+                    kind: packet.kind,
+                    at,
+                    payload: Payload::from(payload),
+                });
+            }
+            begun = Some(packet.kind);
+        }
+    }
+
+    /// Reads the next packet of a message whose earlier packets have the type `begun`, where there
+    /// are any, and appends its data to theirs.
+    fn next_packet<S: Source>(
+        &mut self,
+        source: &mut S,
+        begun: Option<u8>,
+        payload: &mut Vec<u8>,
+    ) -> Result<PacketHeader, MessageFault>
+        requires { vec_len payload.old ≤ payload_limit }
+        ensures next { (bytes : List ℕ) × Takes S.left S.given source.old source.new bytes
+            × (self.new ≡ self.old + length bytes) × GivesPacket begun self.old bytes payload.old.items payload.new.items result }
+        ensures ended { IsEnd result → IsAtEnd (S.left source.new) }
+        ensures read_fault { result ≡ Err MessageFault.ReadFault → HasRisen (S.faults source.old) (S.faults source.new) }
+        ensures no_fault { result ≢ Err MessageFault.ReadFault → S.faults source.new ≡ S.faults source.old }
+        ensures counted { S.faults source.old ≤ S.faults source.new }
+        ensures within { self.new ≤ byte_limit }
+    {
+        let size = payload.len();
+        let header = self.next_header(source, begun, size)?;
+        payload.resize(size + header.body_len, 0)?;
+        let (_, body) = payload.split_at_mut(size);
+        self.fill(source, body)?;
+        Ok(header)
+    }
+
+    /// Reads the header of a packet behind packets of the type `begun`, where there are any, that
+    /// carry `size` bytes.
+    fn next_header<S: Source>(
+        &mut self,
+        source: &mut S,
+        begun: Option<u8>,
+        size: usize,
+    ) -> Result<PacketHeader, MessageFault>
+        requires { size ≤ payload_limit }
+        ensures next { (bytes : List ℕ) × Takes S.left S.given source.old source.new bytes
+            × (self.new ≡ self.old + length bytes) × GivesHeader begun size self.old bytes result }
+        ensures ended { IsEnd result → IsAtEnd (S.left source.new) }
+        ensures read_fault { result ≡ Err MessageFault.ReadFault → HasRisen (S.faults source.old) (S.faults source.new) }
+        ensures no_fault { result ≢ Err MessageFault.ReadFault → S.faults source.new ≡ S.faults source.old }
         ensures counted { S.faults source.old ≤ S.faults source.new }
         ensures within { self.new ≤ byte_limit }
     {
         let at = self.taken;
         let mut header = [0; HEADER_LEN];
-        match self.fill(source, &mut header)? {
-            0 => return Err(MessageFault::Closed),
-            HEADER_LEN => {}
-            _ => return Err(MessageFault::Cut { at: self.taken }),
+        match self.fill(source, &mut header) {
+            Ok(()) => read_header(&header, begun, size, at),
+            Err(MessageFault::Cut { at: end }) if end == at && begun.is_none() => {
+                Err(MessageFault::Closed)
+            }
+            Err(fault) => Err(fault),
         }
-        let Some(len) = batch_len(&header) else {
-            return Err(MessageFault::BadHeader { at });
-        };
-        let mut payload = vec![in alloc; 0; len]?;
-        if self.fill(source, &mut payload)? < len {
-            return Err(MessageFault::Cut { at: self.taken });
-        }
-        Ok(Message {
-            kind: header[0],
-            at,
-            payload: Payload::from(payload),
-        })
     }
 
-    /// Reads until `into` is full or the source ends, and answers how many bytes it read.
-    fn fill<S: Source>(&mut self, source: &mut S, into: &mut [u8]) -> Result<usize, MessageFault>
+    /// Reads until `into` is full.
+    fn fill<S: Source>(&mut self, source: &mut S, into: &mut [u8]) -> Result<(), MessageFault>
         ensures next { (bytes : List ℕ) × Takes S.left S.given source.old source.new bytes
             × (self.new ≡ self.old + length bytes) × Fills self.new into.new bytes result }
-        ensures ended { IfOk result (λ n. n < length into.old → IsAtEnd (S.left source.new)) }
+        ensures ended { IsEnd result → IsAtEnd (S.left source.new) }
         ensures read_fault { result ≡ Err MessageFault.ReadFault → HasRisen (S.faults source.old) (S.faults source.new) }
+        ensures no_fault { result ≢ Err MessageFault.ReadFault → S.faults source.new ≡ S.faults source.old }
         ensures counted { S.faults source.old ≤ S.faults source.new }
         ensures within { self.new ≤ byte_limit }
     {
@@ -122,7 +179,7 @@ impl Reader {
             }
             let end = filled + (into.len() - filled).min(room as usize);
             match source.read(&mut into[filled..end]) {
-                Ok(0) => break,
+                Ok(0) => return Err(MessageFault::Cut { at: self.taken }),
                 Ok(n) => {
                     filled += n;
                     self.taken += n as u64;
@@ -130,6 +187,6 @@ impl Reader {
                 Err(Failed) => return Err(MessageFault::ReadFault),
             }
         }
-        Ok(filled)
+        Ok(())
     }
 }

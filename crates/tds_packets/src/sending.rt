@@ -1,6 +1,6 @@
 //! Sending a payload in packets.
 
-ghost use Rattle.std.specs.Prelude.{◌≡◌, ◌+◌, ◌*◌, ◌^◌, ◌<◌, ◌≤◌, ◌++◌, length, OnOk, IfErr};
+ghost use Rattle.std.specs.Prelude.{◌≡◌, ◌≢◌, ◌+◌, ◌*◌, ◌^◌, ◌<◌, ◌≤◌, ◌++◌, length, OnOk, IfErr};
 ghost use Rattle.std.specs.Io.KnownBytes.{Appends};
 ghost use Rattle.outside_io.specs.Bytes.{HasRisen};
 ghost use Rattle.tds_packets.specs.Packets.{Packets, packet_at, IsPartSent};
@@ -43,6 +43,7 @@ pub fn send_message<K: Sink>(
     ensures sent { OnOk result (Appends (K.written sink.old) (K.written sink.new) (Packets kind spid size payload.now)) }
     ensures part { IfErr result (IsPartSent (K.written sink.old) (K.written sink.new) (Packets kind spid size payload.now)) }
     ensures write_fault { result ≡ Err SendFault.WriteFault → HasRisen (K.faults sink.old) (K.faults sink.new) }
+    ensures no_fault { result ≢ Err SendFault.WriteFault → K.faults sink.new ≡ K.faults sink.old }
     ensures counted { K.faults sink.old ≤ K.faults sink.new }
 {
     let room = usize::from(size) - HEADER_LEN;
@@ -85,6 +86,7 @@ fn write_whole<K: Sink>(sink: &mut K, bytes: &[u8]) -> Result<(), SendFault>
     ensures sent { OnOk result (Appends (K.written sink.old) (K.written sink.new) bytes.now) }
     ensures part { IfErr result (IsPartSent (K.written sink.old) (K.written sink.new) bytes.now) }
     ensures write_fault { result ≡ Err SendFault.WriteFault → HasRisen (K.faults sink.old) (K.faults sink.new) }
+    ensures no_fault { result ≢ Err SendFault.WriteFault → K.faults sink.new ≡ K.faults sink.old }
     ensures counted { K.faults sink.old ≤ K.faults sink.new }
 {
     let mut rest = bytes;

@@ -2,4 +2,13 @@ pub mod Lengths
 pub mod Joins
 pub mod Rows
 pub mod Tokens
+pub mod Loops
+pub mod Readers
+pub mod Numbers
+pub mod Texts
+pub mod ColumnLaws
+pub mod ValueLaws
+pub mod Bodies
+pub mod TokenLaws
+pub mod Streams
 pub mod Vectors

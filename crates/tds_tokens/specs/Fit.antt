@@ -1,19 +1,26 @@
 -- Which tokens have a spelling: each count fits its field, and each row its columns.
-use Rattle.std.specs.Prelude.{◌^◌, ◌<◌, List, [], ◌∷◌, length, All, FitsSigned}
-use Rattle.std.specs.Int.{w32}
+use Rattle.std.specs.Prelude.{◌≡◌, ◌*◌, ◌^◌, ◌<◌, ◌≤◌, ◌≤ℤ◌, ◌⊎◌, pos, List, [], ◌∷◌, length, All, FitsSigned}
+use Rattle.std.specs.Int.{w16, w32, w64}
 use Rattle.value_types.specs.declared.sql_type.SqlType.{SqlType}
-use Rattle.value_types.specs.declared.sql_type.SqlType.TheVariants.{Int}
+use Rattle.value_types.specs.declared.sql_type.SqlType.TheVariants.{TinyInt, SmallInt, Int, BigInt, Bit as BitType, NText}
 use Rattle.value_types.specs.declared.value.Value.{Value}
-use Rattle.value_types.specs.declared.value.Value.TheVariants.{Whole}
+use Rattle.value_types.specs.declared.value.Value.TheVariants.{Null, Whole, Bit, Text}
 use Rattle.tds_tokens.specs.declared.notice.Notice.{Notice}
 use Rattle.tds_tokens.specs.declared.columns.ColumnInfo.{ColumnInfo}
 use Rattle.tds_tokens.specs.declared.token.Token.{Token}
-use Rattle.tds_tokens.specs.declared.token.Token.TheVariants.{Error, Columns, Row, Finished}
+use Rattle.tds_tokens.specs.declared.token.Token.TheVariants.{LoginAck, Error, Info, EnvText, EnvBytes, Columns, Row, ReturnStatus, Finished}
 use Rattle.tds_tokens.specs.Spelling.{notice_bytes, columns_after}
 
--- the value is of the type
+-- the value is of the type, and the size of a text in bytes fits its field
 abbrev pub FitsType : SqlType → Value → Type 0
+FitsType kind Null = Unit {0}
+FitsType TinyInt (Whole number) = (pos 0 ≤ℤ number) × (number ≤ℤ pos 255)
+FitsType SmallInt (Whole number) = FitsSigned w16 number
 FitsType Int (Whole number) = FitsSigned w32 number
+FitsType BigInt (Whole number) = FitsSigned w64 number
+FitsType BitType (Bit bit) = Unit {0}
+FitsType (NText size) (Text units) = (length units ≤ size) × (2 * length units < 2 ^ 16)
+FitsType kind value = ⊥
 
 -- one value for each column, of the column's type
 abbrev pub FitsColumns : List ColumnInfo → List Value → Type 0
@@ -21,6 +28,11 @@ FitsColumns [] [] = Unit {0}
 FitsColumns [] (value ∷ values) = ⊥
 FitsColumns (column ∷ columns) [] = ⊥
 FitsColumns (column ∷ columns) (value ∷ values) = FitsType column.kind value × FitsColumns columns values
+
+-- the size of a text in bytes fits its field
+abbrev pub FitsKind : SqlType → Type 0
+FitsKind (NText size) = 2 * size < 2 ^ 16
+FitsKind kind = Unit {0}
 
 -- the text, the procedure's name and the whole fit their counts
 pub record FitsNotice (notice : Notice) : Type 0 where
@@ -30,8 +42,13 @@ pub record FitsNotice (notice : Notice) : Type 0 where
 
 -- the token has a spelling where the latest COLMETADATA before it described these columns
 abbrev pub FitsToken : List ColumnInfo → Token → Type 0
+FitsToken columns (LoginAck version program release) = length program < 2 ^ 8
 FitsToken columns (Error notice) = FitsNotice notice
-FitsToken columns (Columns described) = (length described < 2 ^ 16) × All (λ column. length column.name < 2 ^ 8) described
+FitsToken columns (Info notice) = FitsNotice notice
+FitsToken columns (EnvText kind fresh former) = ((kind ≡ 1) ⊎ (kind ≡ 4)) × (length fresh < 2 ^ 8) × (length former < 2 ^ 8)
+FitsToken columns (EnvBytes kind fresh former) = (7 ≤ kind) × (kind ≤ 10) × (length fresh < 2 ^ 8) × (length former < 2 ^ 8)
+FitsToken columns (ReturnStatus status) = Unit {0}
+FitsToken columns (Columns described) = (length described < 2 ^ 16) × All (λ column. FitsKind column.kind × (length column.name < 2 ^ 8)) described
 FitsToken columns (Row values) = FitsColumns columns values
 FitsToken columns (Finished kind status command rows) = Unit {0}
 

@@ -1,2 +1,5 @@
 pub mod Spelling
 pub mod Fit
+pub mod Ranges
+pub mod Answer
+pub mod Reading

@@ -1,25 +1,25 @@
 -- [MS-TDS] 2.2.7: the bytes of each token that a server sends. One case a token; the code appends
 -- to a buffer instead.
-use Rattle.std.specs.Prelude.{ℕ, List, [], ◌∷◌, ◌++◌, length, codes}
+use Rattle.std.specs.Prelude.{ℕ, ◌*◌, ℤ, if◌then◌else◌, List, [], ◌∷◌, ◌++◌, length, codes}
 use Rattle.std.specs.List.{flat_map}
-use Rattle.std.specs.Int.{w16, w32, w64, to_le_bytes, cast_unsigned}
+use Rattle.std.specs.Int.{Width, w8, w16, w32, w64, byte_len, to_le_bytes, to_be_bytes, cast_unsigned}
 use Rattle.value_types.specs.declared.sql_type.SqlType.{SqlType}
-use Rattle.value_types.specs.declared.sql_type.SqlType.TheVariants.{Int}
+use Rattle.value_types.specs.declared.sql_type.SqlType.TheVariants.{TinyInt, SmallInt, Int, BigInt, Bit as BitType, NText}
 use Rattle.value_types.specs.declared.value.Value.{Value}
-use Rattle.value_types.specs.declared.value.Value.TheVariants.{Whole}
+use Rattle.value_types.specs.declared.value.Value.TheVariants.{Null, Whole, Bit, Text}
 use Rattle.value_types.specs.Units.{le_bytes_of}
 use Rattle.tds_tokens.specs.declared.notice.Notice.{Notice}
 use Rattle.tds_tokens.specs.declared.columns.ColumnInfo.{ColumnInfo}
 use Rattle.tds_tokens.specs.declared.token.DoneKind.{DoneKind}
 use Rattle.tds_tokens.specs.declared.token.DoneKind.TheVariants.{Done, Proc, InProc}
 use Rattle.tds_tokens.specs.declared.token.Token.{Token}
-use Rattle.tds_tokens.specs.declared.token.Token.TheVariants.{Error, Columns, Row, Finished}
+use Rattle.tds_tokens.specs.declared.token.Token.TheVariants.{LoginAck, Error, Info, EnvText, EnvBytes, Columns, Row, ReturnStatus, Finished}
 
--- B_VARCHAR (2.2.5.1.2): a count of units in one byte, and the units
+-- B_VARCHAR (2.2.5.2.2): a count of units in one byte, and the units
 abbrev pub b_varchar : List ℕ → List ℕ
 b_varchar units = length units ∷ le_bytes_of units
 
--- US_VARCHAR (2.2.5.1.2): a count of units in two bytes, and the units
+-- US_VARCHAR (2.2.5.2.2): a count of units in two bytes, and the units
 abbrev pub us_varchar : List ℕ → List ℕ
 us_varchar units = to_le_bytes w16 (length units) ++ le_bytes_of units
 
@@ -31,13 +31,34 @@ with_length body = to_le_bytes w16 (length body) ++ body
 abbrev pub server_name : List ℕ
 server_name = codes "tsqld"
 
--- TYPE_INFO (2.2.5.6): INTNTYPE and its size
-abbrev pub type_info : SqlType → List ℕ
-type_info Int = 0x26 ∷ 4 ∷ []
+-- the collation that every text has: LCID 0x0409, fBinary2, which compares by code points, version 0, SortId 0 (2.2.5.1.2)
+abbrev pub collation : List ℕ
+collation = 0x09 ∷ 0x04 ∷ 0x00 ∷ 0x02 ∷ 0x00 ∷ []
 
--- a value as its column's type has it: the length, and the number in two's complement
+-- TYPE_INFO (2.2.5.6): INTNTYPE, BITNTYPE or NVARCHARTYPE, the size in bytes, and a text's collation
+abbrev pub type_info : SqlType → List ℕ
+type_info TinyInt = 0x26 ∷ 1 ∷ []
+type_info SmallInt = 0x26 ∷ 2 ∷ []
+type_info Int = 0x26 ∷ 4 ∷ []
+type_info BigInt = 0x26 ∷ 8 ∷ []
+type_info BitType = 0x68 ∷ 1 ∷ []
+type_info (NText size) = 0xE7 ∷ to_le_bytes w16 (2 * size) ++ collation
+
+-- a number behind its length, in two's complement
+abbrev pub int_bytes : Width → ℤ → List ℕ
+int_bytes width number = byte_len width ∷ to_le_bytes width (cast_unsigned width number)
+
+-- a value as its column's type has it; a value of another type has no bytes
 abbrev pub value_bytes : SqlType → Value → List ℕ
-value_bytes Int (Whole number) = 4 ∷ to_le_bytes w32 (cast_unsigned w32 number)
+value_bytes (NText size) Null = 0xFF ∷ 0xFF ∷ []
+value_bytes kind Null = 0 ∷ []
+value_bytes TinyInt (Whole number) = int_bytes w8 number
+value_bytes SmallInt (Whole number) = int_bytes w16 number
+value_bytes Int (Whole number) = int_bytes w32 number
+value_bytes BigInt (Whole number) = int_bytes w64 number
+value_bytes BitType (Bit bit) = 1 ∷ (if bit then 1 else 0) ∷ []
+value_bytes (NText size) (Text units) = to_le_bytes w16 (2 * length units) ++ le_bytes_of units
+value_bytes kind value = []
 
 -- the values of a row, each as its column has it
 abbrev pub row_bytes : List ColumnInfo → List Value → List ℕ
@@ -55,6 +76,14 @@ notice_bytes notice = to_le_bytes w32 (cast_unsigned w32 notice.number) ++ (noti
     ++ us_varchar notice.text ++ b_varchar server_name ++ b_varchar notice.procedure
     ++ to_le_bytes w32 (cast_unsigned w32 notice.line)
 
+-- LOGINACK (2.2.7.14) behind its length: interface 1, the version, the program's name, its release
+abbrev pub login_ack_bytes : ℕ → List ℕ → ℕ → List ℕ
+login_ack_bytes version program release = 1 ∷ to_be_bytes w32 version ++ b_varchar program ++ to_be_bytes w32 release
+
+-- B_VARBYTE (2.2.5.2.3): a count of bytes in one byte, and the bytes
+abbrev pub b_varbyte : List ℕ → List ℕ
+b_varbyte bytes = length bytes ∷ bytes
+
 -- DONE, DONEPROC and DONEINPROC (2.2.7.6 to 2.2.7.8)
 abbrev pub done_tag : DoneKind → ℕ
 done_tag Done = 0xFD
@@ -63,9 +92,14 @@ done_tag InProc = 0xFF
 
 -- a token, where the latest COLMETADATA before it described these columns
 abbrev pub token_bytes : List ColumnInfo → Token → List ℕ
+token_bytes columns (LoginAck version program release) = 0xAD ∷ with_length (login_ack_bytes version program release)
 token_bytes columns (Error notice) = 0xAA ∷ with_length (notice_bytes notice)
+token_bytes columns (Info notice) = 0xAB ∷ with_length (notice_bytes notice)
+token_bytes columns (EnvText kind fresh former) = 0xE3 ∷ with_length (kind ∷ b_varchar fresh ++ b_varchar former)
+token_bytes columns (EnvBytes kind fresh former) = 0xE3 ∷ with_length (kind ∷ b_varbyte fresh ++ b_varbyte former)
 token_bytes columns (Columns described) = 0x81 ∷ to_le_bytes w16 (length described) ++ flat_map column_bytes described
 token_bytes columns (Row values) = 0xD1 ∷ row_bytes columns values
+token_bytes columns (ReturnStatus status) = 0x79 ∷ to_le_bytes w32 (cast_unsigned w32 status)
 token_bytes columns (Finished kind status command rows) =
     done_tag kind ∷ to_le_bytes w16 status ++ to_le_bytes w16 command ++ to_le_bytes w64 rows
 

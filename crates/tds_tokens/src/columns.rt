@@ -44,4 +44,11 @@ impl ColumnList {
     {
         self.columns.as_slice()
     }
+
+    /// The columns in order, owned.
+    pub fn into_vec(self) -> Vec<ColumnInfo>
+        ensures { result.items ≡ self }
+    {
+        self.columns
+    }
 }

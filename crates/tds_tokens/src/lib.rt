@@ -1,18 +1,40 @@
-//! The tokens in which a server answers, and their bytes.
+//! The tokens in which a server answers, and their bytes, written and read.
 //!
-//! Read `specs/Spelling.antt` first. The layers above rely on one clause: [`write_tokens`] appends
-//! exactly the bytes that [MS-TDS] gives the tokens.
+//! Read `specs/Spelling.antt` first, the bytes that [MS-TDS] gives each token; `specs/Fit.antt` and
+//! `specs/Ranges.antt` say which tokens there are. The layers above rely on two functions:
+//! [`write_tokens`] appends exactly those bytes, and [`read_tokens`] gives the one list of tokens
+//! that has the bytes, or the first place where no token stands. So that a client finds where a
+//! token ends, no token's bytes begin another's ([`law_tokens`]).
+//!
+//! ```text
+//! let text = Units::of_ascii(alloc, b"Divide by zero error encountered.")?;
+//! let reply = vec![in alloc;
+//!     Token::Error(Notice::new(8134, 1, 16, text, Units::new(alloc), 1)),
+//!     Token::Finished { kind: DoneKind::Done, status: 0x02, command: 0xC1, rows: 0 },
+//! ]?;
+//! let mut out = Vec::new(alloc);
+//! write_tokens(&reply, &mut out)?;
+//! let same = read_tokens(alloc, &out)?;
+//! ```
 #![tactic(auto)]
 
+mod bytes;
 mod columns;
+mod fault;
 mod notice;
+mod reading;
 mod room;
 mod sizes;
 mod token;
+mod values;
+mod wire;
 mod writing;
 
+pub use bytes::Bytes;
 pub use columns::{ColumnInfo, ColumnList};
-pub use notice::Notice;
+pub use fault::TokenFault;
+pub use notice::{Notice, TEXT_LIMIT};
+pub use reading::{law_tokens, read_tokens};
 pub use token::{DoneKind, Token};
 pub use writing::{bytes_of_tokens, write_tokens};
 

@@ -1,8 +1,13 @@
-//! What an ERROR token says.
+//! What an ERROR or INFO token says.
+
+ghost use Rattle.std.specs.Prelude.{◌≡◌, take};
 
 use value_types::Units;
 
-/// An error as its client sees it ([MS-TDS] 2.2.7.10).
+/// How many units of a message are sent at most.
+pub const TEXT_LIMIT: usize = 2000;
+
+/// An error or a message as its client sees it ([MS-TDS] 2.2.7.10 and 2.2.7.13).
 #[derive(Debug, Drop)]
 pub struct Notice {
     /// The error's number.
@@ -17,4 +22,33 @@ pub struct Notice {
     pub procedure: Units,
     /// The line in the batch or procedure, from 1.
     pub line: i32,
+}
+
+impl Notice {
+    /// A notice whose text is cut to the 2,000 units that are sent at most. It takes no memory.
+    pub fn new(
+        number: i32,
+        state: u8,
+        class: u8,
+        mut text: Units,
+        procedure: Units,
+        line: i32,
+    ) -> Notice
+        ensures text { result.text ≡ take 2000 text }
+        ensures procedure { result.procedure ≡ procedure }
+        ensures number { result.number ≡ number }
+        ensures state { result.state ≡ state }
+        ensures class { result.class ≡ class }
+        ensures line { result.line ≡ line }
+    {
+        text.truncate(TEXT_LIMIT);
+        Notice {
+            number,
+            state,
+            class,
+            text,
+            procedure,
+            line,
+        }
+    }
 }

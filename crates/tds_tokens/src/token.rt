@@ -3,9 +3,10 @@
 ghost use Rattle.std.specs.Prelude.{◌≡◌};
 ghost use Rattle.tds_tokens.specs.Spelling.{columns_after};
 
+use crate::bytes::Bytes;
 use crate::columns::{ColumnInfo, ColumnList};
 use crate::notice::Notice;
-use value_types::Row;
+use value_types::{Row, Units};
 
 /// Which of the DONE tokens it is ([MS-TDS] 2.2.7.6 to 2.2.7.8).
 #[derive(Clone, Copy, Debug, PartialEq, Eq)]
@@ -18,22 +19,54 @@ pub enum DoneKind {
     InProc,
 }
 
-/// A token.
+/// A token ([MS-TDS] 2.2.7).
 #[derive(Debug, Drop)]
 pub enum Token {
-    /// ERROR: an error.
+    /// LOGINACK (2.2.7.14): the login is granted.
+    LoginAck {
+        /// The version of the protocol.
+        version: u32,
+        /// The name of the server's program.
+        program: Units,
+        /// The program's release.
+        release: u32,
+    },
+    /// ERROR (2.2.7.10): an error.
     Error(Notice),
-    /// COLMETADATA: the columns of the rows that follow.
+    /// INFO (2.2.7.13): a message that is no error.
+    Info(Notice),
+    /// ENVCHANGE (2.2.7.9) of a setting that is a text.
+    EnvText {
+        /// 1 for the database, 4 for the packet size.
+        kind: u8,
+        /// The setting from now on.
+        fresh: Units,
+        /// The setting before.
+        former: Units,
+    },
+    /// ENVCHANGE (2.2.7.9) of a setting that is bytes.
+    EnvBytes {
+        /// 7 for the collation, 8 to 10 where a transaction begins, is committed or is rolled back.
+        kind: u8,
+        /// The setting from now on.
+        fresh: Bytes,
+        /// The setting before.
+        former: Bytes,
+    },
+    /// COLMETADATA (2.2.7.4): the columns of the rows that follow.
     Columns(ColumnList),
-    /// ROW: one value for each of the latest columns.
+    /// ROW (2.2.7.20): one value for each of the latest columns.
     Row(Row),
-    /// DONE, DONEPROC or DONEINPROC.
+    /// RETURNSTATUS (2.2.7.18): what a procedure returned.
+    ReturnStatus(i32),
+    /// DONE, DONEPROC or DONEINPROC (2.2.7.6 to 2.2.7.8).
     Finished {
         /// Which of the three.
         kind: DoneKind,
-        /// The status bits: 0x01 more follows, 0x02 error, 0x10 the count is valid.
+        /// The status bits: 0x01 more follows, 0x02 error, 0x10 the count is valid, 0x20 an
+        /// attention is answered.
         status: u16,
-        /// The kind of statement: 0xC1 SELECT, else 0.
+        /// The kind of statement: 0xC1 SELECT, 0xC3 INSERT, 0xC4 DELETE, 0xC5 UPDATE, else 0.
         command: u16,
         /// How many rows there were.
         rows: u64,

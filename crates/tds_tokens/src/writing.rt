@@ -2,46 +2,24 @@
 
 ghost use Rattle.std.specs.Prelude.{◌≡◌, ◌+◌, ◌*◌, ◌-◌, ◌^◌, ◌<◌, ◌≤◌, ◌++◌, [], ◌∷◌, length, min, All, OnOk, OnErr, IsOk, vec_len, vec_capacity};
 ghost use Rattle.std.specs.List.{flat_map};
-ghost use Rattle.std.specs.Int.{w16, w64, to_le_bytes};
-ghost use Rattle.tds_tokens.specs.Spelling.{TokenBytes, token_bytes, notice_bytes, column_bytes, row_bytes, value_bytes, type_info, done_tag, with_length};
-ghost use Rattle.tds_tokens.specs.Fit.{FitTokens, FitsToken, FitsNotice, FitsColumns, FitsType};
+ghost use Rattle.std.specs.Int.{w16, w32, w64, to_le_bytes, cast_unsigned};
+ghost use Rattle.tds_tokens.specs.Spelling.{TokenBytes, token_bytes, login_ack_bytes, notice_bytes, column_bytes, row_bytes, b_varchar, b_varbyte, done_tag, with_length};
+ghost use Rattle.tds_tokens.specs.Fit.{FitTokens, FitsToken, FitsNotice, FitsColumns, FitsKind};
 
+use crate::bytes::Bytes;
 use crate::columns::ColumnInfo;
 use crate::notice::Notice;
-use crate::room::{append, put_b_varchar, put_i32, put_u16, put_u32, put_u64, put_us_varchar};
-use crate::sizes::{notice_size, token_size};
+use crate::room::{
+    append, put_b_varbyte, put_b_varchar, put_i32, put_u16, put_u32_be, put_u64, put_us_varchar,
+};
+use crate::sizes::{env_bytes_size, env_text_size, login_ack_size, notice_size, token_size};
 use crate::token::{DoneKind, Token};
-use value_types::{Memory, SqlType, Value};
-
-/// The tag of COLMETADATA ([MS-TDS] 2.2.7.4).
-const COLMETADATA: u8 = 0x81;
-
-/// The tag of ERROR ([MS-TDS] 2.2.7.10).
-const ERROR: u8 = 0xAA;
-
-/// The tag of ROW.
-const ROW: u8 = 0xD1;
-
-/// The tag of DONE ([MS-TDS] 2.2.7.6).
-const DONE: u8 = 0xFD;
-
-/// The tag of DONEPROC ([MS-TDS] 2.2.7.8).
-const DONEPROC: u8 = 0xFE;
-
-/// The tag of DONEINPROC ([MS-TDS] 2.2.7.7).
-const DONEINPROC: u8 = 0xFF;
-
-/// The type of whole numbers that may be NULL ([MS-TDS] 2.2.5.4.2).
-const INTNTYPE: u8 = 0x26;
-
-/// How many bytes an INT has.
-const INT_SIZE: u8 = 4;
-
-/// The flag of a column that its values may be NULL ([MS-TDS] 2.2.7.4).
-const NULLABLE: u16 = 0x0001;
-
-/// The name that the server gives itself, `tsqld`.
-const SERVER_NAME: [u16; 5] = [0x74, 0x73, 0x71, 0x6C, 0x64];
+use crate::values::{put_type, put_values};
+use crate::wire::{
+    COLMETADATA, COLUMN_START, DONE, DONEINPROC, DONEPROC, ENVCHANGE, ERROR, INFO, INTERFACE,
+    LOGINACK, RETURNSTATUS, ROW, SERVER,
+};
+use value_types::{Memory, Units, Value};
 
 /// How many bytes the tokens have. A number above 2^64 - 1 is given as that.
 pub fn bytes_of_tokens(tokens: &[Token]) -> u64
@@ -81,9 +59,26 @@ fn put_token(out: &mut Vec<u8>, columns: &[ColumnInfo], token: &Token)
     ensures capacity { vec_capacity out.old ≤ vec_capacity out.new }
 {
     match token {
-        Token::Error(notice) => put_error(out, notice),
+        Token::LoginAck {
+            version,
+            program,
+            release,
+        } => put_login_ack(out, *version, program, *release),
+        Token::Error(notice) => put_notice(out, ERROR, notice),
+        Token::Info(notice) => put_notice(out, INFO, notice),
+        Token::EnvText {
+            kind,
+            fresh,
+            former,
+        } => put_env_text(out, *kind, fresh, former),
+        Token::EnvBytes {
+            kind,
+            fresh,
+            former,
+        } => put_env_bytes(out, *kind, fresh, former),
         Token::Columns(described) => put_description(out, described.as_slice()),
         Token::Row(row) => put_row(out, columns, row.as_slice()),
+        Token::ReturnStatus(status) => put_return_status(out, *status),
         Token::Finished {
             kind,
             status,
@@ -93,20 +88,63 @@ fn put_token(out: &mut Vec<u8>, columns: &[ColumnInfo], token: &Token)
     }
 }
 
-fn put_error(out: &mut Vec<u8>, notice: &Notice)
+fn put_login_ack(out: &mut Vec<u8>, version: u32, program: &Units, release: u32)
+    requires fits { length program.now < 2 ^ 8 }
+    requires room { vec_len out.old + (13 + 2 * length program.now) ≤ vec_capacity out.old }
+    ensures items { out.new.items ≡ out.old.items ++ LOGINACK ∷ with_length (login_ack_bytes version program.now release) }
+    ensures len { vec_len out.new ≡ vec_len out.old + (13 + 2 * length program.now) }
+    ensures capacity { vec_capacity out.old ≤ vec_capacity out.new }
+{
+    append(out, &[LOGINACK]);
+    put_u16(out, login_ack_size(program) as u16);
+    append(out, &[INTERFACE]);
+    put_u32_be(out, version);
+    put_b_varchar(out, program.as_slice());
+    put_u32_be(out, release);
+}
+
+fn put_env_text(out: &mut Vec<u8>, kind: u8, fresh: &Units, former: &Units)
+    requires fits { (length fresh.now < 2 ^ 8) × (length former.now < 2 ^ 8) }
+    requires room { vec_len out.old + (6 + 2 * length fresh.now + 2 * length former.now) ≤ vec_capacity out.old }
+    ensures items { out.new.items ≡ out.old.items ++ ENVCHANGE ∷ with_length (kind ∷ b_varchar fresh.now ++ b_varchar former.now) }
+    ensures len { vec_len out.new ≡ vec_len out.old + (6 + 2 * length fresh.now + 2 * length former.now) }
+    ensures capacity { vec_capacity out.old ≤ vec_capacity out.new }
+{
+    append(out, &[ENVCHANGE]);
+    put_u16(out, env_text_size(fresh, former) as u16);
+    append(out, &[kind]);
+    put_b_varchar(out, fresh.as_slice());
+    put_b_varchar(out, former.as_slice());
+}
+
+fn put_env_bytes(out: &mut Vec<u8>, kind: u8, fresh: &Bytes, former: &Bytes)
+    requires fits { (length fresh.now < 2 ^ 8) × (length former.now < 2 ^ 8) }
+    requires room { vec_len out.old + (6 + length fresh.now + length former.now) ≤ vec_capacity out.old }
+    ensures items { out.new.items ≡ out.old.items ++ ENVCHANGE ∷ with_length (kind ∷ b_varbyte fresh.now ++ b_varbyte former.now) }
+    ensures len { vec_len out.new ≡ vec_len out.old + (6 + length fresh.now + length former.now) }
+    ensures capacity { vec_capacity out.old ≤ vec_capacity out.new }
+{
+    append(out, &[ENVCHANGE]);
+    put_u16(out, env_bytes_size(fresh, former) as u16);
+    append(out, &[kind]);
+    put_b_varbyte(out, fresh.as_slice());
+    put_b_varbyte(out, former.as_slice());
+}
+
+fn put_notice(out: &mut Vec<u8>, tag: u8, notice: &Notice)
     requires fits { FitsNotice notice.now }
     requires room { vec_len out.old + (3 + length (notice_bytes notice.now)) ≤ vec_capacity out.old }
-    ensures items { out.new.items ≡ out.old.items ++ ERROR ∷ with_length (notice_bytes notice.now) }
+    ensures items { out.new.items ≡ out.old.items ++ tag ∷ with_length (notice_bytes notice.now) }
     ensures len { vec_len out.new ≡ vec_len out.old + (3 + length (notice_bytes notice.now)) }
     ensures capacity { vec_capacity out.old ≤ vec_capacity out.new }
 {
-    append(out, &[ERROR]);
+    append(out, &[tag]);
     put_u16(out, notice_size(notice) as u16);
-    put_notice(out, notice);
+    put_notice_body(out, notice);
 }
 
-/// Appends what stands behind an ERROR token's length.
-fn put_notice(out: &mut Vec<u8>, notice: &Notice)
+/// Appends what stands behind the length of an ERROR or INFO token.
+fn put_notice_body(out: &mut Vec<u8>, notice: &Notice)
     requires fits { FitsNotice notice.now }
     requires room { vec_len out.old + length (notice_bytes notice.now) ≤ vec_capacity out.old }
     ensures items { out.new.items ≡ out.old.items ++ notice_bytes notice.now }
@@ -116,14 +154,14 @@ fn put_notice(out: &mut Vec<u8>, notice: &Notice)
     put_i32(out, notice.number);
     append(out, &[notice.state, notice.class]);
     put_us_varchar(out, notice.text.as_slice());
-    put_b_varchar(out, &SERVER_NAME);
+    append(out, &SERVER);
     put_b_varchar(out, notice.procedure.as_slice());
     put_i32(out, notice.line);
 }
 
 fn put_description(out: &mut Vec<u8>, columns: &[ColumnInfo])
     requires count { length columns.now < 2 ^ 16 }
-    requires names { All (λ column. length column.name < 2 ^ 8) columns.now }
+    requires fits { All (λ column. FitsKind column.kind × (length column.name < 2 ^ 8)) columns.now }
     requires room { vec_len out.old + (3 + length (flat_map column_bytes columns.now)) ≤ vec_capacity out.old }
     ensures items { out.new.items ≡ out.old.items ++ (COLMETADATA ∷ to_le_bytes w16 (length columns.now) ++ flat_map column_bytes columns.now) }
     ensures len { vec_len out.new ≡ vec_len out.old + (3 + length (flat_map column_bytes columns.now)) }
@@ -135,7 +173,7 @@ fn put_description(out: &mut Vec<u8>, columns: &[ColumnInfo])
 }
 
 fn put_columns(out: &mut Vec<u8>, columns: &[ColumnInfo])
-    requires fits { All (λ column. length column.name < 2 ^ 8) columns.now }
+    requires fits { All (λ column. FitsKind column.kind × (length column.name < 2 ^ 8)) columns.now }
     requires room { vec_len out.old + length (flat_map column_bytes columns.now) ≤ vec_capacity out.old }
     ensures items { out.new.items ≡ out.old.items ++ flat_map column_bytes columns.now }
     ensures len { vec_len out.new ≡ vec_len out.old + length (flat_map column_bytes columns.now) }
@@ -147,27 +185,16 @@ fn put_columns(out: &mut Vec<u8>, columns: &[ColumnInfo])
 }
 
 fn put_column(out: &mut Vec<u8>, column: &ColumnInfo)
-    requires fits { length column.now.name < 2 ^ 8 }
+    requires kind { FitsKind column.now.kind }
+    requires name { length column.now.name < 2 ^ 8 }
     requires room { vec_len out.old + length (column_bytes column.now) ≤ vec_capacity out.old }
     ensures items { out.new.items ≡ out.old.items ++ column_bytes column.now }
     ensures len { vec_len out.new ≡ vec_len out.old + length (column_bytes column.now) }
     ensures capacity { vec_capacity out.old ≤ vec_capacity out.new }
 {
-    put_u32(out, 0);
-    put_u16(out, NULLABLE);
+    append(out, &COLUMN_START);
     put_type(out, column.kind);
     put_b_varchar(out, column.name.as_slice());
-}
-
-fn put_type(out: &mut Vec<u8>, kind: SqlType)
-    requires { vec_len out.old + length (type_info kind) ≤ vec_capacity out.old }
-    ensures items { out.new.items ≡ out.old.items ++ type_info kind }
-    ensures len { vec_len out.new ≡ vec_len out.old + length (type_info kind) }
-    ensures capacity { vec_capacity out.old ≤ vec_capacity out.new }
-{
-    match kind {
-        SqlType::Int => append(out, &[INTNTYPE, INT_SIZE]),
-    }
 }
 
 fn put_row(out: &mut Vec<u8>, columns: &[ColumnInfo], values: &[Value])
@@ -181,31 +208,14 @@ fn put_row(out: &mut Vec<u8>, columns: &[ColumnInfo], values: &[Value])
     put_values(out, columns, values);
 }
 
-fn put_values(out: &mut Vec<u8>, columns: &[ColumnInfo], values: &[Value])
-    requires fits { FitsColumns columns.now values.now }
-    requires room { vec_len out.old + length (row_bytes columns.now values.now) ≤ vec_capacity out.old }
-    ensures items { out.new.items ≡ out.old.items ++ row_bytes columns.now values.now }
-    ensures len { vec_len out.new ≡ vec_len out.old + length (row_bytes columns.now values.now) }
+fn put_return_status(out: &mut Vec<u8>, status: i32)
+    requires { vec_len out.old + 5 ≤ vec_capacity out.old }
+    ensures items { out.new.items ≡ out.old.items ++ RETURNSTATUS ∷ to_le_bytes w32 (cast_unsigned w32 status) }
+    ensures len { vec_len out.new ≡ vec_len out.old + 5 }
     ensures capacity { vec_capacity out.old ≤ vec_capacity out.new }
 {
-    for (column, value) in columns.iter().zip(values) {
-        put_value(out, column.kind, value);
-    }
-}
-
-fn put_value(out: &mut Vec<u8>, kind: SqlType, value: &Value)
-    requires fits { FitsType kind value.now }
-    requires room { vec_len out.old + length (value_bytes kind value.now) ≤ vec_capacity out.old }
-    ensures items { out.new.items ≡ out.old.items ++ value_bytes kind value.now }
-    ensures len { vec_len out.new ≡ vec_len out.old + length (value_bytes kind value.now) }
-    ensures capacity { vec_capacity out.old ≤ vec_capacity out.new }
-{
-    match (kind, value) {
-        (SqlType::Int, Value::Whole(number)) => {
-            append(out, &[INT_SIZE]);
-            put_i32(out, *number as i32);
-        }
-    }
+    append(out, &[RETURNSTATUS]);
+    put_i32(out, status);
 }
 
 fn put_done(out: &mut Vec<u8>, kind: DoneKind, status: u16, command: u16, rows: u64)

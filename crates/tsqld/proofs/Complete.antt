@@ -1,63 +1,78 @@
--- A source of whole messages is never refused.
-use Rattle.std.proofs.Common.{◌≡◌, ℕ, ◌<◌, ◌≤◌, true, List, [], ◌∷◌, ◌++◌, length, Option, None, Some, Err, refl, sym, ap, subst, ◌∙◌, arith, length-append, append-nil, inl, inr}
+-- A connection whose source is whole messages in their places ends by being closed, or for want of memory.
+use Rattle.std.proofs.Common.{◌≡◌, ℕ, ◌-◌, ◌<◌, List, [], ◌∷◌, ◌++◌, length, Option, None, Some, Err, refl, sym, ap, subst, ◌∙◌, arith, length-append, append-nil, inl, inr}
 use Rattle.std.specs.Prelude.{◌⊎◌, IfSome}
-use Rattle.std.specs.Io.KnownBytes.{Consumes, IsAtEnd}
+use Rattle.std.specs.Io.KnownBytes.{Consumes, Appends, IsAtEnd}
 use Rattle.tds_packets.specs.declared.message.Message.{Message}
 use Rattle.tds_packets.specs.declared.reader.MessageFault.{MessageFault}
 use Rattle.tds_packets.specs.declared.reader.MessageFault.TheVariants as reading
-use Rattle.tds_packets.specs.Stream.{is_batch_header, IsPartial, Joins, Splits, stream_end}
-use Rattle.tds_packets.specs.Reading.{Gives, IsEnd, byte_limit}
-use Rattle.tds_packets.proofs.Fronts.{is_batch_header-front, stream_end-batch}
-use Rattle.tds_packets.proofs.Joined.{packet_length, not_partial, left_whole}
+use Rattle.tds_packets.specs.Stream.{Joins, Splits}
+use Rattle.tds_packets.specs.Reading.{StopsBy, IsEnd, OnCut, byte_limit}
+use Rattle.tds_packets.proofs.Joined.{one_join, left_whole}
+use Rattle.tds_packets.proofs.Ends.{Stops-nil, refuses_none}
 use Rattle.tsqld.specs.declared.end.End.{End}
 use Rattle.tsqld.specs.declared.end.End.TheVariants.{Closed, Memory}
+use Rattle.tsqld.specs.Talk.{Answer, replies, ends, answer_to, Talk, talk_end, IsEndOf, Bytes}
+use Rattle.tsqld.specs.Conversation.{Completes, spid_of}
 use Rattle.tsqld.specs.Program.{end_of_message, status_of}
+use Rattle.tsqld.proofs.Talks.{end_more, end_front, end_made}
 
--- what stands behind the messages taken is no partial message that nothing follows
-no_cut : (at place : ℕ) (rest : List ℕ) (later : List Message) → Joins at (rest ++ []) later [] → IsPartial rest → stream_end place rest ≡ stream_end place [] ⊎ ⊥
-unfolding Joins
-no_cut at place rest [] joined partial = inl (ap (stream_end place) (sym (append-nil rest) ∙ joined))
-no_cut at place rest (message ∷ later) joined partial = inr (not_partial at joined.0 joined.1 rest message joined.3 (sym (append-nil rest) ∙ joined.2) partial)
+-- nothing is left where the source ended within a message
+nothing_on_cut : (fault : MessageFault) (back : List ℕ) → (IsEnd {T = Message} (Err fault) → back ≡ []) → OnCut fault (back ≡ [])
+nothing_on_cut (reading.Cut place) back end = end tt
+nothing_on_cut fault back end = tt
 
--- the header that stands behind the messages taken is a batch's
-no_bad_header : (at : ℕ) (rest back : List ℕ) (later : List Message) → Joins at (rest ++ back) later [] → 8 ≤ length rest → is_batch_header rest ≡ true
-unfolding Joins
-no_bad_header at rest back [] joined long = absurd (let no : ⊥ = omega (arith, ap length joined, length-append rest back) in no)
-no_bad_header at rest back (message ∷ later) joined long =
-    let size = packet_length at joined.0 message joined.3 in
-    sym (is_batch_header-front rest back long) ∙ ap is_batch_header joined.2 ∙ is_batch_header-front joined.0 joined.1 (omega arith) ∙ joined.3.header
+stopped_well : (front rest back : List ℕ) (messages others : List Message) (fault : MessageFault) → Joins 0 ((front ++ rest) ++ back) messages [] → Joins 0 (front ++ rest) others rest
+    → length ((front ++ rest) ++ back) < byte_limit → StopsBy (length (front ++ rest) - length rest) rest fault → (IsEnd {T = Message} (Err fault) → back ≡ []) → (fault ≡ reading.ReadFault → ⊥)
+    → ((end_of_message fault ≡ Closed) × (messages ≡ others)) ⊎ (end_of_message fault ≡ Memory)
+stopped_well front rest back messages others reading.Closed whole taken short stops end none =
+    let all : (front ++ rest) ++ back ≡ front ++ rest = ap (λ (s : List ℕ). (front ++ rest) ++ s) (end tt) ∙ append-nil (front ++ rest) in
+    let one = one_join 0 0 (length (front ++ rest) - length rest) (front ++ rest) messages others [] rest (subst (λ (s : List ℕ). Joins 0 s messages []) all whole) (reading.Closed, Stops-nil 0) taken (reading.Closed, stops.0) in
+    inl (refl, one.0)
+stopped_well front rest back messages others reading.Memory whole taken short stops end none = inr refl
+stopped_well front rest back messages others reading.ReadFault whole taken short stops end none = absurd (none refl)
+stopped_well front rest back messages others reading.Spent whole taken short stops end none =
+    absurd (let no : ⊥ = omega (arith, stops.1, length-append (front ++ rest) back, length-append front rest) in no)
+stopped_well front rest back messages others (reading.Cut place) whole taken short stops end none =
+    absurd (refuses_none (front ++ rest) back messages others rest (reading.Cut place) whole taken stops (nothing_on_cut (reading.Cut place) back end))
+stopped_well front rest back messages others (reading.BadHeader place) whole taken short stops end none =
+    absurd (refuses_none (front ++ rest) back messages others rest (reading.BadHeader place) whole taken stops (nothing_on_cut (reading.BadHeader place) back end))
+stopped_well front rest back messages others (reading.TooLong place) whole taken short stops end none =
+    absurd (refuses_none (front ++ rest) back messages others rest (reading.TooLong place) whole taken stops (nothing_on_cut (reading.TooLong place) back end))
 
-module _ (front rest back : List ℕ) (messages others : List Message) (whole : Joins 0 ((front ++ rest) ++ back) messages []) (taken : Joins 0 (front ++ rest) others rest) (short : length ((front ++ rest) ++ back) < byte_limit) where
-  left : (place : ℕ) × (later : List Message) × Joins place (rest ++ back) later []
-  left = left_whole 0 (front ++ rest) back messages others rest whole taken
+-- no message came
+pub complete_stopped : (session : ℕ) (told after old new : Option (List ℕ)) (front rest : List ℕ) (others : List Message) (fault : MessageFault) → Consumes told after (front ++ rest) → Joins 0 (front ++ rest) others rest
+    → StopsBy (length (front ++ rest) - length rest) rest fault → (IsEnd {T = Message} (Err fault) → IsAtEnd after) → (fault ≡ reading.ReadFault → ⊥)
+    → Appends old new (Bytes (spid_of session) (Talk others)) → Completes session told old new (end_of_message fault)
+complete_stopped session None after old new front rest others fault took joined stops end none written = tt
+complete_stopped session (Some bytes) None old new front rest others fault took joined stops end none written = absurd took
+complete_stopped session (Some bytes) (Some back) old new front rest others fault took joined stops end none written = λ short messages split in_place.
+    elim (stopped_well front rest back messages others fault (subst (λ (s : List ℕ). Joins 0 s messages []) took split.joined) joined (subst (λ (s : List ℕ). length s < byte_limit) took short) stops end none) [
+      | inl closed ↦ inl (closed.0, subst (λ (ms : List Message). Appends old new (Bytes (spid_of session) (Talk ms))) (sym closed.1) written)
+      | inr wanting ↦ inr wanting
+    ]
 
-  pub ends_well : (fault : MessageFault) → Gives (length front) rest (Err fault) → (IsEnd (Err fault) → back ≡ []) → (fault ≡ reading.ReadFault → ⊥)
-      → (end_of_message fault ≡ Closed) ⊎ (end_of_message fault ≡ Memory)
-  ends_well reading.Closed gives end none = inl refl
-  ends_well reading.Memory gives end none = inr refl
-  ends_well reading.ReadFault gives end none = absurd (none refl)
-  ends_well reading.Spent gives end none = absurd (let no : ⊥ = omega (arith, gives.1, length-append (front ++ rest) back, length-append front rest) in no)
-  ends_well (reading.Cut place) gives end none =
-      let joined : Joins left.0 (rest ++ []) left.1 [] = subst (λ (s : List ℕ). Joins left.0 (rest ++ s) left.1 []) (end tt) left.2 in
-      absurd (elim (no_cut left.0 (length front) rest left.1 joined gives.0) [ inl closed ↦ (let no : ⊥ = cc (closed, gives.1) in no) | inr never ↦ never ])
-  ends_well (reading.BadHeader place) gives end none =
-      let batch : is_batch_header rest ≡ true = no_bad_header left.0 rest back left.1 left.2 (omega (arith, gives.1.1)) in
-      absurd (let no : ⊥ = cc (stream_end-batch (length front) rest (omega (arith, gives.1.1)) batch, gives.1.0) in no)
+-- the message that ends the talk is none of messages in their places
+made_well : (front back : List ℕ) (messages others : List Message) (message : Message) (end : End) (answer : Answer) → answer_to message ≡ answer → IsEndOf answer end → talk_end others ≡ None
+    → Joins 0 (front ++ back) messages [] → Joins 0 front (others ++ message ∷ []) [] → talk_end messages ≡ None → end ≡ Memory
+made_well front back messages others message Memory (replies tokens) is of answered whole taken in_place = refl
+made_well front back messages others message end (replies tokens) is of answered whole taken in_place = absurd of
+made_well front back messages others message end (ends made) is of answered whole taken in_place =
+    let left = left_whole 0 front back messages (others ++ message ∷ []) [] whole taken in
+    let none : talk_end (others ++ message ∷ []) ≡ None = end_front (others ++ message ∷ []) left.1 (ap talk_end (sym left.2) ∙ in_place) in
+    absurd (let no : ⊥ = cc (none, end_more others message answered, end_made message made is) in no)
 
--- the end of a connection whose source tells its bytes, which are whole messages and few enough
-pub complete : (told after : Option (List ℕ)) (front rest : List ℕ) (before : ℕ) (others : List Message) (fault : MessageFault) → before ≡ length front
-    → Consumes told after (front ++ rest) → Joins 0 (front ++ rest) others rest → Gives before rest (Err fault) → (IsEnd (Err fault) → IsAtEnd after) → (fault ≡ reading.ReadFault → ⊥)
-    → IfSome told (λ bytes. length bytes < byte_limit → (messages : List Message) → Splits bytes messages [] → (end_of_message fault ≡ Closed) ⊎ (end_of_message fault ≡ Memory))
-complete None back front rest before others fault count took joined gives end none = tt
-complete (Some bytes) None front rest before others fault count took joined gives end none = absurd took
-complete (Some bytes) (Some back) front rest before others fault count took joined gives end none = λ short messages split.
-    ends_well front rest back messages others (subst (λ (s : List ℕ). Joins 0 s messages []) took split.joined) joined (subst (λ (s : List ℕ). length s < byte_limit) took short)
-    fault (subst (λ (at : ℕ). Gives at rest (Err fault)) count gives) end none
+-- a message came for which nothing was sent
+pub complete_ended : (session : ℕ) (told after old new : Option (List ℕ)) (front : List ℕ) (others : List Message) (message : Message) (end : End) → Consumes told after front
+    → Joins 0 front (others ++ message ∷ []) [] → talk_end others ≡ None → IsEndOf (answer_to message) end → Completes session told old new end
+complete_ended session None after old new front others message end took joined answered of = tt
+complete_ended session (Some bytes) None old new front others message end took joined answered of = absurd took
+complete_ended session (Some bytes) (Some back) old new front others message end took joined answered of = λ short messages split in_place.
+    inr (made_well front back messages others message end (answer_to message) refl of answered (subst (λ (s : List ℕ). Joins 0 s messages []) took split.joined) joined in_place)
 
 -- the statuses of the two ends
-pub two_statuses : (end : End) (status : ℕ) → status ≡ status_of end → (end ≡ Closed) ⊎ (end ≡ Memory) → (status ≡ 0) ⊎ (status ≡ 6)
-two_statuses end status is ends = elim ends [ inl closed ↦ inl (is ∙ ap status_of closed) | inr wanting ↦ inr (is ∙ ap status_of wanting) ]
-
-pub where_told : {A : Type 0} (told : Option A) (P Q : A → Type 0) → ((x : A) → P x → Q x) → IfSome told P → IfSome told Q
-where_told None P Q f p = tt
-where_told (Some x) P Q f p = f x p
+pub two_statuses : (session : ℕ) (told old new : Option (List ℕ)) (end : End) (status : ℕ) → status ≡ status_of end → Completes session told old new end
+    → IfSome told (λ bytes. length bytes < byte_limit → (messages : List Message) → Splits bytes messages [] → talk_end messages ≡ None
+    → ((status ≡ 0) × Appends old new (Bytes (spid_of session) (Talk messages))) ⊎ (status ≡ 6))
+two_statuses session None old new end status is well = tt
+two_statuses session (Some bytes) old new end status is well = λ short messages split in_place.
+    elim (well short messages split in_place) [ inl closed ↦ inl (is ∙ ap status_of closed.0, closed.1) | inr wanting ↦ inr (is ∙ ap status_of wanting) ]

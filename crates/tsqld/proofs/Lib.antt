@@ -1,6 +1,7 @@
 pub mod Digits
 pub mod Replies
+pub mod Words
+pub mod Talks
 pub mod Served
 pub mod Complete
-pub mod Words
-mod Rows
+pub mod Rows

@@ -1,12 +1,17 @@
 -- The replies have a spelling.
 use Rattle.std.proofs.Common.{◌≡◌, ℕ, ◌+◌, ◌-◌, ◌*◌, ◌^◌, ◌<◌, ◌≤◌, Bool, true, false, cond, ◌&&◌, List, [], ◌∷◌, length, drop, Option, None, Some, refl, subst, arith, rules}
-use Rattle.std.specs.Prelude.{nat_le}
+use Rattle.std.specs.Prelude.{◌==◌, nat_le}
 use Rattle.std.specs.List.{list_all}
 use Rattle.std.proofs.Math.Nat.{pow-suc, pow-le-pow_right, mul-le-mul_right}
 use Rattle.std.proofs.lemmas.Bool.{leb-true}
 use Rattle.tds_tokens.specs.Fit.{FitTokens}
 use Rattle.tsqld.specs.Batch.{digits_value, is_digit, is_number, select_word, begins_select, selected_number}
-use Rattle.tsqld.specs.Talk.{reply_by, reply_to}
+use Rattle.tds_packets.specs.declared.message.Message.{Message}
+use Rattle.tds_tokens.specs.declared.token.Token.{Token}
+use Rattle.tsqld.specs.declared.end.End.{End}
+use Rattle.tsqld.specs.declared.end.End.TheVariants.{OutOfPlace}
+use Rattle.tsqld.specs.declared.end.BatchFault.{BatchFault}
+use Rattle.tsqld.specs.Talk.{replies, ends, attention_reply, answer_to, answer_to_batch, batch_fault, text_of, reply_by, reply_to}
 use Rattle.tsqld.proofs.Digits.{both, number_len}
 
 one_more : (digit value place : ℕ) → digit ≤ 9 → value < place → digit * place + value < place * 10
@@ -37,8 +42,26 @@ selected_below : (b : Bool) (digits : List ℕ) (number : ℕ) → (b ≡ true �
 selected_below true digits number h e = let same : digits_value digits ≡ number = cc in subst (λ n. n < 10 ^ 9) same (number_below digits (h refl))
 selected_below false digits number h e = absurd cc
 
-pub replies_fit : (text : List ℕ) → FitTokens [] (reply_to text)
+replies_fit : (text : List ℕ) → FitTokens [] (reply_to text)
 unfolding selected_number
 replies_fit text =
     let digits = drop (length select_word) text in
     fit_by (selected_number text) (λ number e. selected_below (begins_select text && is_number digits) digits number (λ h. (both (begins_select text) (is_number digits) h).1) e)
+
+batch_fits : (payload : List ℕ) (fault : Option BatchFault) (tokens : List Token) → answer_to_batch payload fault ≡ replies tokens → FitTokens [] tokens
+batch_fits payload None tokens is = let same : reply_to (text_of payload) ≡ tokens = cc in subst (FitTokens []) same (replies_fit (text_of payload))
+batch_fits payload (Some fault) tokens is = absurd (let no : ⊥ = cc in no)
+
+attention_fits : (tokens : List Token) → attention_reply ≡ tokens → FitTokens [] tokens
+unfolding FitTokens
+attention_fits tokens is = subst (FitTokens []) is (tt, tt)
+
+placed_fits : (is_batch is_attention : Bool) (payload : List ℕ) (fault : Option BatchFault) (end : End) (tokens : List Token)
+    → cond is_batch (answer_to_batch payload fault) (cond is_attention (replies attention_reply) (ends end)) ≡ replies tokens → FitTokens [] tokens
+placed_fits true is_attention payload fault end tokens is = batch_fits payload fault tokens is
+placed_fits false true payload fault end tokens is = attention_fits tokens cc
+placed_fits false false payload fault end tokens is = absurd (let no : ⊥ = cc in no)
+
+-- the tokens of an answer have a spelling
+pub answers_fit : (message : Message) (tokens : List Token) → answer_to message ≡ replies tokens → FitTokens [] tokens
+answers_fit message tokens is = placed_fits (message.kind == 0x01) (message.kind == 0x06) message.payload (batch_fault message.payload) (OutOfPlace message.at message.kind) tokens is

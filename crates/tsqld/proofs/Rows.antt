@@ -1,9 +1,11 @@
 -- The worked rows of the definitions, computed.
-use Rattle.std.proofs.Common.{◌≡◌, [], ◌∷◌, refl}
+use Rattle.std.proofs.Common.{◌≡◌, None, Some, [], ◌∷◌, refl}
 use Rattle.tds_packets.specs.declared.message.Message.{Message}
 use Rattle.tsqld.specs.Batch.{selected_number}
 use Rattle.tds_tokens.specs.Spelling.{tokens_bytes}
-use Rattle.tsqld.specs.Talk.{Talk, Bytes}
+use Rattle.tsqld.specs.declared.end.End.TheVariants.{OutOfPlace}
+use Rattle.tsqld.specs.declared.end.BatchFault.TheVariants.{HeadersShort, HeadersTotal, OddText}
+use Rattle.tsqld.specs.Talk.{Talk, answer_to, ends, batch_fault, Bytes}
 
 -- the batch `SELECT 1`
 abbrev select_one : Message
@@ -21,3 +23,29 @@ select_one-bytes : Bytes 51 (Talk (select_one ∷ [])) ≡
     ∷ 0xFD ∷ 0x00 ∷ 0x00 ∷ 0x00 ∷ 0x00 ∷ 0x00 ∷ 0x00 ∷ 0x00 ∷ 0x00 ∷ 0x00 ∷ 0x00 ∷ 0x00 ∷ 0x00 ∷ []
 unfolding selected_number tokens_bytes
 select_one-bytes = refl
+
+-- an attention's 21 bytes
+attention-bytes : Bytes 51 (Talk (record { kind = 0x06; at = 0; payload = [] } ∷ [])) ≡
+    0x04 ∷ 0x01 ∷ 0x00 ∷ 0x15 ∷ 0x00 ∷ 0x33 ∷ 0x01 ∷ 0x00 ∷ 0xFD ∷ 0x20 ∷ 0x00 ∷ 0x00 ∷ 0x00 ∷ 0x00 ∷ 0x00 ∷ 0x00 ∷ 0x00 ∷ 0x00 ∷ 0x00 ∷ 0x00 ∷ 0x00 ∷ []
+unfolding tokens_bytes
+attention-bytes = refl
+
+-- a login is out of place here
+login-end : answer_to (record { kind = 0x10; at = 46; payload = [] }) ≡ ends (OutOfPlace 46 0x10)
+login-end = refl
+
+-- three bytes of headers, headers beyond the payload, and half a unit behind headers of four bytes
+short-headers : batch_fault (0x04 ∷ 0x00 ∷ 0x00 ∷ []) ≡ Some HeadersShort
+short-headers = refl
+
+long-headers : batch_fault (0x05 ∷ 0x00 ∷ 0x00 ∷ 0x00 ∷ []) ≡ Some HeadersTotal
+long-headers = refl
+
+headers-below-four : batch_fault (0x03 ∷ 0x00 ∷ 0x00 ∷ 0x00 ∷ []) ≡ Some HeadersTotal
+headers-below-four = refl
+
+half-unit : batch_fault (0x04 ∷ 0x00 ∷ 0x00 ∷ 0x00 ∷ 0x53 ∷ []) ≡ Some OddText
+half-unit = refl
+
+no-text : batch_fault (0x04 ∷ 0x00 ∷ 0x00 ∷ 0x00 ∷ []) ≡ None
+no-text = refl

@@ -1,4 +1,4 @@
--- What a batch says so far: SELECT, one space and one to nine digits. A number is the sum of its
+-- What a batch says: SELECT, one space and one to nine digits. A number is the sum of its
 -- digits' worths here; the code goes from the left and multiplies by ten.
 use Rattle.std.specs.Prelude.{ℕ, ◌+◌, ◌-◌, ◌*◌, ◌^◌, ◌&&◌, Bool, nat_le, nat_eq, if◌then◌else◌, List, [], ◌∷◌, length, take, drop, Option, None, Some, codes}
 use Rattle.std.specs.List.{list_all}

@@ -1,10 +1,12 @@
 //! What a batch says, and the answer to it.
 
-ghost use Rattle.std.specs.Prelude.{◌≡◌, IfOk, IsTrue};
+ghost use Rattle.std.specs.Prelude.{◌≡◌, ◌%◌, length, drop, None, Some, IfOk, IfErr, IsTrue};
 ghost use Rattle.std.specs.List.{list_all};
 ghost use Rattle.tsqld.specs.Batch.{selected_number, digits_value, is_number, is_digit};
-ghost use Rattle.tsqld.specs.Talk.{reply_to, reply_by};
+ghost use Rattle.tsqld.specs.Talk.{reply_to, reply_by, attention_reply, batch_fault, headers_length};
 
+use crate::end::BatchFault;
+use byteorder::{ByteOrder, LittleEndian};
 use std::alloc::Global;
 use tds_tokens::{ColumnInfo, ColumnList, DoneKind, Notice, Token};
 use value_types::{Memory, Row, SqlType, Units, Value};
@@ -26,24 +28,57 @@ const DONE_COUNT_MORE: u16 = 0x11;
 /// The batch ended with an error ([MS-TDS] 2.2.7.6).
 const DONE_ERROR: u16 = 0x02;
 
+/// An attention is acknowledged ([MS-TDS] 2.2.7.6).
+const DONE_ATTENTION: u16 = 0x20;
+
+/// How many bytes the length of ALL_HEADERS has ([MS-TDS] 2.2.5.3).
+const HEADERS_LENGTH_LEN: usize = 4;
+
 /// A SELECT was run.
 const COMMAND_SELECT: u16 = 0xC1;
 
 /// The number of the error that a batch is not built yet.
 const NOT_BUILT: i32 = 49099;
 
-/// The tokens in which a batch with this text is answered.
-pub(crate) fn reply(alloc: Global, text: &[u16]) -> Result<Vec<Token>, Memory>
+/// The tokens that answer a batch with this text.
+pub(crate) fn text_tokens(alloc: Global, text: &[u16]) -> Result<Vec<Token>, Memory>
     ensures { IfOk result (λ tokens. tokens.items ≡ reply_to text.now) }
 {
     match selected_number(text) {
-        Some(number) => number_reply(alloc, number),
-        None => not_built_reply(alloc),
+        Some(number) => number_tokens(alloc, number),
+        None => not_built_tokens(alloc),
     }
 }
 
+/// The tokens that answer an attention.
+pub(crate) fn attention_tokens(alloc: Global) -> Result<Vec<Token>, Memory>
+    ensures { IfOk result (λ tokens. tokens.items ≡ attention_reply) }
+{
+    Ok(vec![in alloc; batch_end(DONE_ATTENTION)]?)
+}
+
+/// The text of a batch's payload, as its bytes behind ALL_HEADERS, or what is wrong with it.
+pub(crate) fn batch_text(payload: &[u8]) -> Result<&[u8], BatchFault>
+    ensures text { IfOk result (λ text. (batch_fault payload.now ≡ None) × (text.now ≡ drop (headers_length payload.now) payload.now)) }
+    ensures even { IfOk result (λ text. length text.now % 2 ≡ 0) }
+    ensures fault { IfErr result (λ fault. batch_fault payload.now ≡ Some fault) }
+{
+    if payload.len() < HEADERS_LENGTH_LEN {
+        return Err(BatchFault::HeadersShort);
+    }
+    let total = LittleEndian::read_u32(payload) as usize;
+    if total < HEADERS_LENGTH_LEN || payload.len() < total {
+        return Err(BatchFault::HeadersTotal);
+    }
+    let (_, text) = payload.split_at(total);
+    if text.len() % 2 == 1 {
+        return Err(BatchFault::OddText);
+    }
+    Ok(text)
+}
+
 /// One row with this number.
-fn number_reply(alloc: Global, number: u32) -> Result<Vec<Token>, Memory>
+fn number_tokens(alloc: Global, number: u32) -> Result<Vec<Token>, Memory>
     ensures { IfOk result (λ tokens. tokens.items ≡ reply_by (Some number)) }
 {
     let column = ColumnInfo {
@@ -67,17 +102,11 @@ fn number_reply(alloc: Global, number: u32) -> Result<Vec<Token>, Memory>
 }
 
 /// The error that a batch is not built yet.
-fn not_built_reply(alloc: Global) -> Result<Vec<Token>, Memory>
+fn not_built_tokens(alloc: Global) -> Result<Vec<Token>, Memory>
     ensures { IfOk result (λ tokens. tokens.items ≡ reply_by None) }
 {
-    let notice = Notice {
-        number: NOT_BUILT,
-        state: 1,
-        class: 16,
-        text: Units::of_ascii(alloc, b"Not built.")?,
-        procedure: Units::new(alloc),
-        line: 1,
-    };
+    let text = Units::of_ascii(alloc, b"Not built.")?;
+    let notice = Notice::new(NOT_BUILT, 1, 16, text, Units::new(alloc), 1);
     Ok(vec![in alloc; Token::Error(notice), batch_end(DONE_ERROR)]?)
 }
 

@@ -1,9 +1,22 @@
 //! Why a connection ended.
 
 ghost use Rattle.std.specs.Prelude.{◌≡◌};
+ghost use Rattle.tsqld.specs.declared.end.End.TheVariants.{Memory as NoMemory};
 ghost use Rattle.tsqld.specs.Program.{status_of, end_of_message, end_of_sending};
 
 use tds_packets::{MessageFault, SendFault};
+use value_types::Memory;
+
+/// What is wrong with the payload of a batch ([MS-TDS] 2.2.5.3).
+#[derive(Clone, Copy, Debug, PartialEq, Eq)]
+pub enum BatchFault {
+    /// There are fewer than the four bytes of the length of ALL_HEADERS.
+    HeadersShort,
+    /// That length is below 4 or above the payload.
+    HeadersTotal,
+    /// The text behind the headers has an odd number of bytes.
+    OddText,
+}
 
 /// Why a connection ended.
 #[derive(Clone, Copy, Debug, PartialEq, Eq)]
@@ -15,10 +28,27 @@ pub enum End {
         /// How many bytes were read.
         at: u64,
     },
-    /// The header of the packet at `at` is none that is served.
+    /// The header of the packet at `at` has a type or a Length that may not stand there.
     BadHeader {
         /// Where the packet begins, in bytes from 0.
         at: u64,
+    },
+    /// The packet at `at` would take the data of its message past 1,048,576 bytes.
+    TooLong {
+        /// Where the packet begins, in bytes from 0.
+        at: u64,
+    },
+    /// The message that began at `at` is of a type that is not served there.
+    OutOfPlace {
+        /// Where the message begins, in bytes from 0.
+        at: u64,
+        /// The type of its packets.
+        kind: u8,
+    },
+    /// The payload of a batch can't be read.
+    BadBatch {
+        /// What is wrong with it.
+        fault: BatchFault,
     },
     /// A byte was wanted after 2^40 bytes were read.
     Spent,
@@ -39,7 +69,8 @@ impl End {
             End::Closed => 0,
             End::ReadFault => 3,
             End::WriteFault => 4,
-            End::Cut { .. } | End::BadHeader { .. } | End::Spent => 5,
+            End::Cut { .. } | End::BadHeader { .. } | End::TooLong { .. } => 5,
+            End::OutOfPlace { .. } | End::BadBatch { .. } | End::Spent => 5,
             End::Memory => 6,
         }
     }
@@ -53,6 +84,7 @@ impl From<MessageFault> for End {
             MessageFault::Closed => End::Closed,
             MessageFault::Cut { at } => End::Cut { at },
             MessageFault::BadHeader { at } => End::BadHeader { at },
+            MessageFault::TooLong { at } => End::TooLong { at },
             MessageFault::ReadFault => End::ReadFault,
             MessageFault::Memory => End::Memory,
             MessageFault::Spent => End::Spent,
@@ -68,5 +100,13 @@ impl From<SendFault> for End {
             SendFault::WriteFault => End::WriteFault,
             SendFault::Memory => End::Memory,
         }
+    }
+}
+
+impl From<Memory> for End {
+    ghost from_gives = { λ _ end. end ≡ NoMemory };
+
+    fn from(_wanting: Memory) -> End {
+        End::Memory
     }
 }

@@ -13,17 +13,19 @@ mod serving;
 #[cfg(test)]
 mod tests;
 
+use end::End;
 use outside_io::{ReadSource, WriteSink};
 use std::env::{self, Env};
 use std::io;
 use std::process::ExitCode;
 
-/// The status where memory was wanting.
-const NO_MEMORY: u8 = 6;
-
 fn main(rt: HostRuntime) -> ExitCode {
-    let Ok(words) = words_of(&rt) else {
-        return ExitCode::from(NO_MEMORY);
+    let words = match words_of(&rt) {
+        Ok(words) => words,
+        Err(e) if e.kind() == io::ErrorKind::OutOfMemory => return ExitCode::from(
+            End::Memory.status(),
+        ),
+        Err(_) => return ExitCode::from(program::NO_COMMAND),
     };
     let mut input = ReadSource::new(rt.reader());
     let mut output = WriteSink::new(io::writer(&rt));

@@ -1,37 +1,27 @@
 //! Serving one connection.
 
-ghost use Rattle.std.specs.Prelude.{◌≡◌, ◌%◌, ◌<◌, ◌≤◌, ◌⊎◌, List, [], length, OnOk, IfOk, IfErr, IfSome};
-ghost use Rattle.std.specs.Io.KnownBytes.{Appends};
+ghost use Rattle.std.specs.Prelude.{◌≡◌, ◌≢◌, ◌%◌, ◌≤◌, List, length, None, Some, IfOk, IfErr};
 ghost use Rattle.outside_io.specs.Bytes.{Takes, HasRisen};
-ghost use Rattle.tds_packets.specs.declared.message.Message.{Message as Msg};
-ghost use Rattle.tds_packets.specs.Packets.{IsPartSent};
-ghost use Rattle.tds_packets.specs.Stream.{Splits};
-ghost use Rattle.tds_packets.specs.Reading.{byte_limit};
+ghost use Rattle.tds_tokens.specs.declared.token.Token.{Token as Tok};
 ghost use Rattle.tds_tokens.specs.Spelling.{TokenBytes};
-ghost use Rattle.tsqld.specs.Talk.{reply_to, text_of, reply_bytes};
+ghost use Rattle.tsqld.specs.Talk.{replies, answer_to, answer_to_batch, batch_fault, IsEndOf};
 ghost use Rattle.tsqld.specs.declared.config.Entry.TheVariants.{Bare};
-ghost use Rattle.tsqld.specs.Conversation.{Conversation};
+ghost use Rattle.tsqld.specs.Conversation.{Conversation, Completes};
 
-use crate::batch::reply;
+use crate::batch::{attention_tokens, batch_text, text_tokens};
 use crate::config::Config;
 use crate::end::End;
 use outside_io::{Sink, Source};
 use std::alloc::Global;
-use tds_packets::{Message, Reader, SendFault, send_message};
-use tds_tokens::write_tokens;
-use value_types::{Memory, UnitsFault, units_of_le};
+use tds_packets::{ATTENTION, Message, Reader, SQL_BATCH, TABULAR_RESULT, send_message};
+use tds_tokens::{Token, write_tokens};
+use value_types::{UnitsFault, units_of_le};
 
-/// The SPID of session 0.
+/// What a session's SPID is above its number.
 const SPID_BASE: u16 = 50;
 
 /// The packet size of a connection that begins logged in.
 const PACKET_SIZE: u16 = 4096;
-
-/// The type of every message of a server ([MS-TDS] 2.2.3.1.1).
-const TABULAR_RESULT: u8 = 0x04;
-
-/// How many bytes ALL_HEADERS has before the text of a batch ([MS-TDS] 2.2.5.3).
-const ALL_HEADERS_LEN: usize = 22;
 
 /// Serves one connection: reads a message, writes the whole reply, and only then reads the next.
 /// It keeps nothing from one message to the next.
@@ -48,9 +38,11 @@ pub fn serve_on_port<S: Source, K: Sink>(
     ensures conversation { Conversation session (Takes S.left S.given source.old source.new) (S.left source.new) (K.written sink.old) (K.written sink.new) result }
     ensures read_fault { result ≡ End.ReadFault → HasRisen (S.faults source.old) (S.faults source.new) }
     ensures write_fault { result ≡ End.WriteFault → HasRisen (K.faults sink.old) (K.faults sink.new) }
+    ensures no_read_fault { result ≢ End.ReadFault → S.faults source.new ≡ S.faults source.old }
+    ensures no_write_fault { result ≢ End.WriteFault → K.faults sink.new ≡ K.faults sink.old }
+    ensures counted { (S.faults source.old ≤ S.faults source.new) × (K.faults sink.old ≤ K.faults sink.new) }
     ensures complete { ¬ (HasRisen (S.faults source.old) (S.faults source.new)) → ¬ (HasRisen (K.faults sink.old) (K.faults sink.new))
-        → IfSome (S.left source.old) (λ bytes. length bytes < byte_limit → (messages : List Msg) → Splits bytes messages []
-        → (result ≡ End.Closed) ⊎ (result ≡ End.Memory)) }
+        → Completes session (S.left source.old) (K.written sink.old) (K.written sink.new) result }
 {
     let spid = SPID_BASE + session as u16;
     let mut reader = Reader::new();
@@ -59,47 +51,55 @@ pub fn serve_on_port<S: Source, K: Sink>(
             Ok(message) => message,
             Err(fault) => return End::from(fault),
         };
-        match answer(alloc, spid, &message, sink) {
+        let bytes = match bytes_for(alloc, &message) {
+            Ok(bytes) => bytes,
+            Err(end) => return end,
+        };
+        match send_message(alloc, sink, TABULAR_RESULT, spid, PACKET_SIZE, &bytes) {
             Ok(()) => {}
             Err(fault) => return End::from(fault),
         }
     }
 }
 
-/// Writes the whole reply to a message.
-fn answer<K: Sink>(
-    alloc: Global,
-    spid: u16,
-    message: &Message,
-    sink: &mut K,
-) -> Result<(), SendFault>
-    requires headers { 22 ≤ length message.now.payload }
-    requires units { length message.now.payload % 2 ≡ 0 }
-    ensures sent { OnOk result (Appends (K.written sink.old) (K.written sink.new) (reply_bytes spid (reply_to (text_of message.now)))) }
-    ensures part { IfErr result (IsPartSent (K.written sink.old) (K.written sink.new) (reply_bytes spid (reply_to (text_of message.now)))) }
-    ensures write_fault { result ≡ Err SendFault.WriteFault → HasRisen (K.faults sink.old) (K.faults sink.new) }
-    ensures counted { K.faults sink.old ≤ K.faults sink.new }
+/// The bytes of the tokens that answer a message, or the end that it makes.
+fn bytes_for(alloc: Global, message: &Message) -> Result<Vec<u8>, End>
+    ensures bytes { IfOk result (λ bytes. (tokens : List Tok) × (answer_to message.now ≡ replies tokens) × (bytes.items ≡ TokenBytes tokens)) }
+    ensures end { IfErr result (IsEndOf (answer_to message.now)) }
 {
-    let Ok(bytes) = reply_of(alloc, message) else {
-        return Err(SendFault::Memory);
-    };
-    send_message(alloc, sink, TABULAR_RESULT, spid, PACKET_SIZE, &bytes)
-}
-
-/// The bytes of the tokens in which a message is answered.
-fn reply_of(alloc: Global, message: &Message) -> Result<Vec<u8>, Memory>
-    requires headers { 22 ≤ length message.now.payload }
-    requires units { length message.now.payload % 2 ≡ 0 }
-    ensures { IfOk result (λ bytes. bytes.items ≡ TokenBytes (reply_to (text_of message.now))) }
-{
-    let (_, text) = message.payload.as_slice().split_at(ALL_HEADERS_LEN);
-    let text = match units_of_le(alloc, text) {
-        Ok(text) => text,
-        Err(UnitsFault::OddLength) => unreachable!(),
-        Err(UnitsFault::Memory) => return Err(Memory),
-    };
-    let tokens = reply(alloc, text.as_slice())?;
+    let tokens = tokens_for(alloc, message)?;
     let mut bytes = Vec::new(alloc);
     write_tokens(&tokens, &mut bytes)?;
     Ok(bytes)
+}
+
+/// The tokens that answer a message, or the end that it makes.
+fn tokens_for(alloc: Global, message: &Message) -> Result<Vec<Token>, End>
+    ensures tokens { IfOk result (λ tokens. answer_to message.now ≡ replies tokens.items) }
+    ensures end { IfErr result (IsEndOf (answer_to message.now)) }
+{
+    match message.kind {
+        SQL_BATCH => batch_tokens(alloc, message.payload.as_slice()),
+        ATTENTION => Ok(attention_tokens(alloc)?),
+        kind => Err(End::OutOfPlace {
+            at: message.at,
+            kind,
+        }),
+    }
+}
+
+/// The tokens that answer a batch with this payload, or what is wrong with the payload.
+fn batch_tokens(alloc: Global, payload: &[u8]) -> Result<Vec<Token>, End>
+    ensures tokens { IfOk result (λ tokens. answer_to_batch payload.now (batch_fault payload.now) ≡ replies tokens.items) }
+    ensures end { IfErr result (IsEndOf (answer_to_batch payload.now (batch_fault payload.now))) }
+{
+    let text = match batch_text(payload) {
+        Ok(text) => text,
+        Err(fault) => return Err(End::BadBatch { fault }),
+    };
+    match units_of_le(alloc, text) {
+        Ok(text) => Ok(text_tokens(alloc, text.as_slice())?),
+        Err(UnitsFault::OddLength) => unreachable!(),
+        Err(UnitsFault::Memory) => Err(End::Memory),
+    }
 }

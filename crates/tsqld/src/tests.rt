@@ -1,7 +1,7 @@
 ghost use Rattle.std.specs.Prelude.{◌<◌};
 
 use super::config::{Config, Entry};
-use super::end::End;
+use super::end::{BatchFault, End};
 use super::program::run_program;
 use super::serving::serve_on_port;
 use outside_io::{MemorySink, MemorySource};
@@ -46,6 +46,48 @@ const NOT_BUILT: [u8; 68] = [
     0x64, 0x00, 0x00, 0x01, 0x00, 0x00, 0x00, 0xFD, 0x02, 0x00, 0x00, 0x00, 0x00, 0x00, 0x00, 0x00,
     0x00, 0x00, 0x00, 0x00,
 ];
+
+/// The reply to an attention.
+const ATTENDED: [u8; 21] = [
+    0x04, 0x01, 0x00, 0x15, 0x00, 0x33, 0x01, 0x00, 0xFD, 0x20, 0x00, 0x00, 0x00, 0x00, 0x00, 0x00,
+    0x00, 0x00, 0x00, 0x00, 0x00,
+];
+
+/// A packet's header, with this type, status and Length.
+fn header(kind: u8, status: u8, length: u16) -> [u8; 8] {
+    let [high, low] = length.to_be_bytes();
+    [kind, status, high, low, 0, 0, 1, 0]
+}
+
+/// A batch with these data, of which there are at most 100 bytes.
+fn batch_of(alloc: Global, payload: &[u8]) -> Result<Vec<u8>, AllocError> {
+    let length = 8 + payload.len().min(100) as u16;
+    let mut bytes = header(0x01, 0x01, length).to_vec(alloc)?;
+    bytes.extend_from_slice(payload)?;
+    Ok(bytes)
+}
+
+/// A message of one byte a packet.
+fn one_byte_packets(alloc: Global, kind: u8, payload: &[u8]) -> Result<Vec<u8>, AllocError> {
+    let mut bytes = Vec::new(alloc);
+    for (place, byte) in payload.iter().enumerate() {
+        let last = u8::from(place + 1 == payload.len());
+        bytes.extend_from_slice(&header(kind, last, 9))?;
+        bytes.push(*byte)?;
+    }
+    Ok(bytes)
+}
+
+/// Sixteen packets of Length 65535 of a batch, and the header of one of Length 153.
+fn past_the_limit(alloc: Global) -> Result<Vec<u8>, AllocError> {
+    let mut bytes = Vec::new(alloc);
+    for _ in 0..16 {
+        bytes.extend_from_slice(&header(0x01, 0x00, 65535))?;
+        bytes.extend_from_slice(&vec![in alloc; 0; 65527]?)?;
+    }
+    bytes.extend_from_slice(&header(0x01, 0x01, 153))?;
+    Ok(bytes)
+}
 
 /// A batch with this ASCII text, of at most 100 units, in one packet.
 fn batch(alloc: Global, text: &[u8]) -> Result<Vec<u8>, AllocError> {
@@ -102,18 +144,16 @@ fn replies_are_those_of_the_protocol(rt: HostRuntime) -> Result<(), Fail> {
     }
 
     let spaces = batch(alloc, b"SELECT  1")?;
-    let three = joined(alloc, &[&SELECT_ONE, &spaces, &SELECT_ONE])?;
-    let replies = joined(alloc, &[&ONE, &NOT_BUILT, &ONE])?;
-    let cases: [(&str, &[u8], &[u8], u8); 5] = [
+    let attention = header(0x06, 0x01, 8);
+    let three = joined(alloc, &[&SELECT_ONE, &spaces, &attention, &SELECT_ONE])?;
+    let replies = joined(alloc, &[&ONE, &NOT_BUILT, &ATTENDED, &ONE])?;
+    let by_bytes = one_byte_packets(alloc, 0x01, &SELECT_ONE[8..])?;
+    let cases: [(&str, &[u8], &[u8], u8); 6] = [
         ("empty input", &[], &[], 0),
         ("select one", &SELECT_ONE, &ONE, 0),
-        ("three batches", &three, &replies, 0),
-        (
-            "Length 7",
-            &[0x01, 0x01, 0x00, 0x07, 0x00, 0x00, 0x01, 0x00],
-            &[],
-            5,
-        ),
+        ("one byte at a time", &by_bytes, &ONE, 0),
+        ("batches and an attention", &three, &replies, 0),
+        ("Length 7", &header(0x01, 0x01, 7), &[], 5),
         ("a header alone", &SELECT_ONE[..8], &[], 5),
     ];
     for (name, input, output, status) in cases {
@@ -133,29 +173,71 @@ fn faults_end_a_connection(rt: HostRuntime) -> Result<(), Fail> {
     assert_eq!(rt; status, 3, "the first read fails");
     assert_eq!(rt; written.len(), 0);
 
+    let words = vec![in alloc; "pipe".to_string(alloc)?, "--bare".to_string(alloc)?]?;
+    let mut source = MemorySource::new(SELECT_ONE.to_vec(alloc)?, 4096, Vec::new(alloc));
+    let mut second_fails = MemorySink::new(alloc, 7, vec![in alloc; 2]?);
+    let status = run_program(alloc, &words, &mut source, &mut second_fails);
+    assert_eq!(rt; status, 4, "the second write fails");
+    assert_eq!(rt; second_fails.into_bytes().as_slice(), &ONE[..7]);
+    Ok(())
+}
+
+/// The end of a connection over these bytes, and what it wrote.
+fn serve(alloc: Global, input: &[u8]) -> Result<(End, Vec<u8>), Fail> {
     let config = Config {
         user: Units::of_ascii(alloc, b"sa").ok().ok_or("memory")?,
         password: Units::of_ascii(alloc, b"A").ok().ok_or("memory")?,
         entry: Entry::Bare,
     };
-    let serve = |input: &[u8], mut sink: MemorySink| -> Result<(End, Vec<u8>), AllocError> {
-        let mut source = MemorySource::new(input.to_vec(alloc)?, 4096, Vec::new(alloc));
-        let end = serve_on_port(alloc, 1, &config, &mut source, &mut sink);
-        Ok((end, sink.into_bytes()))
-    };
-    let whole = MemorySink::new(alloc, 4096, Vec::new(alloc));
-    let (end, _) = serve(
-        &[0x01, 0x01, 0x00, 0x07, 0x00, 0x00, 0x01, 0x00, 0x01],
-        whole,
-    )?;
-    assert_eq!(rt; end, End::BadHeader { at: 0 });
-    let whole = MemorySink::new(alloc, 4096, Vec::new(alloc));
-    let (end, _) = serve(&SELECT_ONE[..8], whole)?;
-    assert_eq!(rt; end, End::Cut { at: 8 });
-    let second_fails = MemorySink::new(alloc, 7, vec![in alloc; 2]?);
-    let (end, written) = serve(&SELECT_ONE, second_fails)?;
-    assert_eq!(rt; end, End::WriteFault);
-    assert_eq!(rt; written.as_slice(), &ONE[..7]);
+    let mut source = MemorySource::new(input.to_vec(alloc)?, 4096, Vec::new(alloc));
+    let mut sink = MemorySink::new(alloc, 4096, Vec::new(alloc));
+    let end = serve_on_port(alloc, 1, &config, &mut source, &mut sink);
+    Ok((end, sink.into_bytes()))
+}
+
+#[test]
+fn ends_are_at_their_offsets(rt: HostRuntime) -> Result<(), Fail> {
+    let alloc = rt.alloc();
+    let login = header(0x10, 0x01, 8);
+    let second_login = joined(alloc, &[&SELECT_ONE, &login, &SELECT_ONE])?;
+    let past_limit = past_the_limit(alloc)?;
+    let place = End::OutOfPlace { at: 46, kind: 0x10 };
+    let cases: [(&str, &[u8], End, &[u8]); 5] = [
+        (
+            "Length 7",
+            &header(0x01, 1, 7),
+            End::BadHeader { at: 0 },
+            &[],
+        ),
+        ("type 2", &header(0x02, 1, 8), End::BadHeader { at: 0 }, &[]),
+        ("a header alone", &SELECT_ONE[..8], End::Cut { at: 8 }, &[]),
+        ("limit", &past_limit, End::TooLong { at: 1_048_560 }, &[]),
+        ("a login", &second_login, place, &ONE),
+    ];
+    for (name, input, end, output) in cases {
+        let (ended, written) = serve(alloc, input)?;
+        assert_eq!(rt; ended, end, "{name}");
+        assert_eq!(rt; written.as_slice(), output, "{name}");
+    }
+    Ok(())
+}
+
+#[test]
+fn batches_that_cannot_be_read_end_a_connection(rt: HostRuntime) -> Result<(), Fail> {
+    let alloc = rt.alloc();
+    let cases: [(&[u8], BatchFault); 5] = [
+        (&[], BatchFault::HeadersShort),
+        (&[4, 0, 0], BatchFault::HeadersShort),
+        (&[5, 0, 0, 0], BatchFault::HeadersTotal),
+        (&[3, 0, 0, 0], BatchFault::HeadersTotal),
+        (&[4, 0, 0, 0, 0x53], BatchFault::OddText),
+    ];
+    for (payload, fault) in cases {
+        let input = batch_of(alloc, payload)?;
+        let (end, written) = serve(alloc, &input)?;
+        assert_eq!(rt; end, End::BadBatch { fault });
+        assert_eq!(rt; written.len(), 0);
+    }
     Ok(())
 }
 

@@ -1,8 +1,9 @@
 //! A row of values.
 
-ghost use Rattle.std.specs.Prelude.{◌≡◌};
+ghost use Rattle.std.specs.Prelude.{◌≡◌, IfOk};
 
-use crate::Value;
+use crate::{Memory, Value};
+use std::alloc::Global;
 use std::marker::Model;
 
 /// The values of a row, in the order of their columns.
@@ -34,5 +35,23 @@ impl Row {
         ensures { result.now ≡ self.now }
     {
         self.values.as_slice()
+    }
+
+    /// The values in order, owned.
+    pub fn into_vec(self) -> Vec<Value>
+        ensures { result.items ≡ self }
+    {
+        self.values
+    }
+
+    /// The same row.
+    pub fn copy(&self, alloc: Global) -> Result<Row, Memory>
+        ensures { IfOk result (λ copy. copy ≡ self.now) }
+    {
+        let mut values = Vec::with_capacity(alloc, self.values.len())?;
+        for value in &self.values {
+            values.push(value.copy(alloc)?)?;
+        }
+        Ok(Row { values })
     }
 }

@@ -1,12 +1,13 @@
 //! Texts of 16-bit units, as the protocol sends them.
 
-ghost use Rattle.std.specs.Prelude.{◌≡◌, ◌<◌, ◌%◌, ◌↔◌, [], length, All, IfOk};
+ghost use Rattle.std.specs.Prelude.{◌≡◌, ◌<◌, ◌%◌, ◌↔◌, [], length, take, All, IfOk};
 ghost use Rattle.value_types.specs.Units.{units_of, le_bytes_of};
 ghost use Rattle.value_types.specs.declared.units.UnitsFault.TheVariants.{Memory as NoMemory};
 
 use crate::Memory;
 use byteorder::{ByteOrder, LittleEndian};
 use std::alloc::{AllocError, AllocFailed, Global};
+use std::cmp::Ordering;
 use std::marker::Model;
 
 /// A text as a list of 16-bit units. The units need not be well-formed UTF-16.
@@ -60,11 +61,87 @@ impl Units {
         self.units.as_slice()
     }
 
+    /// The units in order, owned.
+    pub fn into_vec(self) -> Vec<u16>
+        ensures { result.items ≡ self }
+    {
+        self.units
+    }
+
+    /// Keeps the first units, at most so many.
+    pub fn truncate(&mut self, most: usize)
+        ensures { self.new ≡ take most self.old }
+    {
+        self.units.truncate(most);
+    }
+
     /// How many units there are.
     pub fn len(&self) -> usize
         ensures { result ≡ length self.now }
     {
         self.units.len()
+    }
+
+    /// The same text.
+    pub fn copy(&self, alloc: Global) -> Result<Units, Memory>
+        ensures { IfOk result (λ copy. copy ≡ self.now) }
+    {
+        Ok(Units {
+            units: Vec::from_slice(alloc, self.units.as_slice())?,
+        })
+    }
+}
+
+// Texts are compared exactly, unit by unit. The comparison of SQL, which pads, is `compare`.
+impl PartialEq for Units {
+    ghost use Rattle.std.specs.Prelude.{nat_eq};
+    ghost use Rattle.std.specs.Cmp.{partial_equiv_from_equiv};
+    ghost use Rattle.std.specs.Cmp.Lexicographic.{pointwise, nat_list_eq_equiv};
+
+    ghost eq = { pointwise nat_eq };
+
+    ghost laws = { partial_equiv_from_equiv nat_list_eq_equiv };
+
+    fn eq(&self, other: &Units) -> bool {
+        self.units == other.units
+    }
+}
+
+impl Eq for Units {
+    ghost use Rattle.std.specs.Cmp.Lexicographic.{nat_list_eq_equiv};
+
+    ghost laws = { nat_list_eq_equiv };
+}
+
+impl PartialOrd for Units {
+    ghost use Rattle.std.specs.Cmp.{po};
+    ghost use Rattle.std.specs.Cmp.Lexicographic.{slice_cmp, nat_list_cmp_total, texts_ties};
+    ghost use Rattle.std.specs.Ordering.{nat_cmp, as_partial_cmp};
+
+    ghost partial_cmp = { as_partial_cmp (slice_cmp nat_cmp) };
+
+    ghost laws = { po nat_list_cmp_total texts_ties };
+
+    fn partial_cmp(&self, other: &Units) -> Option<Ordering> {
+        Some(self.cmp(other))
+    }
+}
+
+impl Ord for Units {
+    ghost use Rattle.std.proofs.Common.{refl};
+    ghost use Rattle.std.specs.Cmp.Lexicographic.{slice_cmp, nat_list_cmp_total, texts_ties};
+    ghost use Rattle.std.specs.Ordering.{nat_cmp};
+
+    ghost cmp = { slice_cmp nat_cmp };
+
+    ghost total = { nat_list_cmp_total };
+
+    ghost matches_partial_cmp = { λ _ _. refl };
+
+    ghost matches_eq = { texts_ties };
+
+    fn cmp(&self, other: &Units) -> Ordering {
+        self.units.cmp(&other.units)
     }
 }
 

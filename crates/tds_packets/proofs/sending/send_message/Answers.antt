@@ -46,5 +46,5 @@ loop-k-preserved g c =
     record {
       sent = subst (λ (s : List ℕ). Appends (g.K.Sink.written c.args.sink.now) (g.K.Sink.written c.write_whole.new.sink) s) (sym (packets-suc f c.loop-k.k))
           (Appends-trans _ (g.K.Sink.written c.loop-k.sink) _ (flat_map f (count_up c.loop-k.k)) (f c.loop-k.k) c.loop-k.invariant.sent sent);
-      counted = omega (arith, c.loop-k.invariant.counted, c.write_whole.ensures.counted);
+      no_fault = c.in_ok-write_whole.ensures.no_fault (λ is. let never : ⊥ = cc in never) ∙ c.loop-k.invariant.no_fault;
     }

@@ -1,4 +1,4 @@
-use Rattle.std.proofs.Common.{◌++◌, take, arith}
+use Rattle.std.proofs.Common.{◌++◌, ◌∙◌, take, arith}
 use Rattle.std.proofs.KnownBytes.{Appends-trans}
 use Rattle.tds_packets.proofs.Sent.{split_further}
 use Rattle.tds_packets.proofs.sending.write_whole.Goals as goal
@@ -11,5 +11,5 @@ loop-rest-preserved g c =
       front ++ take n rest,
       split_further c.args.bytes.now front rest n c.loop-rest.invariant.1,
       Appends-trans _ _ _ front (take n rest) c.loop-rest.invariant.2 c.in-Ok.ensures.takes,
-      omega (arith, c.loop-rest.invariant.3, c.write.ensures.counted),
+      c.in-Ok.ensures.no_fault (λ none. omega arith) ∙ c.loop-rest.invariant.3,
     )

@@ -1,13 +1,14 @@
-use Rattle.std.proofs.Common.{◌-◌, ◌≤◌}
+use Rattle.std.proofs.Common.{◌≡◌, ◌-◌, ◌≤◌}
 use Rattle.tds_packets.specs.Reading.{byte_limit}
 use Rattle.tsqld.proofs.Served.{Served}
 use Rattle.tsqld.proofs.serving.serve_on_port.Given as goal
 
+-- each message so far was answered, and no byte was taken behind them
 abbrev pub invariant-loop-message : goal.invariant-loop-message
 invariant-loop-message g l = record {
   served : Served g.S.Source.left g.S.Source.given l.initial.source l.source (g.K.Sink.written l.initial.sink) (g.K.Sink.written l.sink) l.spid l.reader;
-  reads : g.S.Source.faults l.initial.source ≤ g.S.Source.faults l.source;
-  writes : g.K.Sink.faults l.initial.sink ≤ g.K.Sink.faults l.sink;
+  reads : g.S.Source.faults l.source ≡ g.S.Source.faults l.initial.source;
+  writes : g.K.Sink.faults l.sink ≡ g.K.Sink.faults l.initial.sink;
   within : l.reader ≤ byte_limit;
 }
 

@@ -1,4 +1,4 @@
-use Rattle.std.proofs.Common.{◌≡◌, ◌+◌, ◌-◌, ◌≤◌, List, ℕ, length, take, drop, arith, subst, sym, length-take}
+use Rattle.std.proofs.Common.{◌≡◌, ◌+◌, ◌-◌, ◌≤◌, List, ℕ, length, take, drop, arith, subst, sym, ◌∙◌, length-take}
 use borrow.Rule.Slice.PartMut.{same_len_mid}
 use Rattle.outside_io.specs.Bytes.{Takes}
 use Rattle.tds_packets.proofs.Taken.{Takes-trans, take-refilled}
@@ -18,5 +18,5 @@ loop-filled-preserved g c =
           (Takes-trans g.S.Source.left g.S.Source.given c.args.source.now c.loop-filled.source c.read.new.self (take filled into) (take n c.read.new.into) c.loop-filled.invariant.took c.in-Ok.ensures.gives);
       taken = omega arith;
       limit = omega (arith, c.in-Ok.ensures.bound, c.min.ensures);
-      counted = omega (arith, c.read.ensures.counted, c.loop-filled.invariant.counted);
+      no_fault = c.in-Ok.ensures.no_fault ∙ c.loop-filled.invariant.no_fault;
     }

@@ -10,7 +10,7 @@ invariant-loop-filled g l = record {
   took : Takes g.S.Source.left g.S.Source.given l.initial.source l.source (take l.filled l.into);
   taken : l.self-inside.taken ≡ l.initial.self-inside.taken + l.filled;
   limit : l.self-inside.taken ≤ byte_limit;
-  counted : g.S.Source.faults l.initial.source ≤ g.S.Source.faults l.source;
+  no_fault : g.S.Source.faults l.source ≡ g.S.Source.faults l.initial.source;
 }
 
 abbrev pub decreases-loop-filled : goal.decreases-loop-filled

@@ -1,61 +1,62 @@
-use Rattle.std.proofs.Common.{◌≡◌, ◌<◌, ◌++◌, ℕ, length, drop, arith, ap, ◌∙◌, sym, length-take}
-use Rattle.std.proofs.lemmas.List.{take_all, take_at}
+use Rattle.std.proofs.Common.{◌+◌, List, ℕ, [], ◌∷◌, ◌++◌, length, None, arith, ap, ◌∙◌, sym, subst, refl}
 use Rattle.std.proofs.lemmas.Result.{err_from_is_err_and}
-use Rattle.tds_packets.specs.declared.reader.MessageFault.TheVariants.{Cut}
-use Rattle.tds_packets.proofs.Taken.{header_then}
-use Rattle.tds_packets.proofs.Fronts.{partial_body, cut_body, whole_body, faulty_body}
+use Rattle.outside_io.specs.Bytes.{Takes}
+use Rattle.tds_packets.specs.Stream.{bytes_of}
+use Rattle.tds_packets.proofs.Taken.{Takes-nil, took_both}
+use Rattle.tds_packets.proofs.Draft.{IsDraft, no_packet, more_room, one_more, message_ends, bytes_of-more, draft_stops}
 use Rattle.tds_packets.proofs.reader.Reader.next_message.Goals as goal
 
-pub returns-in_err-fill-2-clause-next : goal.returns-in_err-fill-2-clause-next
-returns-in_err-fill-2-clause-next g c =
-    let p = err_from_is_err_and c.from_residual-in_err-fill-2.result c.from_residual-in_err-fill-2.ensures.1 in
-    let first = c.in_ok-fill.ensures.next in
-    let second = c.in_err-fill-2.ensures.next in
-    let front = c.fill.new.into in
-    let eight : length front ≡ 8 = c.fill.auto.into in
-    let moved = header_then g.S.Source.left g.S.Source.given c.args.source.now c.fill.new.source c.fill-2.new.source c.args.self.now c.fill.new.self c.fill-2.new.self c.in_ok-fill.field-0
-    first.0 front second.0 c.in-8.is eight first.3.1 first.1 second.1 first.2 second.2 in
+pub packets-init : goal.packets-init
+packets-init g c = record {
+  draft = ([], subst (IsDraft [] None) (sym c.new-payload.ensures.items) no_packet, Takes-nil g.S.Source.left g.S.Source.given c.args.source.now, omega arith);
+  room = omega (arith, ap length c.new-payload.ensures.items);
+  limit = omega (arith, c.self.invariant, c.self.view_is);
+  no_fault = refl;
+}
+
+pub returns-in_err-packet-clause-next : goal.returns-in_err-packet-clause-next
+returns-in_err-packet-clause-next g c =
+    let p = err_from_is_err_and c.from_residual.result c.from_residual.ensures.1 in
+    let draft = c.packets.invariant.draft in
+    let told = c.in_err-packet.ensures.next in
+    let moved = took_both g.S.Source.left g.S.Source.given c.args.source.now c.packets.source c.next_packet.new.source c.args.self.now c.packets.self c.next_packet.new.self (bytes_of draft.0) told.0
+    draft.2 told.1 draft.3 told.2 in
     rw (p.1, p.2) (
-      front ++ second.0,
+      bytes_of draft.0 ++ told.0,
       moved.0,
       moved.1,
-      faulty_body c.args.self.now c.in-Some.len front second.0 eight c.in-Some.ensures c.fill-2.new.self c.fill-2.new.into c.in_err-fill-2.field-0.0
-          (c.fill-2.auto.into ∙ c.deref_mut.ensures.len ∙ c.in_ok-payload.ensures.len) moved.1 second.3,
+      draft_stops draft.0 c.packets.begun c.packets.payload.items c.args.self.now told.0 draft.1 c.packets.self c.in_err-packet.field-0.0 draft.3 told.3,
     )
 
-pub returns-then-branch-len-clause-next : goal.returns-then-branch-len-clause-next
-returns-then-branch-len-clause-next g c =
-    let first = c.in_ok-fill.ensures.next in
-    let second = c.in_ok-fill-2.ensures.next in
-    let front = c.fill.new.into in
-    let eight : length front ≡ 8 = c.fill.auto.into in
-    let moved = header_then g.S.Source.left g.S.Source.given c.args.source.now c.fill.new.source c.fill-2.new.source c.args.self.now c.fill.new.self c.fill-2.new.self c.in_ok-fill.field-0
-    first.0 front second.0 c.in-8.is eight first.3.1 first.1 second.1 first.2 second.2 in
-    let short : length second.0 < c.in-Some.len = omega (arith, c.if-branch-len.true, ap length second.3.1, length-take c.in_ok-fill-2.field-0 c.fill-2.new.into) in (
-      front ++ second.0,
+pub returns-then-packet-clause-next : goal.returns-then-packet-clause-next
+returns-then-packet-clause-next g c =
+    let draft = c.packets.invariant.draft in
+    let told = c.in_ok-packet.ensures.next in
+    let moved = took_both g.S.Source.left g.S.Source.given c.args.source.now c.packets.source c.next_packet.new.source c.args.self.now c.packets.self c.next_packet.new.self (bytes_of draft.0) told.0
+    draft.2 told.1 draft.3 told.2 in (
+      bytes_of draft.0 ++ told.0,
       moved.0,
       moved.1,
-      (
-        partial_body c.args.self.now c.in-Some.len front second.0 eight c.in-Some.ensures short,
-        cut_body c.args.self.now c.in-Some.len front second.0 eight c.in-Some.ensures short ∙ ap (λ (n : ℕ). Cut n) (sym moved.1 ∙ sym c.self-3.view_is),
-      ),
+      message_ends draft.0 c.packets.begun c.packets.payload.items told.0 c.next_packet.new.payload.items c.in_ok-packet.packet draft.1 told.3.0 told.3.1 told.3.2 c.args.self.now c.self.inside.taken c.from.result
+          c.self.view_is c.from.ensures c.if-packet.true,
     )
 
-pub returns-clause-next : goal.returns-clause-next
-returns-clause-next g c =
-    let first = c.in_ok-fill.ensures.next in
-    let second = c.in_ok-fill-2.ensures.next in
-    let front = c.fill.new.into in
-    let eight : length front ≡ 8 = c.fill.auto.into in
-    let moved = header_then g.S.Source.left g.S.Source.given c.args.source.now c.fill.new.source c.fill-2.new.source c.args.self.now c.fill.new.self c.fill-2.new.self c.in_ok-fill.field-0
-    first.0 front second.0 c.in-8.is eight first.3.1 first.1 second.1 first.2 second.2 in
-    let buffer = c.fill-2.new.into in
-    let room : length buffer ≡ c.in-Some.len = c.fill-2.auto.into ∙ c.deref_mut.ensures.len ∙ c.in_ok-payload.ensures.len in
-    let body : second.0 ≡ buffer = second.3.1 ∙ take_all c.in_ok-fill-2.field-0 buffer (omega (arith, c.if-branch-len.false)) in
-    let payload : c.from.result ≡ second.0 =
-    c.from.ensures ∙ take_at buffer (drop (length buffer) c.in_ok-payload.payload.items) c.in_ok-payload.payload.len (room ∙ sym c.in_ok-payload.ensures.len) ∙ sym body in (
-      front ++ second.0,
-      moved.0,
-      moved.1,
-      whole_body c.args.self.now c.in-Some.len front second.0 eight c.in-Some.ensures c.self.inside.taken c.from.result c.self.view_is (ap length body ∙ room) payload,
-    )
+pub packets-preserved : goal.packets-preserved
+packets-preserved g c =
+    let draft = c.packets.invariant.draft in
+    let told = c.in_ok-packet.ensures.next in
+    let new = c.next_packet.new.payload.items in
+    let moved = took_both g.S.Source.left g.S.Source.given c.args.source.now c.packets.source c.next_packet.new.source c.args.self.now c.packets.self c.next_packet.new.self (bytes_of draft.0) told.0
+    draft.2 told.1 draft.3 told.2 in
+    let more = sym (bytes_of-more draft.0 told.0) in
+    record {
+      draft = (
+        draft.0 ++ told.0 ∷ [],
+        one_more draft.0 c.packets.begun c.packets.payload.items told.0 new c.in_ok-packet.packet draft.1 told.3.0 told.3.1 told.3.2 c.if-packet.false,
+        subst (λ (s : List ℕ). Takes g.S.Source.left g.S.Source.given c.args.source.now c.next_packet.new.source s) more moved.0,
+        moved.1 ∙ ap (λ (s : List ℕ). c.args.self.now + length s) more,
+      );
+      room = more_room draft.0 c.packets.begun c.packets.payload.items told.0 new c.in_ok-packet.packet draft.1 told.3.0 told.3.1 told.3.2;
+      limit = c.next_packet.ensures.within;
+      no_fault = c.in_ok-packet.ensures.no_fault (λ is. let never : ⊥ = cc in never) ∙ c.packets.invariant.no_fault;
+    }
