@@ -1,0 +1,10 @@
+pub mod EntryOrder
+pub mod Found
+pub mod Put
+pub mod Searched
+pub mod Rows
+pub mod Swept
+pub mod Sessions
+pub mod StepLaws
+pub mod Runs
+pub mod Ranges

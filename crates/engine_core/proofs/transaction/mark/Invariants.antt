@@ -1,0 +1,7 @@
+use Rattle.std.proofs.Common.{◌≡◌, false, take}
+use Rattle.step_model.specs.Step.{is_open}
+use Rattle.engine_core.proofs.transaction.mark.Given as goal
+
+-- no transaction so far is the session's
+abbrev pub invariant-loop-open : goal.invariant-loop-open
+invariant-loop-open l = record { none : is_open l.session (take l.open-index l.active) ≡ false; same : l.active ≡ l.initial.active }

@@ -1,0 +1,32 @@
+-- An engine with one session behind a port, and what its exchanges are.
+use Rattle.std.specs.Prelude.{◌≡◌, ℕ, Bool, true, List, map, Option, None, Some}
+use Rattle.step_model.specs.Exchange.{Exchange, IsSession}
+use Rattle.step_model.specs.Step.{Engine, Asked, Run, opening, is_open, is_alone, marks_of}
+
+-- the exchanges of one session, as steps
+abbrev pub asked_by : ℕ → List Exchange → List Asked
+asked_by session exchanges = map {A = Exchange} {B = Asked} (λ exchange. record { session = session; exchange = exchange }) exchanges
+
+-- what is told is a run of this session alone, from an engine before any step to this one; where nothing
+-- is told, there is such a run
+abbrev pub IsRunOf : ℕ → Option (List Exchange) → Engine → Type 0
+IsRunOf session None engine = (exchanges : List Exchange) × Run opening (asked_by session exchanges) engine
+IsRunOf session (Some exchanges) engine = Run opening (asked_by session exchanges) engine
+
+-- the session, the exchanges that are told, and the engine
+pub record Solo : Type 0 where
+  pub session : ℕ
+  pub told : Option (List Exchange)
+  pub engine : Engine
+
+-- what holds of each
+pub record IsSolo (solo : Solo) : Type 0 where
+  pub session : IsSession solo.session
+  pub alone : is_alone solo.session solo.engine.active ≡ true
+  pub run : IsRunOf solo.session solo.told solo.engine
+
+abbrev pub solo_open : Solo → Bool
+solo_open solo = is_open solo.session solo.engine.active
+
+abbrev pub solo_marks : Solo → List ℕ
+solo_marks solo = marks_of solo.session solo.engine.active

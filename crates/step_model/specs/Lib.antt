@@ -1,0 +1,4 @@
+pub mod Database
+pub mod Log
+pub mod Exchange
+pub mod Step

@@ -1,0 +1,22 @@
+//! The steps of the engine and what they mean: operations and replies, the port by which a session
+//! asks them, and the database of a log of commits.
+//!
+//! Read `specs/Database.antt` first, then `specs/Exchange.antt` and `specs/Step.antt`. The layers above
+//! rely on [`Port::ask`], whatever stands behind the port.
+#![tactic(auto)]
+
+mod change;
+mod manner;
+mod op;
+mod port;
+mod range;
+mod reply;
+#[cfg(test)]
+mod tests;
+
+pub use change::Change;
+pub use manner::{LAST_SESSION, Manner, Patience};
+pub use op::{Hold, Op};
+pub use port::Port;
+pub use range::{Start, Stop};
+pub use reply::Reply;

@@ -1,0 +1,87 @@
+//! What a session asks of the engine.
+
+ghost use Rattle.std.specs.Prelude.{◌≡◌, IfOk};
+
+use crate::range::{Start, Stop};
+use lock_modes::KeyPart;
+use std::alloc::Global;
+use value_types::{Key, Memory, Row, TableName};
+
+/// What a fetch locks, and for how long.
+#[derive(Clone, Copy, Debug, PartialEq, Eq)]
+pub enum Hold {
+    /// The row alone, and to the statement's end only where the part is U.
+    Row,
+    /// The row and the range before it, for the transaction.
+    Range,
+}
+
+/// One operation of a transaction.
+#[derive(Debug, Drop)]
+pub enum Op {
+    /// Begins a transaction.
+    Begin,
+    /// Looks for the first key of the range that the engine keeps; a row may stand there or not.
+    Fetch {
+        /// The table.
+        table: TableName,
+        /// Where the search starts.
+        start: Start,
+        /// Where the search ends.
+        stop: Stop,
+        /// What is locked.
+        hold: Hold,
+        /// The part of the lock on the row: S or U.
+        part: KeyPart,
+    },
+    /// Sets a row at a key that has none.
+    Insert {
+        /// The table.
+        table: TableName,
+        /// The row's key.
+        key: Key,
+        /// The row.
+        row: Row,
+    },
+    /// Makes a mark to which the transaction can be taken back.
+    Mark,
+    /// Ends the locks of a statement.
+    Relax,
+    /// Ends the transaction and keeps its changes.
+    Commit,
+    /// Ends the transaction and forgets its changes.
+    Rollback,
+}
+
+impl Op {
+    /// The same operation.
+    pub fn copy(&self, alloc: Global) -> Result<Op, Memory>
+        ensures { IfOk result (λ copy. copy ≡ self.now) }
+    {
+        Ok(match self {
+            Op::Begin => Op::Begin,
+            Op::Fetch {
+                table,
+                start,
+                stop,
+                hold,
+                part,
+            } => Op::Fetch {
+                table: table.copy(alloc)?,
+                start: start.copy(alloc)?,
+                stop: stop.copy(alloc)?,
+                hold: *hold,
+                part: *part,
+            },
+            Op::Insert { table, key, row } => Op::Insert {
+                table: table.copy(alloc)?,
+                key: key.copy(alloc)?,
+                row: row.copy(alloc)?,
+            },
+            Op::Mark => Op::Mark,
+            Op::Relax => Op::Relax,
+            Op::Commit => Op::Commit,
+            Op::Rollback => Op::Rollback,
+        })
+    }
+}

@@ -1,0 +1,73 @@
+//! What the engine answers.
+
+ghost use Rattle.std.specs.Prelude.{◌≡◌, IfOk};
+
+use std::alloc::Global;
+use value_types::{Key, Memory as NoMemory, Row};
+
+/// The answer to an operation.
+#[derive(Debug, Drop)]
+pub enum Reply {
+    /// A transaction has begun.
+    Began,
+    /// The row at the first key of the range.
+    Row {
+        /// The key.
+        key: Key,
+        /// Its row.
+        row: Row,
+        /// How many commits the log had.
+        at: u64,
+    },
+    /// A key of the range before which there is no row, and at which there is none either.
+    Gone {
+        /// The key.
+        key: Key,
+        /// How many commits the log had.
+        at: u64,
+    },
+    /// There is no row where the fetch looked.
+    End {
+        /// How many commits the log had.
+        at: u64,
+    },
+    /// It is done.
+    Done,
+    /// There is a row at that key.
+    Exists,
+    /// A mark, counted from 1 in its transaction.
+    Marked(u64),
+    /// The transaction has ended.
+    Ended {
+        /// How many commits the log had before.
+        place: u64,
+    },
+    /// Memory was wanting, and nothing has changed.
+    Memory,
+}
+
+impl Reply {
+    /// The same reply.
+    pub fn copy(&self, alloc: Global) -> Result<Reply, NoMemory>
+        ensures { IfOk result (λ copy. copy ≡ self.now) }
+    {
+        Ok(match self {
+            Reply::Began => Reply::Began,
+            Reply::Row { key, row, at } => Reply::Row {
+                key: key.copy(alloc)?,
+                row: row.copy(alloc)?,
+                at: *at,
+            },
+            Reply::Gone { key, at } => Reply::Gone {
+                key: key.copy(alloc)?,
+                at: *at,
+            },
+            Reply::End { at } => Reply::End { at: *at },
+            Reply::Done => Reply::Done,
+            Reply::Exists => Reply::Exists,
+            Reply::Marked(mark) => Reply::Marked(*mark),
+            Reply::Ended { place } => Reply::Ended { place: *place },
+            Reply::Memory => Reply::Memory,
+        })
+    }
+}
