@@ -1,8 +1,8 @@
 -- A run that goes on by one step.
 use Rattle.std.proofs.Common.{◌≡◌, ℕ, List, [], ◌∷◌, ◌++◌, Option, None, Some, refl, sym, ap, subst}
 use Rattle.step_model.specs.Exchange.{Exchange, Tells}
-use Rattle.step_model.specs.Step.{Engine, Asked, MayStep, Step, Run, opening}
-use Rattle.engine_core.specs.Solo.{asked_by, IsRunOf}
+use Rattle.step_model.specs.Step.{Engine, Asked, MayStep, Step, Run, asked_by, opening}
+use Rattle.engine_core.specs.Solo.{IsRunOf}
 
 run_more : (old mid new : Engine) (steps : List Asked) (asked : Asked) → Run old steps mid → MayStep mid asked.session asked.exchange.op asked.exchange.manner → Step mid asked.session asked.exchange.op asked.exchange.manner asked.exchange.reply new → Run old (steps ++ asked ∷ []) new
 run_more old mid new [] asked run may step =

@@ -1,11 +1,7 @@
 -- An engine with one session behind a port, and what its exchanges are.
-use Rattle.std.specs.Prelude.{◌≡◌, ℕ, Bool, true, List, map, Option, None, Some}
+use Rattle.std.specs.Prelude.{◌≡◌, ℕ, Bool, true, List, Option, None, Some}
 use Rattle.step_model.specs.Exchange.{Exchange, IsSession}
-use Rattle.step_model.specs.Step.{Engine, Asked, Run, opening, is_open, is_alone, marks_of}
-
--- the exchanges of one session, as steps
-abbrev pub asked_by : ℕ → List Exchange → List Asked
-asked_by session exchanges = map {A = Exchange} {B = Asked} (λ exchange. record { session = session; exchange = exchange }) exchanges
+use Rattle.step_model.specs.Step.{Engine, Run, asked_by, opening, is_open, is_alone, marks_of}
 
 -- what is told is a run of this session alone, from an engine before any step to this one; where nothing
 -- is told, there is such a run

@@ -202,3 +202,7 @@ abbrev pub Run : Engine → List Asked → Engine → Type 0
 Run old [] new = new ≡ old
 Run old (asked ∷ others) new = (mid : Engine) × MayStep old asked.session asked.exchange.op asked.exchange.manner
     × Step old asked.session asked.exchange.op asked.exchange.manner asked.exchange.reply mid × Run mid others new
+
+-- the exchanges of one session, as steps
+abbrev pub asked_by : ℕ → List Exchange → List Asked
+asked_by session exchanges = map {A = Exchange} {B = Asked} (λ exchange. record { session = session; exchange = exchange }) exchanges
