@@ -15,7 +15,7 @@ all_above q x [] below all = tt
 all_above q x (y ∷ ys) below all = (entry_cmp_total.trans q x y below all.0, all_above q x ys below all.1)
 
 -- an entry that is below all has no tie among them
-none_tied : (q : Entry) (xs : List Entry) → AllByRecursion (λ y. entry_cmp q y ≡ Less) xs → find (λ x. is_eq (entry_cmp q x)) xs ≡ None
+pub none_tied : (q : Entry) (xs : List Entry) → AllByRecursion (λ y. entry_cmp q y ≡ Less) xs → find (λ x. is_eq (entry_cmp q x)) xs ≡ None
 none_tied q [] all = refl
 none_tied q (x ∷ xs) all = rw all.0 (none_tied q xs all.1)
 

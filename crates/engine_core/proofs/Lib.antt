@@ -8,3 +8,13 @@ pub mod Sessions
 pub mod StepLaws
 pub mod Runs
 pub mod Ranges
+pub mod Within
+pub mod Looked
+pub mod Firsts
+pub mod Changed
+pub mod Ended
+pub mod Between
+pub mod Fetched
+pub mod SoloSteps
+pub mod Placed
+pub mod Fitting

@@ -30,7 +30,7 @@ put_gap new (x ∷ xs) fits = by_order (entry_cmp new x) refl (put_gap new xs)
     by_order Greater is rest = rw (is, one-add) (ap (λ (ys : List Entry). x ∷ ys) (rest (fits_rest new x xs is fits)))
 
 -- what holds of all entries and of the new one holds of all afterwards
-all_put : (P : Entry → Type 0) (new : Entry) (xs : List Entry) → P new → AllByRecursion P xs → AllByRecursion P (put_entry new xs)
+pub all_put : (P : Entry → Type 0) (new : Entry) (xs : List Entry) → P new → AllByRecursion P xs → AllByRecursion P (put_entry new xs)
 all_put P new [] here all = (here, tt)
 all_put P new (x ∷ xs) here all = by_order (entry_cmp new x) (all_put P new xs here all.1)
   where
@@ -40,7 +40,7 @@ all_put P new (x ∷ xs) here all = by_order (entry_cmp new x) (all_put P new xs
     by_order Greater rest = (all.0, rest)
 
 -- below all that an entry is below, where it ties with that one
-tied_below : (new x : Entry) (ys : List Entry) → entry_cmp new x ≡ Equal → AllByRecursion (λ y. entry_cmp x y ≡ Less) ys → AllByRecursion (λ y. entry_cmp new y ≡ Less) ys
+pub tied_below : (new x : Entry) (ys : List Entry) → entry_cmp new x ≡ Equal → AllByRecursion (λ y. entry_cmp x y ≡ Less) ys → AllByRecursion (λ y. entry_cmp new y ≡ Less) ys
 tied_below new x [] is all = tt
 tied_below new x (y ∷ ys) is all = (entry_cmp_total.congr new x y is ∙ all.0, tied_below new x ys is all.1)
 

@@ -21,7 +21,7 @@ use Rattle.std.specs.List.Sorted.{IsPartitionedBy, IsPartitionPoint}
 use Rattle.std.proofs.lemmas.List.Sums.{prefix_len_is}
 
 -- fronts of one length are in the order of the keys, or tie
-front_above : (n : ℕ) (a b : List Value) → is_gt (key_cmp a b) ≡ false → is_gt (key_cmp (take n a) (take n b)) ≡ false
+pub front_above : (n : ℕ) (a b : List Value) → is_gt (key_cmp a b) ≡ false → is_gt (key_cmp (take n a) (take n b)) ≡ false
 front_above zero a b below = refl
 front_above (suc n) [] [] below = refl
 front_above (suc n) [] (y ∷ b) below = refl

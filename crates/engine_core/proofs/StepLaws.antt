@@ -18,7 +18,7 @@ use Rattle.step_model.specs.Step.{Engine, Entry, Transaction, Step, next_entry, 
 use Rattle.engine_core.proofs.Sessions.{both, neither, open_marked, alone_marked, alone_filter, with_mark}
 
 -- what is found passes the test
-find_passes : (test : Entry → Bool) (xs : List Entry) (e : Entry) → find test xs ≡ Some e → test e ≡ true
+pub find_passes : (test : Entry → Bool) (xs : List Entry) (e : Entry) → find test xs ≡ Some e → test e ≡ true
 find_passes test [] e found = cc
 find_passes test (x ∷ xs) e found = by_test (test x) refl found (find_passes test xs e)
   where
