@@ -2,7 +2,7 @@
 //! steps is one of `Step` of `step_model`; so far one session steps at a time and there are no locks.
 //!
 //! Read `specs/State.antt` first. The layers above rely on [`Engine::attempt`], or on [`SoloPort`],
-//! which is an engine with one session behind a port.
+//! which is an engine with one session behind a port, whose exchanges fit its log.
 #![tactic(auto)]
 
 mod commit;

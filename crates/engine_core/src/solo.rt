@@ -1,8 +1,9 @@
 //! An engine with one session, behind a port.
 
-ghost use Rattle.std.specs.Prelude.{◌≡◌, [], Some, is_some, IfOk, OnErr, ◌++◌, ◌∷◌};
+ghost use Rattle.std.specs.Prelude.{◌≡◌, [], Some, is_some, IfSome, IfOk, OnErr, ◌++◌, ◌∷◌, All};
 ghost use Rattle.std.specs.Option.{option_map};
 ghost use Rattle.step_model.specs.Exchange.{Tells, IsSession, MayAsk};
+ghost use Rattle.step_model.specs.Fits.{Fits};
 ghost use Rattle.step_model.specs.Step.{Step, opening};
 ghost use Rattle.engine_core.specs.Solo.{IsRunOf, solo_open, solo_marks};
 
@@ -65,10 +66,12 @@ impl SoloPort {
     }
 
     /// Whether it tells its exchanges. Those that it tells are a run of its session alone, which leads
-    /// to its engine.
+    /// to its engine, and say of the log what such exchanges do. Each commit in the log is its session's.
     pub fn tells(&self) -> bool
         ensures tells { result ≡ is_some self.now.told }
         ensures run { IsRunOf self.now.session self.now.told self.now.engine }
+        ensures fits { IfSome self.now.told (λ told. Fits self.now.session [] self.now.engine.log told) }
+        ensures own { All (λ commit. commit.session ≡ self.now.session) self.now.engine.log }
     {
         self.told.is_some()
     }
