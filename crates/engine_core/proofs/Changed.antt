@@ -10,12 +10,12 @@ use Rattle.std.proofs.lemmas.Map.Keys.{sorted_head, sorted_tail}
 use Rattle.value_types.specs.declared.table_name.TableName.{TableName}
 use Rattle.value_types.specs.declared.value.Value.{Value}
 use Rattle.value_types.specs.Order.{key_cmp, table_cmp}
-use Rattle.value_types.specs.OrderLaws.{key_cmp_total, table_cmp_total}
 use Rattle.step_model.specs.declared.change.Change.{Change}
 use Rattle.step_model.specs.Database.{Database, With, with_change, is_at}
 use Rattle.step_model.specs.Net.{put, by_table, change_cmp}
 use Rattle.step_model.specs.Step.{Entry, Pending, place_cmp, seen, seen_at, entry_at, put_entry, put_before, change_by, changes_by}
 use Rattle.engine_core.specs.State.{entry_cmp, AreOrdered}
+use Rattle.engine_core.proofs.EntryOrder.{key_cmp_total, table_cmp_total}
 use Rattle.engine_core.proofs.Found.{all_above}
 use Rattle.engine_core.proofs.Looked.{look, none_behind}
 

@@ -5,7 +5,7 @@ use Rattle.std.specs.Ordering.{ordering_reverse}
 use Rattle.std.specs.declared.cmp.Ordering.TheVariants.{Less, Equal, Greater}
 use Rattle.std.proofs.lemmas.List.Elements.{All-from_recursion, All-get_or}
 use Rattle.std.proofs.lemmas.Map.Keys.{sorted_head, sorted_tail}
-use Rattle.value_types.specs.OrderLaws.{key_cmp_total, table_cmp_total}
+pub use Rattle.value_types.specs.OrderLaws.{key_cmp_total, table_cmp_total}
 use Rattle.step_model.specs.Step.{Entry}
 use Rattle.engine_core.specs.State.{entry_cmp, AreOrdered}
 

@@ -8,7 +8,6 @@ use Rattle.lock_modes.specs.declared.KeyPart.{KeyPart}
 use Rattle.value_types.specs.declared.table_name.TableName.{TableName}
 use Rattle.value_types.specs.declared.value.Value.{Value}
 use Rattle.value_types.specs.Order.{key_cmp}
-use Rattle.value_types.specs.OrderLaws.{key_cmp_total}
 use Rattle.step_model.specs.declared.op.Hold.{Hold}
 use Rattle.step_model.specs.declared.op.Op.TheVariants.{Fetch}
 use Rattle.step_model.specs.declared.range.Start.{Start}
@@ -18,6 +17,7 @@ use Rattle.step_model.specs.Database.{Database, First, allows, includes}
 use Rattle.step_model.specs.Fits.{AnswersIn}
 use Rattle.step_model.specs.Step.{Entry, seen, row_at, next_entry, entry_reply, fetch_reply}
 use Rattle.engine_core.specs.State.{AreOrdered}
+use Rattle.engine_core.proofs.EntryOrder.{key_cmp_total}
 use Rattle.engine_core.proofs.Firsts.{next_none, next_below, next_there, next_allows}
 use Rattle.engine_core.proofs.Sessions.{both}
 use Rattle.engine_core.proofs.Within.{ends_before}

@@ -8,11 +8,11 @@ use Rattle.std.proofs.lemmas.Map.Keys.{sorted_head, sorted_tail}
 use Rattle.value_types.specs.declared.table_name.TableName.{TableName}
 use Rattle.value_types.specs.declared.value.Value.{Value}
 use Rattle.value_types.specs.Order.{key_cmp, table_cmp}
-use Rattle.value_types.specs.OrderLaws.{key_cmp_total, table_cmp_total}
 use Rattle.step_model.specs.declared.range.Start.{Start}
 use Rattle.step_model.specs.Database.{allows}
 use Rattle.step_model.specs.Step.{Entry, place_cmp, entry_at, next_entry}
 use Rattle.engine_core.specs.State.{entry_cmp, AreOrdered}
+use Rattle.engine_core.proofs.EntryOrder.{key_cmp_total, table_cmp_total}
 use Rattle.engine_core.proofs.Found.{none_tied, all_above}
 use Rattle.engine_core.proofs.Looked.{probe}
 use Rattle.engine_core.proofs.Sessions.{both}

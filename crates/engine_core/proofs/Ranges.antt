@@ -9,14 +9,13 @@ use Rattle.std.proofs.lemmas.Map.Keys.{sorted_head, sorted_tail}
 use Rattle.value_types.specs.declared.table_name.TableName.{TableName}
 use Rattle.value_types.specs.declared.value.Value.{Value}
 use Rattle.value_types.specs.Order.{table_cmp, key_cmp, value_order}
-use Rattle.value_types.specs.OrderLaws.{key_cmp_total, table_cmp_total}
 use Rattle.step_model.specs.declared.range.Start.{Start}
 use Rattle.step_model.specs.declared.range.Start.TheVariants.{First, At, Past}
 use Rattle.step_model.specs.Database.{allows}
 use Rattle.step_model.specs.Step.{Entry, next_entry}
 use Rattle.engine_core.specs.State.{entry_cmp, AreOrdered}
 use Rattle.engine_core.specs.Places.{precedes, of_table}
-use Rattle.engine_core.proofs.EntryOrder.{in_order}
+use Rattle.engine_core.proofs.EntryOrder.{key_cmp_total, table_cmp_total, in_order}
 use Rattle.std.specs.List.Sorted.{IsPartitionedBy, IsPartitionPoint}
 use Rattle.std.proofs.lemmas.List.Sums.{prefix_len_is}
 

@@ -6,12 +6,12 @@ use Rattle.std.specs.declared.cmp.Ordering.{Ordering}
 use Rattle.std.specs.declared.cmp.Ordering.TheVariants.{Less, Equal, Greater}
 use Rattle.value_types.specs.declared.value.Value.{Value}
 use Rattle.value_types.specs.Order.{key_cmp, value_order}
-use Rattle.value_types.specs.OrderLaws.{key_cmp_total}
 use Rattle.step_model.specs.declared.range.Start.{Start}
 use Rattle.step_model.specs.declared.range.Start.TheVariants.{First, At, Past}
 use Rattle.step_model.specs.declared.range.Stop.{Stop}
 use Rattle.step_model.specs.declared.range.Stop.TheVariants.{Last, Within}
 use Rattle.step_model.specs.Database.{allows, includes}
+use Rattle.engine_core.proofs.EntryOrder.{key_cmp_total}
 use Rattle.engine_core.proofs.Ranges.{front_above}
 
 -- fronts of keys that tie do so
