@@ -3,7 +3,8 @@ use Rattle.std.proofs.Common.{◌≡◌, ℕ, ◌+◌, ◌≤◌, true, false, L
 use Rattle.std.specs.Prelude.{IsTrue, Some, None}
 use Rattle.tds_packets.specs.Header.{kind_of, is_known_type, length_of}
 use Rattle.tds_packets.specs.Stream.{payload_limit, IsPacket, AreOpen, bytes_of, data_of, type_of, goes_on, IsMessage, Stops, IsTail, header_fault, tail_end}
-use Rattle.tds_packets.specs.Reading.{IsHeader, TailStopsBy, StopsBy, IsUnrefused, IsOpenTail}
+use Rattle.tds_packets.specs.Reading.{StopsBy, IsUnrefused}
+use Rattle.tds_packets.specs.Parts.{IsHeader, TailStopsBy, IsOpenTail}
 use Rattle.tds_packets.specs.declared.header.PacketHeader.{PacketHeader}
 use Rattle.tds_packets.specs.declared.reader.MessageFault.{MessageFault}
 use Rattle.tds_packets.specs.declared.reader.MessageFault.TheVariants.{Closed, Cut, BadHeader, TooLong, ReadFault, Memory, Spent}

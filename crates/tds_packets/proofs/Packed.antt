@@ -41,9 +41,9 @@ status_is room k size some within = elim (cases_lt room (size - room * k)) [
       rw (le-leb (size - room * k) room last, le-ltb (k + 1) ((size - 1) / room + 1) ends) refl
 ]
 
--- the packet of the room, the status and the number that were computed
+-- the packet of the room, the status and the PacketID that were computed
 abbrev pub packet_by : ℕ → ℕ → List ℕ → ℕ → ℕ → List ℕ
-packet_by kind spid body status number = header kind status (8 + length body) spid number ++ body
+packet_by kind spid body status packet_id = header kind status (8 + length body) spid packet_id ++ body
 
 module _ (kind spid room k : ℕ) (payload : List ℕ) (some : 0 < room) (within : room * k ≤ length payload) where
   abbrev rest : List ℕ

@@ -3,7 +3,8 @@ use Rattle.std.proofs.Common.{◌≡◌, ℕ, ◌+◌, ◌<◌, List, ◌++◌, 
 use Rattle.std.specs.Prelude.{Some, MatchResult}
 use Rattle.tds_packets.specs.Header.{length_of}
 use Rattle.tds_packets.specs.Stream.{header_fault, tail_end, IsTail}
-use Rattle.tds_packets.specs.Reading.{Awaits, IsOpenTail, IsHeader, TailStopsBy, GivesHeader, Fills}
+use Rattle.tds_packets.specs.Reading.{Awaits}
+use Rattle.tds_packets.specs.Parts.{IsOpenTail, IsHeader, TailStopsBy, GivesHeader, Fills}
 use Rattle.tds_packets.specs.declared.header.PacketHeader.{PacketHeader}
 use Rattle.tds_packets.specs.declared.reader.MessageFault.{MessageFault}
 use Rattle.tds_packets.specs.declared.reader.MessageFault.TheVariants.{Closed, Cut, BadHeader, TooLong, ReadFault, Memory, Spent}

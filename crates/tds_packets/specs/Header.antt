@@ -1,5 +1,5 @@
 -- [MS-TDS] 2.2.3.1: the header of a packet, eight bytes before its data. Each field is said of the
--- whole packet's bytes, by its place.
+-- whole packet's bytes, by its place; the code reads the eight bytes before the packet's data came.
 use Rattle.std.specs.Prelude.{ℕ, ◌+◌, ◌*◌, ◌%◌, ◌==◌, Bool, List, [], ◌∷◌, ◌++◌, slice_index}
 use Rattle.std.specs.List.{list_any}
 use Rattle.std.specs.Int.{w16, to_be_bytes}
@@ -26,4 +26,4 @@ length_of packet = slice_index packet 2 * 256 + slice_index packet 3
 
 -- a header: Type, Status, Length, SPID, PacketID and Window
 abbrev pub header : ℕ → ℕ → ℕ → ℕ → ℕ → List ℕ
-header kind status size spid number = kind ∷ status ∷ to_be_bytes w16 size ++ to_be_bytes w16 spid ++ number ∷ 0 ∷ []
+header kind status length spid packet_id = kind ∷ status ∷ to_be_bytes w16 length ++ to_be_bytes w16 spid ++ packet_id ∷ 0 ∷ []

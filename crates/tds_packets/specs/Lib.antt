@@ -1,4 +1,5 @@
-pub mod Header
 pub mod Stream
+pub mod Header
 pub mod Reading
 pub mod Packets
+pub mod Parts

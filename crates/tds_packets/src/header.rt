@@ -3,7 +3,7 @@
 ghost use Rattle.std.specs.Prelude.{◌≡◌, ◌+◌, ◌<◌, ◌≤◌, ◌^◌, if◌then◌else◌, MatchResult, Some};
 ghost use Rattle.tds_packets.specs.Header.{header as header_bytes, is_known_type};
 ghost use Rattle.tds_packets.specs.Stream.{goes_on, header_fault, payload_limit};
-ghost use Rattle.tds_packets.specs.Reading.{IsHeader};
+ghost use Rattle.tds_packets.specs.Parts.{IsHeader};
 
 use crate::reader::MessageFault;
 use byteorder::{BigEndian, ByteOrder};
@@ -44,7 +44,7 @@ const KNOWN_TYPES: [u8; 7] = [
 ];
 
 /// The status bit of the last packet of a message, EOM ([MS-TDS] 2.2.3.1.2).
-const END_OF_MESSAGE: u8 = 0x01;
+const EOM: u8 = 0x01;
 
 /// The most bytes that the packets of a message may carry.
 const PAYLOAD_LIMIT: usize = 1_048_576;
@@ -82,7 +82,7 @@ pub(crate) fn read_header(
     }
     Ok(PacketHeader {
         kind,
-        last: header[1] % 2 == END_OF_MESSAGE,
+        last: header[1] % 2 == EOM,
         body_len,
     })
 }
@@ -110,14 +110,14 @@ pub(crate) fn header_of(
     last: bool,
     body_len: u16,
     spid: u16,
-    number: u8,
+    packet_id: u8,
 ) -> [u8; HEADER_LEN]
     requires { body_len + 8 < 2 ^ 16 }
-    ensures { result ≡ header_bytes kind (if last then 1 else 0) (8 + body_len) spid number }
+    ensures { result ≡ header_bytes kind (if last then 1 else 0) (8 + body_len) spid packet_id }
 {
-    let mut header = [kind, 0, 0, 0, 0, 0, number, 0];
+    let mut header = [kind, 0, 0, 0, 0, 0, packet_id, 0];
     if last {
-        header[1] = END_OF_MESSAGE;
+        header[1] = EOM;
     }
     BigEndian::write_u16(&mut header[2..4], 8 + body_len);
     BigEndian::write_u16(&mut header[4..6], spid);

@@ -3,7 +3,8 @@
 ghost use Rattle.std.specs.Prelude.{◌≡◌, ◌≢◌, ◌+◌, ◌≤◌, List, ℕ, length, vec_len};
 ghost use Rattle.std.specs.Io.KnownBytes.{IsAtEnd};
 ghost use Rattle.outside_io.specs.Bytes.{Takes, HasRisen};
-ghost use Rattle.tds_packets.specs.Reading.{Gives, GivesPacket, GivesHeader, Fills, IsEnd, byte_limit};
+ghost use Rattle.tds_packets.specs.Reading.{Gives, IsEnd, byte_limit};
+ghost use Rattle.tds_packets.specs.Parts.{GivesPacket, GivesHeader, Fills};
 ghost use Rattle.tds_packets.specs.Stream.{payload_limit};
 ghost use Rattle.tds_packets.specs.declared.reader.MessageFault.TheVariants.{Memory as NoMemory};
 

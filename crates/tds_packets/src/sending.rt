@@ -75,8 +75,8 @@ fn put_packet(
     let rest = &payload[start..];
     let body = &rest[..rest.len().min(room)];
     let last = rest.len() <= room;
-    let number = (k % 256) as u8;
-    let header = header_of(kind, last, body.len() as u16, spid, number.wrapping_add(1));
+    let packet_id = ((k % 256) as u8).wrapping_add(1);
+    let header = header_of(kind, last, body.len() as u16, spid, packet_id);
     packet.extend_from_slice(&header)?;
     packet.extend_from_slice(body)
 }

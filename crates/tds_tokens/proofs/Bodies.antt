@@ -10,10 +10,10 @@ use Rattle.tds_tokens.specs.declared.notice.Notice.{Notice}
 use Rattle.tds_tokens.specs.declared.token.DoneKind.{DoneKind}
 use Rattle.tds_tokens.specs.declared.token.Token.{Token}
 use Rattle.tds_tokens.specs.declared.token.Token.TheVariants.{LoginAck, EnvText, EnvBytes, Finished}
-use Rattle.tds_tokens.specs.Spelling.{with_length, done_tag, b_varchar, b_varbyte, us_varchar, login_ack_bytes, notice_bytes, token_bytes}
+use Rattle.tds_tokens.specs.Spelling.{with_length, server_name, sql_tsql, done_tag, b_varchar, b_varbyte, us_varchar, login_ack_bytes, notice_bytes, token_bytes}
 use Rattle.tds_tokens.specs.Fit.{FitsNotice}
 use Rattle.tds_tokens.specs.Ranges.{AreUnits, AreOctets, IsNotice, IsToken}
-use Rattle.tds_tokens.specs.Reading.{made, both, framed, byte_at, number_at, b_varchar_at, b_varbyte_at, login_ack_at, server, said_at, notice_at, env_of, env_at, finished_at}
+use Rattle.tds_tokens.specs.Reading.{made, both, framed, byte_at, number_at, b_varchar_at, b_varbyte_at, login_ack_at, said_at, notice_at, env_of, env_at, finished_at}
 use Rattle.tds_tokens.proofs.Lengths.{length-login_ack, length-env_text}
 use Rattle.tds_tokens.proofs.Readers.{IsBytes, IsBytes-rest, bind_some, Reads, Reads-both, Reads-made, Reads-is, made_takes, made_again, Reads-behind, framed_takes, framed_again, Reads-framed}
 use Rattle.tds_tokens.proofs.Numbers.{Reads-byte, Reads-16, Reads-64, Reads-32_big, Reads-signed32}
@@ -41,7 +41,7 @@ IsLogin p = (p.0 < 2 ^ 32) × (((length p.1.0 < 2 ^ 8) × AreUnits p.1.0) × (p.
 login_ack_takes : (columns : List ColumnInfo) (body : List ℕ) (token : Token) → IsBytes body → login_ack_at body ≡ Some (token, []) → IsBodyOf columns 0xAD body token
 unfolding login_ack_at
 login_ack_takes columns body token fits e =
-    let t = made_takes (λ p. LoginAck p.0 p.1.0 p.1.1) (Reads-behind (1 ∷ []) (Reads-both Reads-32_big (Reads-both Reads-b_varchar Reads-32_big))) body (token, []) fits e in
+    let t = made_takes (λ p. LoginAck p.0 p.1.0 p.1.1) (Reads-behind (sql_tsql ∷ []) (Reads-both Reads-32_big (Reads-both Reads-b_varchar Reads-32_big))) body (token, []) fits e in
     let p = t.0 in
     let whole : login_ack_bytes p.0 p.1.0 p.1.1 ≡ body = sym (t.2 ∙ append-nil (login_ack_bytes p.0 p.1.0 p.1.1)) in
     subst (IsBodyOf columns 0xAD body) t.1 (ap (λ l. 0xAD ∷ with_length l) (sym whole), (t.3.1.0.0, (t.3.0, t.3.1.0.1, t.3.1.1)))
@@ -49,7 +49,7 @@ login_ack_takes columns body token fits e =
 login_ack_again : (version : ℕ) (program : List ℕ) (release : ℕ) → IsLogin (version, (program, release)) → login_ack_at (login_ack_bytes version program release) ≡ Some (LoginAck version program release, [])
 unfolding login_ack_at
 login_ack_again version program release is =
-    let reads = Reads-behind (1 ∷ []) (Reads-both Reads-32_big (Reads-both Reads-b_varchar Reads-32_big)) in
+    let reads = Reads-behind (sql_tsql ∷ []) (Reads-both Reads-32_big (Reads-both Reads-b_varchar Reads-32_big)) in
     ap login_ack_at (sym (append-nil (login_ack_bytes version program release))) ∙ made_again (λ p. LoginAck p.0 p.1.0 p.1.1) reads (version, (program, release)) [] is
 
 pub login_ack_tagged : (columns : List ColumnInfo) (bytes : List ℕ) (x : Token × List ℕ) → IsBytes bytes → framed login_ack_at bytes ≡ Some x → IsTokenOf columns 0xAD bytes x
@@ -69,16 +69,16 @@ login_ack_framed columns version program release rest is =
 abbrev IsSaid : List ℕ × (List ℕ × ℤ) → Type 0
 IsSaid p = ((length p.0 < 2 ^ 16) × AreUnits p.0) × (((length p.1.0 < 2 ^ 8) × AreUnits p.1.0) × FitsSigned w32 p.1.1)
 
-Reads-said : Reads (λ p. us_varchar p.0 ++ (server ++ (b_varchar p.1.0 ++ to_le_bytes w32 (cast_unsigned w32 p.1.1)))) IsSaid said_at
+Reads-said : Reads (λ p. us_varchar p.0 ++ (b_varchar server_name ++ (b_varchar p.1.0 ++ to_le_bytes w32 (cast_unsigned w32 p.1.1)))) IsSaid said_at
 unfolding said_at
-Reads-said = Reads-both Reads-us_varchar (Reads-behind server (Reads-both Reads-b_varchar Reads-signed32))
+Reads-said = Reads-both Reads-us_varchar (Reads-behind (b_varchar server_name) (Reads-both Reads-b_varchar Reads-signed32))
 
 abbrev IsNoted : Notice → Type 0
 IsNoted notice = FitsSigned w32 notice.number × ((notice.state < 2 ^ 8) × ((notice.class < 2 ^ 8) × IsSaid (notice.text, (notice.procedure, notice.line))))
 
 -- a notice's bytes, grouped from behind
 abbrev noted : Notice → List ℕ
-noted notice = to_le_bytes w32 (cast_unsigned w32 notice.number) ++ ((notice.state ∷ []) ++ ((notice.class ∷ []) ++ (us_varchar notice.text ++ (server ++ (b_varchar notice.procedure ++ to_le_bytes w32 (cast_unsigned w32 notice.line))))))
+noted notice = to_le_bytes w32 (cast_unsigned w32 notice.number) ++ ((notice.state ∷ []) ++ ((notice.class ∷ []) ++ (us_varchar notice.text ++ (b_varchar server_name ++ (b_varchar notice.procedure ++ to_le_bytes w32 (cast_unsigned w32 notice.line))))))
 
 from_behind : (text name procedure line : List ℕ) → ((text ++ name) ++ procedure) ++ line ≡ text ++ (name ++ (procedure ++ line))
 from_behind text name procedure line = append_assoc (text ++ name) procedure line ∙ append_assoc text name (procedure ++ line)
@@ -86,7 +86,7 @@ from_behind text name procedure line = append_assoc (text ++ name) procedure lin
 notice_bytes-noted : (notice : Notice) → notice_bytes notice ≡ noted notice
 notice_bytes-noted notice =
     ap (λ l. to_le_bytes w32 (cast_unsigned w32 notice.number) ++ ((notice.state ∷ notice.class ∷ to_le_bytes w16 (length notice.text)) ++ l))
-    (from_behind (le_bytes_of notice.text) server (b_varchar notice.procedure) (to_le_bytes w32 (cast_unsigned w32 notice.line)))
+    (from_behind (le_bytes_of notice.text) (b_varchar server_name) (b_varchar notice.procedure) (to_le_bytes w32 (cast_unsigned w32 notice.line)))
 
 Reads-noted : Reads notice_bytes IsNoted notice_at
 unfolding notice_at

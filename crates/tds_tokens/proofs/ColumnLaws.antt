@@ -6,10 +6,10 @@ use Rattle.std.proofs.lemmas.Option.{same_Some}
 use Rattle.value_types.specs.declared.sql_type.SqlType.{SqlType}
 use Rattle.value_types.specs.declared.sql_type.SqlType.TheVariants.{TinyInt, SmallInt, Int, BigInt, Bit as BitType, NText}
 use Rattle.tds_tokens.specs.declared.columns.ColumnInfo.{ColumnInfo}
-use Rattle.tds_tokens.specs.Spelling.{collation, type_info, column_bytes}
+use Rattle.tds_tokens.specs.Spelling.{collation, nvarchartype, type_info, column_start, column_bytes}
 use Rattle.tds_tokens.specs.Fit.{FitsKind}
 use Rattle.tds_tokens.specs.Ranges.{AreUnits}
-use Rattle.tds_tokens.specs.Reading.{strip, this_type_at, text_type_at, type_at, column_start, column_at, columns_at}
+use Rattle.tds_tokens.specs.Reading.{strip, this_type_at, text_type_at, type_at, column_at, columns_at}
 use Rattle.tds_tokens.proofs.Readers.{IsBytes, bind_some, or_else_takes, strip_takes, Reads, Reads-both, Reads-made, made_takes, made_again, Reads-behind, Reads-before, Reads-counted, ReadsCount-times}
 use Rattle.tds_tokens.proofs.Numbers.{Reads-16, Reads-half}
 use Rattle.tds_tokens.proofs.Texts.{Reads-b_varchar}
@@ -27,12 +27,12 @@ this_type_takes kind bytes fits x e =
 text_type_takes : (bytes : List ℕ) → IsBytes bytes → (x : SqlType × List ℕ) → text_type_at bytes ≡ Some x → IsTypeOf bytes x
 unfolding text_type_at
 text_type_takes bytes fits x e =
-    let t = made_takes NText (Reads-before collation (Reads-behind (0xE7 ∷ []) Reads-half)) bytes x fits e in
+    let t = made_takes NText (Reads-before collation (Reads-behind (nvarchartype ∷ []) Reads-half)) bytes x fits e in
     subst (λ (kind : SqlType). (bytes ≡ type_info kind ++ x.1) × FitsKind kind) t.1 (t.2, t.3)
 
 text_type_again : (size : ℕ) (rest : List ℕ) → 2 * size < 2 ^ 16 → text_type_at (type_info (NText size) ++ rest) ≡ Some (NText size, rest)
 unfolding text_type_at
-text_type_again size rest lt = made_again NText (Reads-before collation (Reads-behind (0xE7 ∷ []) Reads-half)) size rest lt
+text_type_again size rest lt = made_again NText (Reads-before collation (Reads-behind (nvarchartype ∷ []) Reads-half)) size rest lt
 
 type_takes : (bytes : List ℕ) (x : SqlType × List ℕ) → IsBytes bytes → type_at bytes ≡ Some x → IsTypeOf bytes x
 unfolding type_at

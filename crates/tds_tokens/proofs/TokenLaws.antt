@@ -1,6 +1,5 @@
 -- A token that is read is the one that is spelled.
 use Rattle.std.proofs.Common.{◌≡◌, ℕ, ◌^◌, ◌<◌, Bool, true, false, cond, eqb, List, [], ◌∷◌, ◌++◌, length, All, Option, Some, refl, sym, ap, subst, ◌∙◌}
-use Rattle.std.specs.List.{AllByRecursion}
 use Rattle.std.proofs.lemmas.Bool.{eqb-true}
 use Rattle.std.proofs.lemmas.List.Elements.{All-weaker}
 use Rattle.std.proofs.lemmas.Option.{same_Some, some_pair_parts}
@@ -10,7 +9,7 @@ use Rattle.tds_tokens.specs.declared.reading.tag.Tag.TheVariants as kinds
 use Rattle.tds_tokens.specs.declared.token.DoneKind.TheVariants.{Done, Proc, InProc}
 use Rattle.tds_tokens.specs.declared.token.Token.{Token}
 use Rattle.tds_tokens.specs.declared.token.Token.TheVariants.{LoginAck, Error, Info, EnvText, EnvBytes, Columns, Row, ReturnStatus, Finished}
-use Rattle.tds_tokens.specs.Spelling.{done_tag, token_bytes}
+use Rattle.tds_tokens.specs.Spelling.{tag_byte, token_bytes}
 use Rattle.tds_tokens.specs.Fit.{FitsKind}
 use Rattle.tds_tokens.specs.Ranges.{AreUnits, IsToken}
 use Rattle.tds_tokens.specs.Reading.{◌>>=◌, byte_at, tags, look_up, tag_at, tagged_at, token_at}
@@ -22,26 +21,16 @@ use Rattle.tds_tokens.proofs.Bodies.{IsTokenOf, login_ack_tagged, login_ack_fram
 
 -- ---- tags
 
-abbrev tag_byte : Tag → ℕ
-tag_byte kinds.LoginAck = 0xAD
-tag_byte kinds.Error = 0xAA
-tag_byte kinds.Info = 0xAB
-tag_byte kinds.Env = 0xE3
-tag_byte kinds.Columns = 0x81
-tag_byte kinds.Row = 0xD1
-tag_byte kinds.ReturnStatus = 0x79
-tag_byte (kinds.Finished kind) = done_tag kind
-
--- the entry that was found, or one behind it
-look_up_step : (byte : ℕ) (entry : ℕ × Tag) (later : Option Tag) (tag : Tag) (same : Bool) → eqb byte entry.0 ≡ same → entry.0 ≡ tag_byte entry.1 → (later ≡ Some tag → byte ≡ tag_byte tag) → cond same (Some entry.1) later ≡ Some tag
+-- the tag that was found, or one behind it
+look_up_step : (byte : ℕ) (first : Tag) (later : Option Tag) (tag : Tag) (same : Bool) → eqb byte (tag_byte first) ≡ same → (later ≡ Some tag → byte ≡ tag_byte tag) → cond same (Some first) later ≡ Some tag
     → byte ≡ tag_byte tag
-look_up_step byte entry later tag true is right others e = eqb-true byte entry.0 is ∙ right ∙ ap tag_byte (same_Some entry.1 tag e)
-look_up_step byte entry later tag false is right others e = others e
+look_up_step byte first later tag true is others e = eqb-true byte (tag_byte first) is ∙ ap tag_byte (same_Some first tag e)
+look_up_step byte first later tag false is others e = others e
 
-look_up_is : (byte : ℕ) (entries : List (ℕ × Tag)) (tag : Tag) → AllByRecursion (λ entry. entry.0 ≡ tag_byte entry.1) entries → look_up byte entries ≡ Some tag → byte ≡ tag_byte tag
-look_up_is byte [] tag all e = absurd cc
-look_up_is byte (entry ∷ entries) tag all e =
-    look_up_step byte entry (look_up byte entries) tag (eqb byte entry.0) refl all.0 (look_up_is byte entries tag all.1) e
+look_up_is : (byte : ℕ) (among : List Tag) (tag : Tag) → look_up byte among ≡ Some tag → byte ≡ tag_byte tag
+look_up_is byte [] tag e = absurd cc
+look_up_is byte (first ∷ among) tag e =
+    look_up_step byte first (look_up byte among) tag (eqb byte (tag_byte first)) refl (look_up_is byte among tag) e
 
 tag_takes : (bytes : List ℕ) (x : Tag × List ℕ) → IsBytes bytes → tag_at bytes ≡ Some x → bytes ≡ tag_byte x.0 ∷ x.1
 unfolding tag_at
@@ -49,7 +38,7 @@ tag_takes bytes x fits e =
     let a = bind_some (byte_at bytes) (λ first. look_up first.0 tags >>= λ tag. Some (tag, first.1)) x e in
     let b = bind_some (look_up a.0.0 tags) (λ tag. Some (tag, a.0.1)) x a.2 in
     let t = Reads-byte.takes bytes a.0 fits a.1 in
-    let first = look_up_is a.0.0 tags b.0 (refl, (refl, (refl, (refl, (refl, (refl, (refl, (refl, (refl, (refl, tt)))))))))) b.1 in
+    let first = look_up_is a.0.0 tags b.0 b.1 in
     let whole : Tag × List ℕ = (b.0, a.0.1) in
     subst (λ (y : Tag × List ℕ). bytes ≡ tag_byte y.0 ∷ y.1) (same_Some whole x b.2) (t.0 ∙ ap (λ byte. byte ∷ a.0.1) first)
 

@@ -1,4 +1,5 @@
--- What reading bytes as tokens answers.
+-- Own: what reading bytes as tokens answers. It cites the spelling alone, and says of a place that no
+-- token at all begins there; the code reads from left to right and stops where its reader finds none.
 use Rattle.std.specs.Prelude.{◌≡◌, ◌≢◌, ℕ, List, [], ◌∷◌, ◌++◌, length, Result, Ok, Err}
 use Rattle.std.specs.Global.{Vec}
 use Rattle.tds_tokens.specs.declared.columns.ColumnInfo.{ColumnInfo}

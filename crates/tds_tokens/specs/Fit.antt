@@ -1,4 +1,6 @@
--- Which tokens have a spelling: each count fits its field, and each row its columns.
+-- [MS-TDS] 2.2.5 and 2.2.7, as far as fields have a width: which tokens have a spelling. Each count
+-- fits its field, and each row its columns. It is said of a whole token; the code that writes tests
+-- none of it, and requires it of all tokens.
 use Rattle.std.specs.Prelude.{◌≡◌, ◌*◌, ◌^◌, ◌<◌, ◌≤◌, ◌≤ℤ◌, ◌⊎◌, pos, List, [], ◌∷◌, length, All, FitsSigned}
 use Rattle.std.specs.Int.{w16, w32, w64}
 use Rattle.value_types.specs.declared.sql_type.SqlType.{SqlType}

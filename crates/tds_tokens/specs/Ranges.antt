@@ -1,5 +1,6 @@
--- Which tokens there are: each has a spelling, and each number in it is of its field's width. A law
--- speaks of all numbers, so the widths, which the code's types keep, are said here.
+-- [MS-TDS] 2.2.5.1, the widths of numbers: which tokens there are. Each has a spelling, and each
+-- number in it is of its field's width. A law speaks of all numbers, so the widths, which the code's
+-- types keep, are said here.
 use Rattle.std.specs.Prelude.{◌^◌, ◌<◌, ℕ, List, [], ◌∷◌, All, FitsSigned}
 use Rattle.std.specs.Int.{w32}
 use Rattle.value_types.specs.declared.value.Value.{Value}

@@ -1,6 +1,6 @@
--- Reading tokens from left to right. A reader takes a value from the front of the bytes and leaves
--- those behind it, or finds none. The code does what these functions do; that they undo the
--- spelling is proved of them.
+-- Own: reading tokens from left to right; no public clause cites it. A reader takes a value from the
+-- front of the bytes and leaves those behind it, or finds none. The code goes the same way with slices,
+-- and may run out of memory; that these functions undo the spelling is proved of them.
 use Rattle.std.specs.Prelude.{◌≡◌, ℕ, zero, suc, ◌*◌, ◌/◌, ◌%◌, ℤ, pos, Bool, ◌==◌, ◌||◌, ◌&&◌, nat_lt, nat_le, if◌then◌else◌, List, [], ◌∷◌, length, take, drop, slice_get, Option, Some, None, Result, Ok, Err}
 use Rattle.std.specs.Str.{bytes_eq}
 use Rattle.std.specs.Int.{Width, w16, w32, w64, byte_len, from_le_bytes, from_be_bytes, cast_signed}
@@ -19,7 +19,7 @@ use Rattle.tds_tokens.specs.declared.token.Token.{Token}
 use Rattle.tds_tokens.specs.declared.token.Token.TheVariants.{LoginAck, Error, Info, EnvText, EnvBytes, Columns, Row, ReturnStatus, Finished}
 use Rattle.tds_tokens.specs.declared.reading.tag.Tag.{Tag}
 use Rattle.tds_tokens.specs.declared.reading.tag.Tag.TheVariants as kinds
-use Rattle.tds_tokens.specs.Spelling.{columns_after, collation, type_info, value_bytes}
+use Rattle.tds_tokens.specs.Spelling.{b_varchar, server_name, collation, nvarchartype, type_info, value_bytes, column_start, sql_tsql, tag_byte, columns_after}
 
 -- what a function of the code returned, seen by view, is what reading gives, unless memory ran out
 abbrev pub Fails : {Y : Type 0} → ReadFault → Option Y → Type 0
@@ -116,7 +116,7 @@ abbrev pub this_type_at : SqlType → List ℕ → Option (SqlType × List ℕ)
 this_type_at kind bytes = strip (type_info kind) bytes >>= λ rest. Some (kind, rest)
 
 unfoldable pub text_type_at : List ℕ → Option (SqlType × List ℕ)
-text_type_at bytes = made NText (before collation (behind (0xE7 ∷ []) half_at)) bytes
+text_type_at bytes = made NText (before collation (behind (nvarchartype ∷ []) half_at)) bytes
 
 unfoldable pub type_at : List ℕ → Option (SqlType × List ℕ)
 type_at bytes =
@@ -126,10 +126,6 @@ type_at bytes =
     (or_else (this_type_at BigInt bytes)
     (or_else (this_type_at BitType bytes)
     (text_type_at bytes)))))
-
--- what stands before a column's type: user type 0 and the flag fNullable
-abbrev pub column_start : List ℕ
-column_start = 0 ∷ 0 ∷ 0 ∷ 0 ∷ 1 ∷ 0 ∷ []
 
 unfoldable pub column_at : List ℕ → Option (ColumnInfo × List ℕ)
 column_at bytes = made (λ p. record { kind = p.0; name = p.1 }) (behind column_start (both type_at b_varchar_at)) bytes
@@ -182,15 +178,11 @@ abbrev pub framed : {A : Type 0} → (List ℕ → Option (A × List ℕ)) → L
 framed read bytes = body_at bytes >>= λ body. read body.0 >>= λ x. at_end x.0 x.1 body.1
 
 unfoldable pub login_ack_at : List ℕ → Option (Token × List ℕ)
-login_ack_at bytes = made (λ p. LoginAck p.0 p.1.0 p.1.1) (behind (1 ∷ []) (both big_number_at (both b_varchar_at big_number_at))) bytes
-
--- the server's name behind its count
-abbrev pub server : List ℕ
-server = 5 ∷ 0x74 ∷ 0 ∷ 0x73 ∷ 0 ∷ 0x71 ∷ 0 ∷ 0x6C ∷ 0 ∷ 0x64 ∷ 0 ∷ []
+login_ack_at bytes = made (λ p. LoginAck p.0 p.1.0 p.1.1) (behind (sql_tsql ∷ []) (both big_number_at (both b_varchar_at big_number_at))) bytes
 
 -- a notice's text, and behind the server's name the procedure and the line
 unfoldable pub said_at : List ℕ → Option ((List ℕ × (List ℕ × ℤ)) × List ℕ)
-said_at bytes = both us_varchar_at (behind server (both b_varchar_at (signed_at w32))) bytes
+said_at bytes = both us_varchar_at (behind (b_varchar server_name) (both b_varchar_at (signed_at w32))) bytes
 
 unfoldable pub notice_at : List ℕ → Option (Notice × List ℕ)
 notice_at bytes =
@@ -211,24 +203,25 @@ env_at bytes = byte_at bytes >>= λ kind. env_of kind.0 kind.1
 unfoldable pub finished_at : DoneKind → List ℕ → Option (Token × List ℕ)
 finished_at kind bytes = made (λ p. Finished kind p.0 p.1.0 p.1.1) (both (number_at w16) (both (number_at w16) (number_at w64))) bytes
 
--- which token each first byte begins
-abbrev pub tags : List (ℕ × Tag)
+-- the kinds of tokens
+abbrev pub tags : List Tag
 tags =
-    (0x79, kinds.ReturnStatus)
-    ∷ (0x81, kinds.Columns)
-    ∷ (0xAA, kinds.Error)
-    ∷ (0xAB, kinds.Info)
-    ∷ (0xAD, kinds.LoginAck)
-    ∷ (0xD1, kinds.Row)
-    ∷ (0xE3, kinds.Env)
-    ∷ (0xFD, kinds.Finished Done)
-    ∷ (0xFE, kinds.Finished Proc)
-    ∷ (0xFF, kinds.Finished InProc)
+    kinds.ReturnStatus
+    ∷ kinds.Columns
+    ∷ kinds.Error
+    ∷ kinds.Info
+    ∷ kinds.LoginAck
+    ∷ kinds.Row
+    ∷ kinds.Env
+    ∷ kinds.Finished Done
+    ∷ kinds.Finished Proc
+    ∷ kinds.Finished InProc
     ∷ []
 
-abbrev pub look_up : ℕ → List (ℕ × Tag) → Option Tag
+-- the first of them that the byte begins
+abbrev pub look_up : ℕ → List Tag → Option Tag
 look_up byte [] = None
-look_up byte (entry ∷ entries) = if byte == entry.0 then Some entry.1 else look_up byte entries
+look_up byte (tag ∷ tags) = if byte == tag_byte tag then Some tag else look_up byte tags
 
 unfoldable pub tag_at : List ℕ → Option (Tag × List ℕ)
 tag_at bytes = byte_at bytes >>= λ first. look_up first.0 tags >>= λ tag. Some (tag, first.1)

@@ -14,6 +14,8 @@ use Rattle.tds_tokens.specs.declared.token.DoneKind.{DoneKind}
 use Rattle.tds_tokens.specs.declared.token.DoneKind.TheVariants.{Done, Proc, InProc}
 use Rattle.tds_tokens.specs.declared.token.Token.{Token}
 use Rattle.tds_tokens.specs.declared.token.Token.TheVariants.{LoginAck, Error, Info, EnvText, EnvBytes, Columns, Row, ReturnStatus, Finished}
+use Rattle.tds_tokens.specs.declared.reading.tag.Tag.{Tag}
+use Rattle.tds_tokens.specs.declared.reading.tag.Tag.TheVariants as kinds
 
 -- B_VARCHAR (2.2.5.2.2): a count of units in one byte, and the units
 abbrev pub b_varchar : List ℕ → List ℕ
@@ -35,14 +37,24 @@ server_name = codes "tsqld"
 abbrev pub collation : List ℕ
 collation = 0x09 ∷ 0x04 ∷ 0x00 ∷ 0x02 ∷ 0x00 ∷ []
 
--- TYPE_INFO (2.2.5.6): INTNTYPE, BITNTYPE or NVARCHARTYPE, the size in bytes, and a text's collation
+-- the type of whole numbers, of bits and of texts (2.2.5.4.2)
+abbrev pub intntype : ℕ
+intntype = 0x26
+
+abbrev pub bitntype : ℕ
+bitntype = 0x68
+
+abbrev pub nvarchartype : ℕ
+nvarchartype = 0xE7
+
+-- TYPE_INFO (2.2.5.6): the type, the size in bytes, and a text's collation
 abbrev pub type_info : SqlType → List ℕ
-type_info TinyInt = 0x26 ∷ 1 ∷ []
-type_info SmallInt = 0x26 ∷ 2 ∷ []
-type_info Int = 0x26 ∷ 4 ∷ []
-type_info BigInt = 0x26 ∷ 8 ∷ []
-type_info BitType = 0x68 ∷ 1 ∷ []
-type_info (NText size) = 0xE7 ∷ to_le_bytes w16 (2 * size) ++ collation
+type_info TinyInt = intntype ∷ 1 ∷ []
+type_info SmallInt = intntype ∷ 2 ∷ []
+type_info Int = intntype ∷ 4 ∷ []
+type_info BigInt = intntype ∷ 8 ∷ []
+type_info BitType = bitntype ∷ 1 ∷ []
+type_info (NText size) = nvarchartype ∷ to_le_bytes w16 (2 * size) ++ collation
 
 -- a number behind its length, in two's complement
 abbrev pub int_bytes : Width → ℤ → List ℕ
@@ -66,9 +78,13 @@ row_bytes [] values = []
 row_bytes (column ∷ columns) [] = []
 row_bytes (column ∷ columns) (value ∷ values) = value_bytes column.kind value ++ row_bytes columns values
 
--- ColumnData (2.2.7.4): user type 0, the flag fNullable, the type and the name
+-- what stands before a column's type: user type 0 and the flag fNullable
+abbrev pub column_start : List ℕ
+column_start = 0 ∷ 0 ∷ 0 ∷ 0 ∷ 1 ∷ 0 ∷ []
+
+-- ColumnData (2.2.7.4): its start, the type and the name
 abbrev pub column_bytes : ColumnInfo → List ℕ
-column_bytes column = to_le_bytes w32 0 ++ to_le_bytes w16 1 ++ type_info column.kind ++ b_varchar column.name
+column_bytes column = column_start ++ type_info column.kind ++ b_varchar column.name
 
 -- ERROR (2.2.7.10) behind its length: number, state, class, text, server, procedure and line
 abbrev pub notice_bytes : Notice → List ℕ
@@ -76,9 +92,13 @@ notice_bytes notice = to_le_bytes w32 (cast_unsigned w32 notice.number) ++ (noti
     ++ us_varchar notice.text ++ b_varchar server_name ++ b_varchar notice.procedure
     ++ to_le_bytes w32 (cast_unsigned w32 notice.line)
 
--- LOGINACK (2.2.7.14) behind its length: interface 1, the version, the program's name, its release
+-- the interface of LOGINACK: Transact-SQL
+abbrev pub sql_tsql : ℕ
+sql_tsql = 1
+
+-- LOGINACK (2.2.7.14) behind its length: the interface, the version, the program's name, its release
 abbrev pub login_ack_bytes : ℕ → List ℕ → ℕ → List ℕ
-login_ack_bytes version program release = 1 ∷ to_be_bytes w32 version ++ b_varchar program ++ to_be_bytes w32 release
+login_ack_bytes version program release = sql_tsql ∷ to_be_bytes w32 version ++ b_varchar program ++ to_be_bytes w32 release
 
 -- B_VARBYTE (2.2.5.2.3): a count of bytes in one byte, and the bytes
 abbrev pub b_varbyte : List ℕ → List ℕ
@@ -90,18 +110,29 @@ done_tag Done = 0xFD
 done_tag Proc = 0xFE
 done_tag InProc = 0xFF
 
+-- the first byte of each token (2.2.7)
+abbrev pub tag_byte : Tag → ℕ
+tag_byte kinds.ReturnStatus = 0x79
+tag_byte kinds.Columns = 0x81
+tag_byte kinds.Error = 0xAA
+tag_byte kinds.Info = 0xAB
+tag_byte kinds.LoginAck = 0xAD
+tag_byte kinds.Row = 0xD1
+tag_byte kinds.Env = 0xE3
+tag_byte (kinds.Finished kind) = done_tag kind
+
 -- a token, where the latest COLMETADATA before it described these columns
 abbrev pub token_bytes : List ColumnInfo → Token → List ℕ
-token_bytes columns (LoginAck version program release) = 0xAD ∷ with_length (login_ack_bytes version program release)
-token_bytes columns (Error notice) = 0xAA ∷ with_length (notice_bytes notice)
-token_bytes columns (Info notice) = 0xAB ∷ with_length (notice_bytes notice)
-token_bytes columns (EnvText kind fresh former) = 0xE3 ∷ with_length (kind ∷ b_varchar fresh ++ b_varchar former)
-token_bytes columns (EnvBytes kind fresh former) = 0xE3 ∷ with_length (kind ∷ b_varbyte fresh ++ b_varbyte former)
-token_bytes columns (Columns described) = 0x81 ∷ to_le_bytes w16 (length described) ++ flat_map column_bytes described
-token_bytes columns (Row values) = 0xD1 ∷ row_bytes columns values
-token_bytes columns (ReturnStatus status) = 0x79 ∷ to_le_bytes w32 (cast_unsigned w32 status)
+token_bytes columns (LoginAck version program release) = tag_byte kinds.LoginAck ∷ with_length (login_ack_bytes version program release)
+token_bytes columns (Error notice) = tag_byte kinds.Error ∷ with_length (notice_bytes notice)
+token_bytes columns (Info notice) = tag_byte kinds.Info ∷ with_length (notice_bytes notice)
+token_bytes columns (EnvText kind fresh former) = tag_byte kinds.Env ∷ with_length (kind ∷ b_varchar fresh ++ b_varchar former)
+token_bytes columns (EnvBytes kind fresh former) = tag_byte kinds.Env ∷ with_length (kind ∷ b_varbyte fresh ++ b_varbyte former)
+token_bytes columns (Columns described) = tag_byte kinds.Columns ∷ to_le_bytes w16 (length described) ++ flat_map column_bytes described
+token_bytes columns (Row values) = tag_byte kinds.Row ∷ row_bytes columns values
+token_bytes columns (ReturnStatus status) = tag_byte kinds.ReturnStatus ∷ to_le_bytes w32 (cast_unsigned w32 status)
 token_bytes columns (Finished kind status command rows) =
-    done_tag kind ∷ to_le_bytes w16 status ++ to_le_bytes w16 command ++ to_le_bytes w64 rows
+    tag_byte (kinds.Finished kind) ∷ to_le_bytes w16 status ++ to_le_bytes w16 command ++ to_le_bytes w64 rows
 
 -- the columns that rows have after a token
 abbrev pub columns_after : List ColumnInfo → Token → List ColumnInfo

@@ -10,7 +10,7 @@
 //! let text = Units::of_ascii(alloc, b"Divide by zero error encountered.")?;
 //! let reply = vec![in alloc;
 //!     Token::Error(Notice::new(8134, 1, 16, text, Units::new(alloc), 1)),
-//!     Token::Finished { kind: DoneKind::Done, status: 0x02, command: 0xC1, rows: 0 },
+//!     Token::Finished { kind: DoneKind::Done, status: DONE_ERROR, command: 0xC1, rows: 0 },
 //! ]?;
 //! let mut out = Vec::new(alloc);
 //! write_tokens(&reply, &mut out)?;
@@ -20,6 +20,7 @@
 
 mod bytes;
 mod columns;
+mod done;
 mod fault;
 mod notice;
 mod reading;
@@ -32,6 +33,7 @@ mod writing;
 
 pub use bytes::Bytes;
 pub use columns::{ColumnInfo, ColumnList};
+pub use done::{DONE_ATTN, DONE_COUNT, DONE_ERROR, DONE_FINAL, DONE_MORE};
 pub use fault::TokenFault;
 pub use notice::{Notice, TEXT_LIMIT};
 pub use reading::{law_tokens, read_tokens};

@@ -80,13 +80,13 @@ fn select_1(alloc: Global) -> Result<Vec<Token>, Fail>
         Token::Row(Row::from(values)),
         Token::Finished {
             kind: DoneKind::Done,
-            status: 0x11,
+            status: DONE_MORE | DONE_COUNT,
             command: 0xC1,
             rows: 1
         },
         Token::Finished {
             kind: DoneKind::Done,
-            status: 0,
+            status: DONE_FINAL,
             command: 0,
             rows: 0
         },
@@ -103,13 +103,13 @@ fn divide(alloc: Global) -> Result<Vec<Token>, Fail>
         Token::Error(notice),
         Token::Finished {
             kind: DoneKind::Done,
-            status: 3,
+            status: DONE_MORE | DONE_ERROR,
             command: 0xC1,
             rows: 0
         },
         Token::Finished {
             kind: DoneKind::Done,
-            status: 0,
+            status: DONE_FINAL,
             command: 0,
             rows: 0
         },
@@ -144,7 +144,7 @@ fn login(alloc: Global) -> Result<Vec<Token>, Fail>
         },
         Token::Finished {
             kind: DoneKind::Done,
-            status: 0,
+            status: DONE_FINAL,
             command: 0,
             rows: 0
         },

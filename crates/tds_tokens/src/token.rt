@@ -63,8 +63,8 @@ pub enum Token {
     Finished {
         /// Which of the three.
         kind: DoneKind,
-        /// The status bits: 0x01 more follows, 0x02 error, 0x10 the count is valid, 0x20 an
-        /// attention is answered.
+        /// The status: `DONE_FINAL`, or those of the bits `DONE_MORE`, `DONE_ERROR`, `DONE_COUNT`
+        /// and `DONE_ATTN` that hold.
         status: u16,
         /// The kind of statement: 0xC1 SELECT, 0xC3 INSERT, 0xC4 DELETE, 0xC5 UPDATE, else 0.
         command: u16,

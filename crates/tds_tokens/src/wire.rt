@@ -30,8 +30,8 @@ pub(crate) const DONEPROC: u8 = 0xFE;
 /// The tag of DONEINPROC (2.2.7.7).
 pub(crate) const DONEINPROC: u8 = 0xFF;
 
-/// The interface of LOGINACK: Transact-SQL.
-pub(crate) const INTERFACE: u8 = 1;
+/// The interface of LOGINACK, SQL_TSQL: Transact-SQL (2.2.7.14).
+pub(crate) const SQL_TSQL: u8 = 1;
 
 /// The type of whole numbers that may be NULL (2.2.5.4.2).
 pub(crate) const INTNTYPE: u8 = 0x26;

@@ -16,8 +16,8 @@ use crate::sizes::{env_bytes_size, env_text_size, login_ack_size, notice_size, t
 use crate::token::{DoneKind, Token};
 use crate::values::{put_type, put_values};
 use crate::wire::{
-    COLMETADATA, COLUMN_START, DONE, DONEINPROC, DONEPROC, ENVCHANGE, ERROR, INFO, INTERFACE,
-    LOGINACK, RETURNSTATUS, ROW, SERVER,
+    COLMETADATA, COLUMN_START, DONE, DONEINPROC, DONEPROC, ENVCHANGE, ERROR, INFO, LOGINACK,
+    RETURNSTATUS, ROW, SERVER, SQL_TSQL,
 };
 use value_types::{Memory, Units, Value};
 
@@ -97,7 +97,7 @@ fn put_login_ack(out: &mut Vec<u8>, version: u32, program: &Units, release: u32)
 {
     append(out, &[LOGINACK]);
     put_u16(out, login_ack_size(program) as u16);
-    append(out, &[INTERFACE]);
+    append(out, &[SQL_TSQL]);
     put_u32_be(out, version);
     put_b_varchar(out, program.as_slice());
     put_u32_be(out, release);

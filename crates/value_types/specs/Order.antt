@@ -1,4 +1,5 @@
--- The order of values. Texts are padded whole and then compared unit by unit; the code doesn't pad.
+-- Own: the order of values, with SQL's padding of texts. Texts are padded whole and then compared unit
+-- by unit; the code doesn't pad.
 use Rattle.std.specs.Prelude.{◌≡◌, ℕ, ◌-◌, max, List, ◌++◌, length, replicate, Option, None, Some}
 use Rattle.std.specs.Cmp.Lexicographic.{slice_cmp}
 use Rattle.std.specs.Ordering.{nat_cmp, int_cmp, bool_cmp, on, then_cmp}

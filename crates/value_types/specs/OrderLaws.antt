@@ -1,4 +1,6 @@
--- The laws of the orders of texts, values, keys and names of tables.
+-- Own: the orders of texts, values, keys and names of tables are total. These are proofs. They stand
+-- here because `src/key.rt` names `key_cmp_total` for its traits' laws, and a source file may import
+-- from `specs` alone. The code only compares two values; that all are in one order is said here.
 use Rattle.std.specs.Prelude.{◌≡◌, ℕ, ◌+◌, ◌-◌, ◌≤◌, max, List, [], ◌∷◌, ◌++◌, length, replicate, pos, Bool, false, ℤ, refl}
 use Rattle.std.proofs.Common.{sym, ◌∙◌, ap, subst, arith}
 use Rattle.std.proofs.lemmas.List.{append_assoc, length-append, length-replicate, replicate-append-replicate}

@@ -20,7 +20,7 @@ mod value;
 pub use characters::units_of_str;
 pub use key::{KEY_LIMIT, Key};
 pub use memory::Memory;
-pub use order::{compare, key_order, law_key_order};
+pub use order::{compare, key_order, law_key_order, prefix_order};
 pub use row::Row;
 pub use sql_type::SqlType;
 pub use table_name::{TableName, law_table_order};

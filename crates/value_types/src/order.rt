@@ -1,6 +1,6 @@
 //! The comparison of values, and the order of keys.
 
-ghost use Rattle.std.specs.Prelude.{◌≡◌, length, replicate};
+ghost use Rattle.std.specs.Prelude.{◌≡◌, length, replicate, take};
 ghost use Rattle.std.specs.Cmp.{IsTotalOrder};
 ghost use Rattle.std.specs.Cmp.Lexicographic.{slice_cmp};
 ghost use Rattle.std.specs.Ordering.{nat_cmp};
@@ -27,6 +27,15 @@ pub fn key_order(a: &Key, b: &Key) -> Ordering
     ensures { result ≡ key_cmp a.now b.now }
 {
     order_of_lists(a.as_slice(), b.as_slice())
+}
+
+/// How a key's first values, as many as the other key has, compare with that one.
+pub fn prefix_order(key: &Key, other: &Key) -> Ordering
+    ensures { result ≡ key_cmp (take (length other.now) key.now) other.now }
+{
+    let (values, others) = (key.as_slice(), other.as_slice());
+    let count = values.len().min(others.len());
+    order_of_lists(&values[..count], others)
 }
 
 /// All keys are in one total order.

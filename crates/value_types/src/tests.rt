@@ -1,8 +1,8 @@
 //! What no clause says: the printed examples, that calls succeed, and that maps take the keys.
 
 use crate::{
-    Key, Memory, Row, TableName, Units, UnitsFault, Value, compare, key_order, units_of_le,
-    units_of_str,
+    Key, Memory, Row, TableName, Units, UnitsFault, Value, compare, key_order, prefix_order,
+    units_of_le, units_of_str,
 };
 use std::alloc::Global;
 use std::cmp::Ordering::{self, Equal, Greater, Less};
@@ -102,6 +102,18 @@ fn keys_are_in_one_order(rt: HostRuntime) -> Result<(), Fail> {
             assert_eq!(rt; key_order(a, b), i.cmp(&j));
         }
     }
+    Ok(())
+}
+
+#[test]
+fn keys_are_compared_by_their_first_values(rt: HostRuntime) -> Result<(), Fail> {
+    let alloc = rt.alloc();
+    let one = key_of(alloc, Value::Whole(1))?;
+    let two = key_of(alloc, Value::Whole(2))?;
+    let pair = key_of_two(alloc, Value::Whole(1), Value::Bit(true))?;
+    assert_eq!(rt; prefix_order(&pair, &one), Equal);
+    assert_eq!(rt; prefix_order(&pair, &two), Less);
+    assert_eq!(rt; prefix_order(&one, &pair), Less);
     Ok(())
 }
 

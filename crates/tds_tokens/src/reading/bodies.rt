@@ -1,7 +1,8 @@
 //! Reading what stands behind a token's tag and length.
 
 ghost use Rattle.std.specs.Prelude.{◌≡◌};
-ghost use Rattle.tds_tokens.specs.Reading.{Gives, at_end, framed, login_ack_at, notice_at, said_at, env_at, env_of, finished_at};
+ghost use Rattle.tds_tokens.specs.Spelling.{b_varchar, server_name};
+ghost use Rattle.tds_tokens.specs.Reading.{Gives, strip, at_end, framed, login_ack_at, notice_at, said_at, env_at, env_of, finished_at};
 
 use crate::fault::ReadFault;
 use crate::notice::Notice;
@@ -9,7 +10,7 @@ use crate::reading::fields::{
     after, b_varbyte, b_varchar, body_at, i32_at, u8_at, u16_at, u32_be_at, u64_at, us_varchar,
 };
 use crate::token::{DoneKind, Token};
-use crate::wire::{INTERFACE, SERVER};
+use crate::wire::{SERVER, SQL_TSQL};
 use std::alloc::Global;
 use value_types::Units;
 
@@ -56,7 +57,7 @@ fn at_end<'a, X: Drop>(value: X, left: &[u8], rest: &'a [u8]) -> Result<(X, &'a 
 fn login_ack_at(alloc: Global, bytes: &[u8]) -> Result<(Token, &[u8]), ReadFault>
     ensures { Gives (λ x. (x.0, x.1.now)) result (login_ack_at bytes.now) }
 {
-    let rest = after(&[INTERFACE], bytes)?;
+    let rest = after(&[SQL_TSQL], bytes)?;
     let (version, rest) = u32_be_at(rest)?;
     let (program, rest) = b_varchar(alloc, rest)?;
     let (release, rest) = u32_be_at(rest)?;
@@ -94,10 +95,17 @@ fn said_at(alloc: Global, bytes: &[u8]) -> Result<((Units, Units, i32), &[u8]), 
     ensures { Gives (λ x. ((x.0.0, (x.0.1, x.0.2)), x.1.now)) result (said_at bytes.now) }
 {
     let (text, rest) = us_varchar(alloc, bytes)?;
-    let rest = after(&SERVER, rest)?;
+    let rest = after_server(rest)?;
     let (procedure, rest) = b_varchar(alloc, rest)?;
     let (line, rest) = i32_at(rest)?;
     Ok(((text, procedure, line), rest))
+}
+
+/// The bytes behind the server's name, with which they have to begin.
+fn after_server(bytes: &[u8]) -> Result<&[u8], ReadFault>
+    ensures { Gives (λ rest. rest.now) result (strip (b_varchar server_name) bytes.now) }
+{
+    after(&SERVER, bytes)
 }
 
 /// An ENVCHANGE token behind its length.
