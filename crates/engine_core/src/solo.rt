@@ -2,7 +2,7 @@
 
 ghost use Rattle.std.specs.Prelude.{◌≡◌, [], Some, is_some, IfSome, IfOk, OnErr, ◌++◌, ◌∷◌, All};
 ghost use Rattle.std.specs.Option.{option_map};
-ghost use Rattle.step_model.specs.Exchange.{Tells, IsSession, MayAsk};
+ghost use Rattle.step_model.specs.Exchange.{Tells, IsSession, MayAsk, CanReply, in_transaction_after, marks_after};
 ghost use Rattle.step_model.specs.Fits.{Fits};
 ghost use Rattle.step_model.specs.Step.{Step, opening};
 ghost use Rattle.engine_core.specs.Solo.{IsRunOf, solo_open, solo_marks};
@@ -101,11 +101,22 @@ impl Port for SoloPort {
 
     ghost told = { λ port. port.told };
 
+    ghost session = { λ port. port.session };
+
     ghost in_transaction = { solo_open };
 
     ghost marks = { solo_marks };
 
-    fn ask(&mut self, op: &Op, manner: Manner) -> Reply {
+    // Beside what the trait promises, each asking is a step of its engine.
+    fn ask(&mut self, op: &Op, manner: Manner) -> Reply
+        requires allowed { MayAsk (solo_open self.old) (solo_marks self.old) op.now manner }
+        ensures told { Tells self.old.told self.new.told (record { op = op.now; manner = manner; reply = result }) }
+        ensures session { self.new.session ≡ self.old.session }
+        ensures reply { CanReply op.now result }
+        ensures in_transaction { solo_open self.new ≡ in_transaction_after (solo_open self.old) op.now result }
+        ensures marks { solo_marks self.new ≡ marks_after (solo_marks self.old) op.now result }
+        ensures step { Step self.old.engine self.old.session op.now manner result self.new.engine }
+    {
         self.ask_engine(op, manner)
     }
 }

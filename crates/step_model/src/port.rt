@@ -12,6 +12,9 @@ pub trait Port {
     // The operations asked so far with their replies, where the port tells them.
     ghost told: { Self → Option (List Exchange) };
 
+    // The session for which it asks.
+    ghost session: { Self → ℕ };
+
     // Whether a transaction is open.
     ghost in_transaction: { Self → Bool };
 
@@ -22,6 +25,7 @@ pub trait Port {
     fn ask(&mut self, op: &Op, manner: Manner) -> Reply
         requires allowed { MayAsk (in_transaction self.old) (marks self.old) op.now manner }
         ensures told { Tells (told self.old) (told self.new) (record { op = op.now; manner = manner; reply = result }) }
+        ensures session { session self.new ≡ session self.old }
         ensures reply { CanReply op.now result }
         ensures in_transaction { in_transaction self.new ≡ in_transaction_after (in_transaction self.old) op.now result }
         ensures marks { marks self.new ≡ marks_after (marks self.old) op.now result };
