@@ -1,4 +1,1 @@
-pub mod Batch
-pub mod Talk
-pub mod Conversation
 pub mod Program

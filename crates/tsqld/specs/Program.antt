@@ -1,40 +1,55 @@
--- The words of the program and its statuses.
-use Rattle.std.specs.Prelude.{◌≡◌, ℕ, List, [], ◌∷◌, codes}
-use Rattle.tsqld.specs.declared.end.End.{End}
-use Rattle.tsqld.specs.declared.end.End.TheVariants.{Closed, Cut, BadHeader, TooLong, OutOfPlace, BadBatch, Spent, ReadFault, WriteFault, Memory}
-use Rattle.tds_packets.specs.declared.reader.MessageFault.{MessageFault}
-use Rattle.tds_packets.specs.declared.reader.MessageFault.TheVariants as reading
-use Rattle.tds_packets.specs.declared.sending.SendFault.{SendFault}
-use Rattle.tds_packets.specs.declared.sending.SendFault.TheVariants as sending
+-- The words of the program, its statuses, and what `pipe` does (own).
+use Rattle.std.specs.Prelude.{◌≡◌, ℕ, ◌<◌, ◌⊎◌, Bool, true, false, List, [], ◌∷◌, length, map, Option, None, Some, is_some, IfSome, codes}
+use Rattle.std.specs.List.{All}
+use Rattle.tds_packets.specs.declared.message.Message.{Message}
+use Rattle.tds_packets.specs.Stream.{Splits}
+use Rattle.tds_packets.specs.Reading.{byte_limit}
+use Rattle.step_model.specs.Exchange.{Exchange}
+use Rattle.step_model.specs.Fits.{Fits}
+use Rattle.step_model.specs.Step.{Engine, is_open}
+use Rattle.engine_core.specs.Solo.{IsRunOf}
+use Rattle.session_server.specs.declared.end.End.{End}
+use Rattle.session_server.specs.declared.end.End.TheVariants.{Closed, Cut, BadHeader, TooLong, OutOfPlace, BadBatch, Spent, ReadFault, WriteFault, Memory}
+use Rattle.session_server.specs.Conversation.{Conversation}
+use Rattle.session_server.specs.Talk.{talk_end, commits_in}
 
 -- the words are `pipe --bare`, each as its bytes
 abbrev pub IsPipe : List (List ℕ) → Type 0
 IsPipe words = words ≡ codes "pipe" ∷ codes "--bare" ∷ []
 
--- the status with which the program ends
-abbrev pub status_of : End → ℕ
-status_of Closed = 0
-status_of ReadFault = 3
-status_of WriteFault = 4
-status_of (Cut at) = 5
-status_of (BadHeader at) = 5
-status_of (TooLong at) = 5
-status_of (OutOfPlace at kind) = 5
-status_of (BadBatch fault) = 5
-status_of Spent = 5
-status_of Memory = 6
+-- The status at an end, where the port tells its exchanges or not. Where it doesn't, memory was wanting
+-- for one of them.
+abbrev pub status_of : Bool → End → ℕ
+status_of tells ReadFault = 3
+status_of tells WriteFault = 4
+status_of false end = 6
+status_of true Closed = 0
+status_of true (Cut at) = 5
+status_of true (BadHeader at) = 5
+status_of true (TooLong at) = 5
+status_of true (OutOfPlace at kind) = 5
+status_of true (BadBatch fault) = 5
+status_of true Spent = 5
+status_of true Memory = 6
 
--- the end of a connection for which no message comes
-abbrev pub end_of_message : MessageFault → End
-end_of_message reading.Closed = Closed
-end_of_message (reading.Cut at) = Cut at
-end_of_message (reading.BadHeader at) = BadHeader at
-end_of_message (reading.TooLong at) = TooLong at
-end_of_message reading.ReadFault = ReadFault
-end_of_message reading.Memory = Memory
-end_of_message reading.Spent = Spent
+-- Session 1 was served, over an engine before any step, in which it stepped alone. `gave` says which
+-- bytes came from the source, in which `left` are left.
+pub record Piped (gave : List ℕ → Type 0) (left sink_before sink_after : Option (List ℕ)) (status : ℕ) : Type 0 where
+  pub end : End
+  pub told : Option (List Exchange)
+  pub engine : Engine
+  pub status_is : status ≡ status_of (is_some told) end
+  pub conversation : Conversation 1 gave left (Some []) told sink_before sink_after end
+  -- what the port tells is a run of this session alone that leads to the engine, and fits its log
+  pub run : IsRunOf 1 told engine
+  pub fits : IfSome told (λ exchanges. Fits 1 [] engine.log exchanges)
+  -- the commits of the log are the conversation's, each once, in order, and no others
+  pub commits : IfSome told (λ _. map (λ commit. commit.changes) engine.log ≡ commits_in conversation.responses)
+  pub own : All (λ commit. commit.session ≡ 1) engine.log
+  -- no transaction is left open
+  pub ended : is_open 1 engine.active ≡ false
 
--- the end of a connection whose reply could not be sent
-abbrev pub end_of_sending : SendFault → End
-end_of_sending sending.WriteFault = WriteFault
-end_of_sending sending.Memory = Memory
+-- Where the source told its bytes, and they are fewer than 2^40 and whole messages of which none ends
+-- the talk: all were answered, or memory was wanting.
+abbrev pub EndsWell : Option (List ℕ) → ℕ → Type 0
+EndsWell told status = IfSome told (λ bytes. length bytes < byte_limit → (messages : List Message) → Splits bytes messages [] → talk_end messages ≡ None → (status ≡ 0) ⊎ (status ≡ 6))

@@ -1,19 +1,14 @@
 //! `tsqld`, a database server in memory that speaks [MS-TDS] 7.4.
 //!
-//! Read `specs/Talk.antt` first, then `specs/Conversation.antt`. The program's theorem is the
-//! contract of [`program::run_program`]: which bytes are written for those that come in, and what
+//! Read `specs/Program.antt` first. The program's theorem is the contract of
+//! [`program::run_program`]: what is asked, written and committed for the bytes that come in, and what
 //! each status says.
 #![tactic(auto)]
 
-mod batch;
-mod config;
-mod end;
 mod program;
-mod serving;
 #[cfg(test)]
 mod tests;
 
-use end::End;
 use outside_io::{ReadSource, WriteSink};
 use std::env::{self, Env};
 use std::io;
@@ -23,7 +18,7 @@ fn main(rt: HostRuntime) -> ExitCode {
     let words = match words_of(&rt) {
         Ok(words) => words,
         Err(e) if e.kind() == io::ErrorKind::OutOfMemory => return ExitCode::from(
-            End::Memory.status(),
+            program::NO_MEMORY,
         ),
         Err(_) => return ExitCode::from(program::NO_COMMAND),
     };

@@ -1,39 +1,40 @@
 //! The program.
 
-ghost use Rattle.std.specs.Prelude.{◌≡◌, ◌≢◌, ◌<◌, ◌≤◌, ◌⊎◌, List, [], length, map, string_bytes, None, IfSome, IsTrue, ◌↔◌};
-ghost use Rattle.std.specs.Io.KnownBytes.{Appends};
+ghost use Rattle.std.specs.Prelude.{◌≡◌, ◌≢◌, ◌≤◌, map, string_bytes, IsTrue, ◌↔◌};
 ghost use Rattle.outside_io.specs.Bytes.{Takes, HasRisen};
-ghost use Rattle.tds_packets.specs.declared.message.Message.{Message as Msg};
-ghost use Rattle.tds_packets.specs.Stream.{Splits};
-ghost use Rattle.tds_packets.specs.Reading.{byte_limit};
-ghost use Rattle.tsqld.specs.declared.end.End.{End};
-ghost use Rattle.tsqld.specs.Conversation.{Conversation};
-ghost use Rattle.tsqld.specs.Talk.{Talk, talk_end, Bytes};
-ghost use Rattle.tsqld.specs.Program.{IsPipe, status_of};
+ghost use Rattle.tsqld.specs.Program.{IsPipe, Piped, EndsWell, status_of};
 
-use crate::config::{Config, Entry};
-use crate::serving::serve_on_port;
+use engine_core::SoloPort;
 use outside_io::{Sink, Source};
+use session_server::{Config, End, Entry, serve_on_port};
 use std::alloc::Global;
 use value_types::Units;
 
 /// The status where the words are no command.
 pub(crate) const NO_COMMAND: u8 = 2;
 
+/// The status where memory was wanting.
+pub(crate) const NO_MEMORY: u8 = 6;
+
+/// The session that `pipe` serves.
+const SESSION: u32 = 1;
+
 /// Does all that the program does, for the words after its name. So far `pipe --bare` serves one
-/// connection of session 1, logged in from the beginning, and all other words are no command.
+/// connection of session 1, logged in from the beginning, over an engine of its own, and all other
+/// words are no command.
 ///
 /// The status is 0 where the connection was closed, 2 where the words are no command, 3 where
-/// reading failed, 4 where writing failed, 5 at any other end and 6 where memory was wanting.
+/// reading failed, 4 where writing failed, 6 where memory was wanting, for the connection or for the
+/// list of what it asked, and 5 at any other end.
 pub fn run_program<S: Source, K: Sink>(
     alloc: Global,
     words: &[String],
     input: &mut S,
     output: &mut K,
 ) -> u8
-    // What was written for the bytes taken, and the status.
-    ensures conversation { IsPipe (map string_bytes words.now) → (end : End) × (result ≡ status_of end)
-        × Conversation 1 (Takes S.left S.given input.old input.new) (S.left input.new) (K.written output.old) (K.written output.new) end }
+    // What was taken, asked, written and committed, and the status.
+    ensures conversation { IsPipe (map string_bytes words.now)
+        → Piped (Takes S.left S.given input.old input.new) (S.left input.new) (K.written output.old) (K.written output.new) result }
     ensures refused { ¬ (IsPipe (map string_bytes words.now)) → (result ≡ 2) × (input.new ≡ input.old) × (output.new ≡ output.old) }
 
     // When 3 and 4 come.
@@ -44,10 +45,7 @@ pub fn run_program<S: Source, K: Sink>(
     ensures counted { (S.faults input.old ≤ S.faults input.new) × (K.faults output.old ≤ K.faults output.new) }
 
     // Where nothing fails and the input is whole messages in their places, all of them are answered.
-    ensures complete { IsPipe (map string_bytes words.now) → ¬ (HasRisen (S.faults input.old) (S.faults input.new))
-        → ¬ (HasRisen (K.faults output.old) (K.faults output.new))
-        → IfSome (S.left input.old) (λ bytes. length bytes < byte_limit → (messages : List Msg) → Splits bytes messages []
-        → talk_end messages ≡ None → ((result ≡ 0) × Appends (K.written output.old) (K.written output.new) (Bytes 51 (Talk messages))) ⊎ (result ≡ 6)) }
+    ensures complete { IsPipe (map string_bytes words.now) → result ≢ 3 → result ≢ 4 → EndsWell (S.left input.old) result }
 {
     if !is_pipe(words) {
         return NO_COMMAND;
@@ -57,7 +55,23 @@ pub fn run_program<S: Source, K: Sink>(
         password: Units::new(alloc),
         entry: Entry::Bare,
     };
-    serve_on_port(alloc, 1, &config, input, output).status()
+    let mut port = SoloPort::new(alloc, SESSION);
+    let end = serve_on_port(alloc, SESSION, &mut port, &config, input, output);
+    status_of(end, port.tells())
+}
+
+/// The status at an end, where the port tells its exchanges or not.
+fn status_of(end: End, tells: bool) -> u8
+    ensures { result ≡ status_of tells end }
+{
+    match end {
+        End::ReadFault => 3,
+        End::WriteFault => 4,
+        _ if !tells => NO_MEMORY,
+        End::Closed => 0,
+        End::Memory => NO_MEMORY,
+        _ => 5,
+    }
 }
 
 /// Whether the words are `pipe --bare`.

@@ -1,13 +1,9 @@
 ghost use Rattle.std.specs.Prelude.{◌<◌};
 
-use super::config::{Config, Entry};
-use super::end::{BatchFault, End};
 use super::program::run_program;
-use super::serving::serve_on_port;
 use outside_io::{MemorySink, MemorySource};
 use std::alloc::{AllocError, Global};
 use std::test::*;
-use value_types::Units;
 
 /// The packet header and ALL_HEADERS of a batch, whose Length is still to be set.
 const BATCH_HEADERS: [u8; 30] = [
@@ -179,65 +175,6 @@ fn faults_end_a_connection(rt: HostRuntime) -> Result<(), Fail> {
     let status = run_program(alloc, &words, &mut source, &mut second_fails);
     assert_eq!(rt; status, 4, "the second write fails");
     assert_eq!(rt; second_fails.into_bytes().as_slice(), &ONE[..7]);
-    Ok(())
-}
-
-/// The end of a connection over these bytes, and what it wrote.
-fn serve(alloc: Global, input: &[u8]) -> Result<(End, Vec<u8>), Fail> {
-    let config = Config {
-        user: Units::of_ascii(alloc, b"sa").ok().ok_or("memory")?,
-        password: Units::of_ascii(alloc, b"A").ok().ok_or("memory")?,
-        entry: Entry::Bare,
-    };
-    let mut source = MemorySource::new(input.to_vec(alloc)?, 4096, Vec::new(alloc));
-    let mut sink = MemorySink::new(alloc, 4096, Vec::new(alloc));
-    let end = serve_on_port(alloc, 1, &config, &mut source, &mut sink);
-    Ok((end, sink.into_bytes()))
-}
-
-#[test]
-fn ends_are_at_their_offsets(rt: HostRuntime) -> Result<(), Fail> {
-    let alloc = rt.alloc();
-    let login = header(0x10, 0x01, 8);
-    let second_login = joined(alloc, &[&SELECT_ONE, &login, &SELECT_ONE])?;
-    let past_limit = past_the_limit(alloc)?;
-    let place = End::OutOfPlace { at: 46, kind: 0x10 };
-    let cases: [(&str, &[u8], End, &[u8]); 5] = [
-        (
-            "Length 7",
-            &header(0x01, 1, 7),
-            End::BadHeader { at: 0 },
-            &[],
-        ),
-        ("type 2", &header(0x02, 1, 8), End::BadHeader { at: 0 }, &[]),
-        ("a header alone", &SELECT_ONE[..8], End::Cut { at: 8 }, &[]),
-        ("limit", &past_limit, End::TooLong { at: 1_048_560 }, &[]),
-        ("a login", &second_login, place, &ONE),
-    ];
-    for (name, input, end, output) in cases {
-        let (ended, written) = serve(alloc, input)?;
-        assert_eq!(rt; ended, end, "{name}");
-        assert_eq!(rt; written.as_slice(), output, "{name}");
-    }
-    Ok(())
-}
-
-#[test]
-fn batches_that_cannot_be_read_end_a_connection(rt: HostRuntime) -> Result<(), Fail> {
-    let alloc = rt.alloc();
-    let cases: [(&[u8], BatchFault); 5] = [
-        (&[], BatchFault::HeadersShort),
-        (&[4, 0, 0], BatchFault::HeadersShort),
-        (&[5, 0, 0, 0], BatchFault::HeadersTotal),
-        (&[3, 0, 0, 0], BatchFault::HeadersTotal),
-        (&[4, 0, 0, 0, 0x53], BatchFault::OddText),
-    ];
-    for (payload, fault) in cases {
-        let input = batch_of(alloc, payload)?;
-        let (end, written) = serve(alloc, &input)?;
-        assert_eq!(rt; end, End::BadBatch { fault });
-        assert_eq!(rt; written.len(), 0);
-    }
     Ok(())
 }
 

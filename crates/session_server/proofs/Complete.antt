@@ -1,0 +1,65 @@
+-- A connection whose source is whole messages in their places ends by being closed, or for want of memory.
+use Rattle.std.proofs.Common.{◌≡◌, ℕ, ◌-◌, ◌<◌, List, [], ◌∷◌, ◌++◌, length, Option, None, Some, Err, refl, sym, ap, subst, ◌∙◌, arith, length-append, inl, inr}
+use Rattle.std.specs.Prelude.{◌⊎◌}
+use Rattle.std.specs.Io.KnownBytes.{Consumes, IsAtEnd}
+use Rattle.tds_packets.specs.declared.message.Message.{Message}
+use Rattle.tds_packets.specs.declared.reader.MessageFault.{MessageFault}
+use Rattle.tds_packets.specs.declared.reader.MessageFault.TheVariants as reading
+use Rattle.tds_packets.specs.Stream.{Joins}
+use Rattle.tds_packets.specs.Reading.{StopsBy, IsEnd, OnCut, byte_limit}
+use Rattle.tds_packets.proofs.Joined.{left_whole}
+use Rattle.tds_packets.proofs.Ends.{refuses_none}
+use Rattle.step_model.specs.Exchange.{Exchange}
+use Rattle.session_server.specs.declared.end.End.{End}
+use Rattle.session_server.specs.declared.end.End.TheVariants.{Closed, Memory, ReadFault}
+use Rattle.session_server.specs.Conversation.{Completes}
+use Rattle.session_server.specs.Ends.{end_of_message}
+use Rattle.session_server.specs.Parts.{IsEndOf}
+use Rattle.session_server.specs.Talk.{Handling, responds, ends, answer_to, talk_end}
+use Rattle.session_server.proofs.Talks.{end_more, end_front, end_made}
+
+-- nothing is left where the source ended within a message
+nothing_on_cut : (fault : MessageFault) (back : List ℕ) → (IsEnd {T = Message} (Err fault) → back ≡ []) → OnCut fault (back ≡ [])
+nothing_on_cut (reading.Cut place) back end = end tt
+nothing_on_cut fault back end = tt
+
+stopped_well : (front rest back : List ℕ) (messages others : List Message) (fault : MessageFault) → Joins 0 ((front ++ rest) ++ back) messages [] → Joins 0 (front ++ rest) others rest
+    → length ((front ++ rest) ++ back) < byte_limit → StopsBy (length (front ++ rest) - length rest) rest fault → (IsEnd {T = Message} (Err fault) → back ≡ []) → (end_of_message fault ≡ ReadFault → ⊥)
+    → (end_of_message fault ≡ Closed) ⊎ (end_of_message fault ≡ Memory)
+stopped_well front rest back messages others reading.Closed whole taken short stops end none = inl refl
+stopped_well front rest back messages others reading.Memory whole taken short stops end none = inr refl
+stopped_well front rest back messages others reading.ReadFault whole taken short stops end none = absurd (none refl)
+stopped_well front rest back messages others reading.Spent whole taken short stops end none =
+    absurd (let no : ⊥ = omega (arith, stops.1, length-append (front ++ rest) back, length-append front rest) in no)
+stopped_well front rest back messages others (reading.Cut place) whole taken short stops end none =
+    absurd (refuses_none (front ++ rest) back messages others rest (reading.Cut place) whole taken stops (nothing_on_cut (reading.Cut place) back end))
+stopped_well front rest back messages others (reading.BadHeader place) whole taken short stops end none =
+    absurd (refuses_none (front ++ rest) back messages others rest (reading.BadHeader place) whole taken stops (nothing_on_cut (reading.BadHeader place) back end))
+stopped_well front rest back messages others (reading.TooLong place) whole taken short stops end none =
+    absurd (refuses_none (front ++ rest) back messages others rest (reading.TooLong place) whole taken stops (nothing_on_cut (reading.TooLong place) back end))
+
+-- no message came
+pub complete_stopped : (told after : Option (List ℕ)) (front rest : List ℕ) (others : List Message) (fault : MessageFault) → Consumes told after (front ++ rest) → Joins 0 (front ++ rest) others rest
+    → StopsBy (length (front ++ rest) - length rest) rest fault → (IsEnd {T = Message} (Err fault) → IsAtEnd after) → (end_of_message fault ≡ ReadFault → ⊥) → Completes told (end_of_message fault)
+complete_stopped None after front rest others fault took joined stops end none = tt
+complete_stopped (Some bytes) None front rest others fault took joined stops end none = absurd took
+complete_stopped (Some bytes) (Some back) front rest others fault took joined stops end none = λ short messages split in_place.
+    stopped_well front rest back messages others fault (subst (λ (s : List ℕ). Joins 0 s messages []) took split.joined) joined (subst (λ (s : List ℕ). length s < byte_limit) took short) stops end none
+
+-- the message that ends the talk is none of messages in their places
+made_well : (told_now told_next : Option (List Exchange)) (front back : List ℕ) (messages others : List Message) (message : Message) (end : End) (handling : Handling) → answer_to message ≡ handling → IsEndOf handling told_now told_next end → talk_end others ≡ None
+    → Joins 0 (front ++ back) messages [] → Joins 0 front (others ++ message ∷ []) [] → talk_end messages ≡ None → end ≡ Memory
+made_well told_now told_next front back messages others message Memory (responds tree) is of answered whole taken in_place = refl
+made_well told_now told_next front back messages others message end (responds tree) is of answered whole taken in_place = absurd of
+made_well told_now told_next front back messages others message end (ends made) is of answered whole taken in_place =
+    let left = left_whole 0 front back messages (others ++ message ∷ []) [] whole taken in
+    let none : talk_end (others ++ message ∷ []) ≡ None = end_front (others ++ message ∷ []) left.1 (ap talk_end (sym left.2) ∙ in_place) in
+    absurd (let no : ⊥ = cc (none, end_more others message answered, end_made message made is) in no)
+
+-- a message came for which nothing was sent
+pub complete_ended : (told after : Option (List ℕ)) (told_now told_next : Option (List Exchange)) (front : List ℕ) (others : List Message) (message : Message) (end : End) → Consumes told after front
+    → Joins 0 front (others ++ message ∷ []) [] → talk_end others ≡ None → IsEndOf (answer_to message) told_now told_next end → Completes told end
+complete_ended None after told_now told_next front others message end took joined answered of = tt
+complete_ended (Some bytes) None told_now told_next front others message end took joined answered of = absurd took
+complete_ended (Some bytes) (Some back) told_now told_next front others message end took joined answered of = λ short messages split in_place.
+    inr (made_well told_now told_next front back messages others message end (answer_to message) refl of answered (subst (λ (s : List ℕ). Joins 0 s messages []) took split.joined) joined in_place)

@@ -1,0 +1,22 @@
+-- The end of a connection for which no message comes, or whose reply could not be sent.
+use Rattle.session_server.specs.declared.end.End.{End}
+use Rattle.session_server.specs.declared.end.End.TheVariants.{Closed, Cut, BadHeader, TooLong, Spent, ReadFault, WriteFault, Memory}
+use Rattle.tds_packets.specs.declared.reader.MessageFault.{MessageFault}
+use Rattle.tds_packets.specs.declared.reader.MessageFault.TheVariants as reading
+use Rattle.tds_packets.specs.declared.sending.SendFault.{SendFault}
+use Rattle.tds_packets.specs.declared.sending.SendFault.TheVariants as sending
+
+-- no message comes
+abbrev pub end_of_message : MessageFault → End
+end_of_message reading.Closed = Closed
+end_of_message (reading.Cut at) = Cut at
+end_of_message (reading.BadHeader at) = BadHeader at
+end_of_message (reading.TooLong at) = TooLong at
+end_of_message reading.ReadFault = ReadFault
+end_of_message reading.Memory = Memory
+end_of_message reading.Spent = Spent
+
+-- a reply could not be sent
+abbrev pub end_of_sending : SendFault → End
+end_of_sending sending.WriteFault = WriteFault
+end_of_sending sending.Memory = Memory

@@ -1,0 +1,9 @@
+pub mod Talk
+pub mod Conversation
+pub mod Asking
+pub mod Text
+pub mod Tables
+pub mod Meaning
+pub mod Response
+pub mod Ends
+pub mod Parts
