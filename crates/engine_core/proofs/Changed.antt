@@ -12,7 +12,7 @@ use Rattle.value_types.specs.declared.value.Value.{Value}
 use Rattle.value_types.specs.Order.{key_cmp, table_cmp}
 use Rattle.step_model.specs.declared.change.Change.{Change}
 use Rattle.step_model.specs.Database.{Database, With, with_change, is_at}
-use Rattle.step_model.specs.Net.{put, by_table, change_cmp}
+use Rattle.step_model.specs.Net.{put, change_cmp}
 use Rattle.step_model.specs.Step.{Entry, Pending, place_cmp, seen, seen_at, entry_at, put_entry, put_before, change_by, changes_by}
 use Rattle.engine_core.specs.State.{entry_cmp, AreOrdered}
 use Rattle.engine_core.proofs.EntryOrder.{key_cmp_total, table_cmp_total}
@@ -92,13 +92,8 @@ with_seen session xs ordered db table key is = with_changes session xs ordered d
 -- ---- one insertion more
 
 -- changes go in the order of their entries
-then_same : (tables keys : Ordering) → by_table tables keys ≡ ordering_then tables keys
-then_same Less keys = refl
-then_same Equal keys = refl
-then_same Greater keys = refl
-
 cmp_same : (session : ℕ) (new x : Entry) (row : Option (List Value)) (change : Change) → change_by session x x.pending ≡ Some change → change_cmp (change_at new row) change ≡ entry_cmp new x
-cmp_same session new x row change made = rw (at_entry session x x.pending change made) (then_same (table_cmp new.table x.table) (key_cmp new.key x.key))
+cmp_same session new x row change made = rw (at_entry session x x.pending change made) refl
 
 -- a change of an entry below all others comes first
 put_first : (session : ℕ) (new : Entry) (row : Option (List Value)) (xs : List Entry) → AllByRecursion (λ y. entry_cmp new y ≡ Less) xs → put (changes_by session xs) (change_at new row) ≡ change_at new row ∷ changes_by session xs

@@ -7,13 +7,13 @@ use Rattle.step_model.specs.declared.change.Change.{Change}
 use Rattle.step_model.specs.Database.{With}
 use Rattle.step_model.specs.Log.{Commit as Logged, State, state_at}
 use Rattle.step_model.specs.Exchange.{Exchange}
-use Rattle.step_model.specs.Fits.{Fits, Along, own_after, place_of, place_or, all_numbers, numbers_of, NeverFall, AnswersIn, at_of, HoldsRange, FreshIn, committed_by, commits_of, StandsAt}
+use Rattle.step_model.specs.Fits.{Fits, Along, own_after, place_of, place_or, all_numbers, numbers_of, NeverFall, AnswersIn, at_of, HoldsRange, FreshIn, committed_by, commits_of, IsLoggedAt}
 use Rattle.step_model.specs.Step.{Engine, Run, asked_by, opening}
 use Rattle.step_model.proofs.Databases.{state_at_front}
 use Rattle.step_model.proofs.Numbers.{rise_behind}
 use Rattle.engine_core.specs.Solo.{IsRunOf}
 use Rattle.engine_core.proofs.Between.{Between, between_opening}
-use Rattle.engine_core.proofs.Placed.{current, held, fresh, holds_range, stands}
+use Rattle.engine_core.proofs.Placed.{current, held, fresh, holds_range, logged_at}
 use Rattle.engine_core.proofs.SoloSteps.{place_step, numbers_step, logged, log_step, step_between, answers_step, fresh_step}
 
 module _ (session : ℕ) (final : Engine) where
@@ -81,9 +81,9 @@ module _ (session : ℕ) (final : Engine) where
         fresh final.log own (With (State old.log) own) (length old.log) front exchange.op exchange.reply _ (place_now old (exchange ∷ later) run)
         (fresh_step old run.0 session own exchange.op exchange.manner exchange.reply between run.2)
 
-    commit_stands : StandsAt session final.log (committed_by exchange.op exchange.reply own) exchange.reply later
-    commit_stands =
-        stands session old.log run.0.log final.log (committed_by exchange.op exchange.reply own) (commits_of (own_after own exchange.op exchange.reply) later) exchange.reply later
+    commit_logged : IsLoggedAt session final.log (committed_by exchange.op exchange.reply own) exchange.reply later
+    commit_logged =
+        logged_at session old.log run.0.log final.log (committed_by exchange.op exchange.reply own) (commits_of (own_after own exchange.op exchange.reply) later) exchange.reply later
         (numbered own old exchange later between run) (grown own old exchange later between run) (grows own old (exchange ∷ later) between run)
         (rises (own_after own exchange.op exchange.reply) run.0 later (after own old exchange later between run) run.3)
 
@@ -106,13 +106,13 @@ module _ (session : ℕ) (exchanges : List Exchange) (engine : Engine) (run : Ru
   -- what the exchanges of a run say of its log
   pub run_fits : Fits session [] engine.log exchanges
   run_fits = record {
-    began = (engine.log, refl);
+    prefix = (engine.log, refl);
     numbers = rises session engine [] opening exchanges (between_opening session) run;
     fetches = from_opening _ (fetch_current session engine);
     ranges = from_opening _ (range_held session engine);
     inserts = from_opening _ (insert_fresh session engine);
     commits = (
-      from_opening _ (commit_stands session engine),
+      from_opening _ (commit_logged session engine),
       ap (λ (log : List Logged). map (λ (commit : Logged). commit.changes) (filter (λ (commit : Logged). commit.session == session) log)) whole ∙ own_commits session (commits_of [] exchanges),
     );
   }

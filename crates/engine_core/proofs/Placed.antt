@@ -11,7 +11,7 @@ use Rattle.step_model.specs.declared.reply.Reply.TheVariants.{Row, Gone, End, Do
 use Rattle.step_model.specs.Database.{Database}
 use Rattle.step_model.specs.Log.{Commit as Logged, state_at}
 use Rattle.step_model.specs.Exchange.{Exchange}
-use Rattle.step_model.specs.Fits.{place_or, all_numbers, numbers_of, NeverFall, AnswersIn, at_of, HoldsRange, FreshIn, StandsAt}
+use Rattle.step_model.specs.Fits.{place_or, all_numbers, numbers_of, NeverFall, AnswersIn, at_of, HoldsRange, FreshIn, IsLoggedAt}
 use Rattle.step_model.proofs.Numbers.{all_after}
 use Rattle.engine_core.proofs.SoloSteps.{logged}
 
@@ -48,13 +48,13 @@ pub holds_range : (op : Op) (P : Type 0) → P → HoldsRange op P
 holds_range (Fetch table start stop Range part) P here = here
 holds_range op P here = tt
 
--- a commit stands at its place, and the numbers behind are above it
-pub stands : (session : ℕ) (old new final : List Logged) (commits others : List (List Change)) (reply : Reply) (later : List Exchange) → AllByRecursion (λ number. number ≡ length old) (numbers_of reply) → new ≡ old ++ logged session commits → final ≡ old ++ logged session (commits ++ others) → NeverFall (length new) (all_numbers later) (length final) → StandsAt session final commits reply later
-stands session old new final (changes ∷ none) others (Ended place) later all more whole rise =
+-- a commit is in the log at its place, and the numbers behind are above it
+pub logged_at : (session : ℕ) (old new final : List Logged) (commits others : List (List Change)) (reply : Reply) (later : List Exchange) → AllByRecursion (λ number. number ≡ length old) (numbers_of reply) → new ≡ old ++ logged session commits → final ≡ old ++ logged session (commits ++ others) → NeverFall (length new) (all_numbers later) (length final) → IsLoggedAt session final commits reply later
+logged_at session old new final (changes ∷ none) others (Ended place) later all more whole rise =
     let at : place ≡ length old = all.0 in
     let grown : length new ≡ length old + length (logged session (changes ∷ none)) = ap length more ∙ length-append old (logged session (changes ∷ none)) in
     let below : place < length new = omega (arith, at, grown) in (
       ap (slice_get final) at ∙ ap (λ (log : List Logged). slice_get log (length old)) whole ∙ seam old (logged session (none ++ others)) (record { session = session; changes = changes }),
       All-from_recursion (λ number. place < number) (all_numbers later) (all_after place (length new) (length final) (all_numbers later) below rise),
     )
-stands session old new final commits others reply later all more whole rise = tt
+logged_at session old new final commits others reply later all more whole rise = tt

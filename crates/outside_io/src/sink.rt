@@ -18,7 +18,9 @@ pub trait Sink {
     // The bytes written so far, where it tells them.
     ghost written: { Self → Option (List ℕ) };
 
-    // How many faults there were. `HasRisen` says when one more was counted.
+    // How many faults were answered, as `Failed` or as 0 for a nonempty slice. `HasRisen` says when one more
+    // was counted. A sink that gets over a fault by itself does not count it, so `no_fault` asks more than
+    // that a failure comes only with a risen count.
     ghost faults: { Self → ℕ };
 
     /// Takes some bytes from the front of `from` and answers how many. An answer of 0 for a

@@ -16,7 +16,9 @@ pub trait Source {
     // The bytes that reads have given so far, where it tells those.
     ghost given: { Self → Option (List ℕ) };
 
-    // How many faults there were. `HasRisen` says when one more was counted.
+    // How many faults were answered, each as `Failed`. `HasRisen` says when one more was counted. A source
+    // that gets over a fault by itself does not count it, so `no_fault` asks more than that a failure comes
+    // only with a risen count.
     ghost faults: { Self → ℕ };
 
     /// Reads some bytes into the front of `into` and answers how many. An answer of 0 for a

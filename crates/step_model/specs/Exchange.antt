@@ -17,11 +17,15 @@ pub record Exchange : Type 0 where
   pub manner : Manner
   pub reply : Reply
 
--- one exchange more is told, or none any longer; what isn't told stays so
+-- these exchanges more are told, or none any longer; what isn't told stays so
+abbrev pub TellsAll : Option (List Exchange) → Option (List Exchange) → List Exchange → Type 0
+TellsAll before None exchanges = Unit {0}
+TellsAll None (Some after) exchanges = ⊥
+TellsAll (Some before) (Some after) exchanges = after ≡ before ++ exchanges
+
+-- one exchange more
 abbrev pub Tells : Option (List Exchange) → Option (List Exchange) → Exchange → Type 0
-Tells before None exchange = Unit {0}
-Tells None (Some after) exchange = ⊥
-Tells (Some before) (Some after) exchange = after ≡ before ++ exchange ∷ []
+Tells before after exchange = TellsAll before after (exchange ∷ [])
 
 -- the numbers of sessions
 abbrev pub IsSession : ℕ → Type 0
@@ -38,7 +42,8 @@ IsPartOfFetch U = Unit {0}
 IsPartOfFetch N = ⊥
 IsPartOfFetch X = ⊥
 
--- where an operation may come: a transaction is begun outside one, and everything else is asked inside one
+-- Where an operation may come: a transaction is begun outside one, and everything else is asked inside
+-- one. The live marks, here and in `MayAsk`, are used once there is an operation that goes back to one.
 abbrev pub MayCome : Bool → List ℕ → Op → Type 0
 MayCome in_transaction marks Begin = in_transaction ≡ false
 MayCome in_transaction marks (Fetch table start stop hold part) = (in_transaction ≡ true) × IsPartOfFetch part

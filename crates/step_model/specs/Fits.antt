@@ -124,21 +124,21 @@ commits_of own [] = []
 commits_of own (exchange ∷ later) = committed_by exchange.op exchange.reply own ++ commits_of (own_after own exchange.op exchange.reply) later
 
 -- a commit that changed something is in the log at its place, and what comes later is behind it
-abbrev pub StandsAt : ℕ → List Logged → List (List Change) → Reply → List Exchange → Type 0
-StandsAt session log (changes ∷ none) (Ended place) later =
+abbrev pub IsLoggedAt : ℕ → List Logged → List (List Change) → Reply → List Exchange → Type 0
+IsLoggedAt session log (changes ∷ none) (Ended place) later =
     (slice_get log place ≡ Some (record { session = session; changes = changes })) × All (λ number. place < number) (all_numbers later)
-StandsAt session log commits reply later = Unit {0}
+IsLoggedAt session log commits reply later = Unit {0}
 
 -- The commits of this session since entry are those of its exchanges, each once, at its place.
 abbrev pub commits_once : ℕ → List Logged → List Logged → List Exchange → Type 0
 commits_once session begin log mine =
-    Along (λ own exchange later. StandsAt session log (committed_by exchange.op exchange.reply own) exchange.reply later) [] mine
+    Along (λ own exchange later. IsLoggedAt session log (committed_by exchange.op exchange.reply own) exchange.reply later) [] mine
     × (map (λ commit. commit.changes) (filter (λ commit. commit.session == session) (drop (length begin) log)) ≡ commits_of [] mine)
 
 -- ---- all of them
 
 pub record Fits (session : ℕ) (begin log : List Logged) (mine : List Exchange) : Type 0 where
-  pub began : (later : List Logged) × (log ≡ begin ++ later)
+  pub prefix : (later : List Logged) × (log ≡ begin ++ later)
   pub numbers : numbers_rise begin log mine
   pub fetches : fetches_current log mine
   pub ranges : ranges_hold log mine

@@ -4,17 +4,13 @@
 use Rattle.std.specs.Prelude.{List, [], ◌∷◌, fold}
 use Rattle.std.specs.declared.cmp.Ordering.{Ordering}
 use Rattle.std.specs.declared.cmp.Ordering.TheVariants.{Less, Equal, Greater}
+use Rattle.std.specs.Ordering.{ordering_then}
 use Rattle.value_types.specs.Order.{key_cmp, table_cmp}
 use Rattle.step_model.specs.declared.change.Change.{Change}
 
--- tables first, then keys
-abbrev pub by_table : Ordering → Ordering → Ordering
-by_table Equal keys = keys
-by_table tables keys = tables
-
--- which of two changes stands first
+-- which of two changes stands first: by their tables, then by their keys
 abbrev pub change_cmp : Change → Change → Ordering
-change_cmp a b = by_table (table_cmp a.table b.table) (key_cmp a.key b.key)
+change_cmp a b = ordering_then (table_cmp a.table b.table) (key_cmp a.key b.key)
 
 -- a change in its place among others, instead of one at its key
 abbrev pub put_by : Ordering → Change → Change → List Change → List Change → List Change
