@@ -10,14 +10,8 @@ use Rattle.step_model.specs.declared.op.Hold.TheVariants.{Range}
 use Rattle.step_model.specs.declared.range.Start.TheVariants.{At}
 use Rattle.step_model.specs.declared.range.Stop.TheVariants.{Within}
 use Rattle.step_model.specs.declared.reply.Reply.{Reply}
-use Rattle.step_model.specs.Exchange.{Exchange, Tells}
-use Rattle.session_server.specs.Asking.{Question, row_at, Answer, IsNoRow, ReadAs, asked, Asks, TellsAll, Does}
-
--- one exchange more is a list of one more
-pub tells_one : (before after : Option (List Exchange)) (exchange : Exchange) → Tells before after exchange → TellsAll before after (exchange ∷ [])
-tells_one before None exchange told = tt
-tells_one None (Some after) exchange told = told
-tells_one (Some before) (Some after) exchange told = told
+use Rattle.step_model.specs.Exchange.{Exchange, Tells, TellsAll}
+use Rattle.session_server.specs.Asking.{Question, row_at, Answer, IsNoRow, ReadAs, asked, Asks, Does}
 
 -- one exchange answers one question
 pub asked_once : (before after : Option (List Exchange)) (manner : Manner) (question : Question) (op : Op) (reply : Reply) (answer : Answer question)
@@ -26,7 +20,7 @@ pub asked_once : (before after : Option (List Exchange)) (manner : Manner) (ques
 unfolding Asks
 asked_once before after manner question op reply answer told replies = record {
   exchanges = record { op = op; manner = manner; reply = reply } ∷ [];
-  told = tells_one before after (record { op = op; manner = manner; reply = reply }) told;
+  told = told;
   asks = (answer, record { op = op; manner = manner; reply = reply } ∷ [], [], refl, replies, (refl, refl));
 }
 

@@ -2,9 +2,9 @@
 use Rattle.std.proofs.Common.{◌≡◌, true, false, List, [], ◌++◌, Option, None, Some, Result, Ok, Err, refl, sym, ap, ◌∙◌, append_assoc, append-nil}
 use Rattle.std.specs.Result.{IsErr, IsErrAnd}
 use Rattle.step_model.specs.declared.manner.Manner.{Manner}
-use Rattle.step_model.specs.Exchange.{Exchange}
+use Rattle.step_model.specs.Exchange.{Exchange, TellsAll}
 use Rattle.session_server.specs.declared.effect.Failure.{Failure}
-use Rattle.session_server.specs.Asking.{Question, Answer, Asking, done, ask, asked, ◌then◌, Asks, TellsAll, Does}
+use Rattle.session_server.specs.Asking.{Question, Answer, Asking, done, ask, asked, ◌then◌, Asks, Does}
 use Rattle.session_server.specs.Meaning.{◌>>=◌}
 use Rattle.session_server.proofs.Trees.{asks_then, asks_bind, asks_bind_err}
 

@@ -17,13 +17,12 @@ use Rattle.step_model.specs.declared.range.Stop.{Stop}
 use Rattle.step_model.specs.declared.range.Stop.TheVariants.{Last}
 use Rattle.step_model.specs.declared.reply.Reply.{Reply}
 use Rattle.step_model.specs.declared.reply.Reply.TheVariants as replies
-use Rattle.step_model.specs.Exchange.{Exchange, Tells, in_transaction_after}
+use Rattle.step_model.specs.Exchange.{Exchange, Tells, in_transaction_after, TellsAll}
 use Rattle.session_server.specs.declared.asking.Refusal.{Refusal}
 use Rattle.session_server.specs.declared.asking.Refusal.TheVariants as refusals
-use Rattle.session_server.specs.Asking.{KeyedRows, Fetches, ReadsOn, with_row, range_limit, ReadAs, Asks, TellsAll}
+use Rattle.session_server.specs.Asking.{KeyedRows, Fetches, ReadsOn, with_row, range_limit, ReadAs, Asks}
 use Rattle.session_server.specs.Parts.{kept_rows, Reads, fetch_past}
 use Rattle.session_server.specs.Tables.{row_fits, table_rows_in}
-use Rattle.session_server.proofs.Asked.{tells_one}
 use Rattle.session_server.proofs.Composed.{tells_none, tells_more}
 
 -- rows before those of an answer
@@ -83,7 +82,7 @@ module _ (before now next : Option (List Exchange)) (manner : Manner) (table : T
   more = reading.exchanges ++ record { op = fetch; manner = manner; reply = reply } ∷ []
 
   more_told : TellsAll before next more
-  more_told = tells_more before now next reading.exchanges (record { op = fetch; manner = manner; reply = reply } ∷ []) reading.told (tells_one now next (record { op = fetch; manner = manner; reply = reply }) told)
+  more_told = tells_more before now next reading.exchanges (record { op = fetch; manner = manner; reply = reply } ∷ []) reading.told told
 
   -- what the exchange and those behind it give
   onward : (later : List Exchange) (answer : Result KeyedRows Refusal) → ReadsOn (λ key rest. Fetches manner table Last hold S (left - 1) (Past key) later rest) reply later answer

@@ -15,7 +15,7 @@ use Rattle.step_model.specs.declared.range.Stop.{Stop}
 use Rattle.step_model.specs.declared.range.Stop.TheVariants.{Within}
 use Rattle.step_model.specs.declared.reply.Reply.{Reply}
 use Rattle.step_model.specs.declared.reply.Reply.TheVariants as replies
-use Rattle.step_model.specs.Exchange.{Exchange}
+use Rattle.step_model.specs.Exchange.{Exchange, TellsAll}
 use Rattle.session_server.specs.declared.asking.Refusal.{Refusal}
 use Rattle.session_server.specs.declared.asking.Refusal.TheVariants as refusals
 
@@ -146,12 +146,6 @@ Asks (ask manner question go) exchanges result = (answer : Answer question) × (
     × ReadAs manner question first answer × Asks (go answer) others result
 
 -- ---- what the port tells
-
--- these exchanges more are told, or none any longer; what isn't told stays so
-abbrev pub TellsAll : Option (List Exchange) → Option (List Exchange) → List Exchange → Type 0
-TellsAll before None exchanges = Unit {0}
-TellsAll None (Some after) exchanges = ⊥
-TellsAll (Some before) (Some after) exchanges = after ≡ before ++ exchanges
 
 -- between what the port told before and what it tells now, the tree came to the result
 pub record Does {A : Type 0} (before after : Option (List Exchange)) (tree : Asking A) (result : A) : Type 0 where
