@@ -1,4 +1,5 @@
--- Where a search in the ordered entries ends.
+-- Own: where a search in the ordered entries ends. A place is said by what stands before it and at it;
+-- the code halves the entries.
 use Rattle.std.specs.Prelude.{◌≡◌, ◌<◌, ◌&&◌, ◌||◌, not, ℕ, Bool, List, length, Option, None, Some, if◌then◌else◌}
 use Rattle.std.specs.List.{prefix_len, HoldsAt}
 use Rattle.std.specs.Ordering.{is_eq, is_lt, is_gt}

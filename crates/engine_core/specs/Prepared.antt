@@ -1,4 +1,5 @@
--- An entry of the code, which keeps beside a pending row the change that it will be in the log.
+-- Own: an entry of the code, which keeps beside a pending row the change that it will be in the log, so
+-- that a commit needs no memory. The step relation has no such change: it makes it of the entry.
 use Rattle.std.specs.Prelude.{◌≡◌, ◌∷◌, [], Option, None, Some}
 use Rattle.step_model.specs.Step.{Entry as Kept, Pending as PendingState}
 use Rattle.engine_core.specs.declared.entry.Entry.TheInside.{Inside}

@@ -1,4 +1,5 @@
--- An engine with one session behind a port, and what its exchanges are.
+-- Own: an engine with one session behind a port, and what its exchanges are. They are said to be a run
+-- of steps; the code keeps them in a list beside its engine, until there is no memory for one more.
 use Rattle.std.specs.Prelude.{◌≡◌, ℕ, Bool, true, List, Option, None, Some}
 use Rattle.step_model.specs.Exchange.{Exchange, IsSession}
 use Rattle.step_model.specs.Step.{Engine, Run, asked_by, opening, is_open, is_alone, marks_of}

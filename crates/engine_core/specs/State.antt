@@ -1,4 +1,5 @@
--- What holds of every state of the engine, besides what its steps say.
+-- Own: what holds of every state of the engine, besides what its steps say: its entries are in order, and
+-- each session has one open transaction at most. It is said of whole lists; the code keeps it step by step.
 use Rattle.std.specs.Prelude.{◌≡◌, false, List, [], ◌∷◌}
 use Rattle.std.specs.List.Sorted.{IsStrictlySortedBy}
 use Rattle.std.specs.declared.cmp.Ordering.{Ordering}

@@ -1,4 +1,5 @@
--- The engine of the code as the step relation speaks of it, and what holds of it.
+-- Own: the engine of the code as the step relation speaks of it, and what holds of it. The relation has
+-- lists; the code has vectors, with room in the log for each open transaction.
 use Rattle.std.specs.Prelude.{◌+◌, ◌≤◌, vec_len}
 use Rattle.std.specs.Vec.{vec_capacity}
 use Rattle.step_model.specs.Step.{Engine}

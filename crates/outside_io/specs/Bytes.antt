@@ -1,5 +1,6 @@
--- Which bytes go through a source or a sink, and when a count of faults has risen. What is known of
--- bytes is an option: `None` where the object does not tell them, as a socket does not.
+-- Own: which bytes go through a source or a sink, and when a count of faults has risen. What is known of
+-- bytes is an option: `None` where the object does not tell them, as a socket does not. Each fact is
+-- said of all bytes of some calls together; the code moves a slice at a time.
 use Rattle.std.specs.Prelude.{◌≡◌, ℕ, ◌+◌, ◌-◌, ◌^◌, ◌≤◌, min, List, ◌++◌, Option, None, Some}
 use Rattle.std.specs.Io.KnownBytes.{Consumes, Appends}
 

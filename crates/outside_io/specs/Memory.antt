@@ -1,4 +1,5 @@
--- A source and a sink in memory, as their users see them.
+-- Own: a source and a sink in memory, as their users see them: one list of bytes each, and the calls that
+-- fail by their numbers. The code keeps a place in its bytes, and counts its calls.
 use Rattle.std.specs.Prelude.{ℕ, List, Option, Some}
 
 -- what a source has left and has given; at most how many bytes a read gives; which calls fail,

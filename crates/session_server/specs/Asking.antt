@@ -1,4 +1,4 @@
--- What a statement asks of the port, as a tree: a question, and for each answer how to go on. The
+-- Own: what a statement asks of the port, as a tree: a question, and for each answer how to go on. The
 -- port's exchanges are read as the answers; so one tree says both which operations are asked, in
 -- which order, and what comes of their replies. The code asks and goes on; it builds no tree.
 use Rattle.std.specs.Prelude.{◌≡◌, ℕ, ◌-◌, ◌≤◌, ◌⊎◌, Bool, true, false, List, [], ◌∷◌, ◌++◌, Option, None, Some, Result, Ok, Err}

@@ -1,4 +1,4 @@
--- What one connection did: which messages it took from its source, what it asked of its port and
+-- Own: what one connection did: which messages it took from its source, what it asked of its port and
 -- wrote for them, and why it ended. The whole of the bytes and of the exchanges is spoken of; the
 -- code goes message by message.
 use Rattle.std.specs.Prelude.{◌≡◌, ℕ, ◌+◌, ◌-◌, ◌<◌, ◌≤◌, ◌⊎◌, List, [], ◌∷◌, ◌++◌, length, Option, None, IfSome}

@@ -1,4 +1,5 @@
--- The end of a connection for which no message comes, or whose reply could not be sent.
+-- Own: the end of a connection for which no message comes, or whose response could not be sent, by the
+-- fault that reading or sending has answered.
 use Rattle.session_server.specs.declared.end.End.{End}
 use Rattle.session_server.specs.declared.end.End.TheVariants.{Closed, Cut, BadHeader, TooLong, Spent, ReadFault, WriteFault, Memory}
 use Rattle.tds_packets.specs.declared.reader.MessageFault.{MessageFault}

@@ -1,6 +1,7 @@
--- What each statement asks, in order, and what comes of the answers. Look-ups in `objects` hold the
+-- Own: what each statement asks, in order, and what comes of the answers. Look-ups in `objects` hold the
 -- key's range; a SELECT reads its table row by row, at the level READ COMMITTED. A statement that
--- asks anything is a transaction of its own, committed where it succeeds and else rolled back.
+-- asks anything is a transaction of its own, committed where it succeeds and else rolled back. A
+-- meaning is a tree; the code asks the port, and goes on by its replies.
 use Rattle.std.specs.Prelude.{ℕ, pos, Bool, true, false, nat_le, if◌then◌else◌, List, length, Option, None, Some, Result, Ok, Err}
 use Rattle.lock_modes.specs.declared.KeyPart.TheVariants.{S}
 use Rattle.value_types.specs.declared.table_name.TableName.{TableName}

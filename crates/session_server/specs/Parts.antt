@@ -1,5 +1,5 @@
--- What the private parts of a connection give: the reader of a range, and the handling of a message. No
--- public clause cites this file.
+-- Own: what the private parts of a connection give: the reader of a range, and the handling of a message.
+-- No public clause cites this file. Each part is said of what the port told before and tells after it.
 use Rattle.std.specs.Prelude.{◌≡◌, ℕ, List, Option, Result, Ok, Err}
 use Rattle.lock_modes.specs.declared.KeyPart.TheVariants.{S}
 use Rattle.value_types.specs.declared.table_name.TableName.{TableName}

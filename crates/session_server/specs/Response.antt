@@ -1,4 +1,6 @@
--- What a client is sent of a statement: the tokens of its reply, and what it committed.
+-- What a client is sent of a statement ([MS-TDS] 2.2.7; the errors' numbers and texts are own): the
+-- tokens of its response, and what it committed. They are a function of the statement and of what came
+-- of it; the code makes the tokens, and nothing of what was committed.
 use Rattle.std.specs.Prelude.{ℕ, pos, Bool, true, false, if◌then◌else◌, List, [], ◌∷◌, ◌++◌, map, length, take, Some, Result, Ok, Err, codes}
 use Rattle.value_types.specs.declared.sql_type.SqlType.TheVariants.{Int}
 use Rattle.value_types.specs.declared.value.Value.{Value}

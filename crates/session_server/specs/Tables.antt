@@ -1,5 +1,6 @@
--- The tables that batches speak of so far (own): each has two INT columns, k, its key, and v. The
--- table `objects` has a row for each of them: its name, and the text of its definition.
+-- Own: the tables that batches speak of so far, each with two INT columns, k, its key, and v; and the
+-- table `objects`, which has a row for each of them: its name, and the text of its definition. What is
+-- no row is told by tests on values; the code makes the same tests on borrowed rows.
 use Rattle.std.specs.Prelude.{ℕ, pos, negsuc, ◌&&◌, Bool, true, false, List, [], ◌∷◌, map, filter, Option, None, Some, codes, int_le}
 use Rattle.value_types.specs.declared.table_name.TableName.{TableName}
 use Rattle.value_types.specs.declared.value.Value.{Value}

@@ -1,5 +1,6 @@
--- What is answered to the messages of a client: a reply for each, until one ends the connection, and
--- the bytes of these. ReadAs depend on what the port answers, so the talk is a tree of questions.
+-- [MS-TDS] 2.2.1, as far as it is served: what is answered to the messages of a client, a response for
+-- each, until one ends the connection, and the bytes of these. Responses depend on what the port
+-- answers, so the talk is a tree of questions; the code handles one message after another.
 use Rattle.std.specs.Prelude.{ℕ, ◌-◌, ◌%◌, ◌==◌, ◌||◌, nat_lt, if◌then◌else◌, List, [], ◌∷◌, length, drop, Option, None, Some}
 use Rattle.std.specs.List.{flat_map}
 use Rattle.byteorder.specs.Endian.{little_number}
@@ -64,9 +65,9 @@ answer_to message =
 
 -- ---- all messages
 
--- the replies to the messages in order, up to the one that ends the connection
+-- the responses to the messages in order, up to the one that ends the connection
 unfoldable pub talk_on : Handling → Asking (List Response) → Asking (List Response)
-talk_on (responds reply) others = reply then λ first. others then λ later. done (first ∷ later)
+talk_on (responds tree) others = tree then λ first. others then λ later. done (first ∷ later)
 talk_on (ends end) others = done []
 
 unfoldable pub Talk : List Message → Asking (List Response)
@@ -75,7 +76,7 @@ Talk (message ∷ messages) = talk_on (answer_to message) (Talk messages)
 
 -- the end that a message makes, if one does
 abbrev pub end_on : Handling → Option End → Option End
-end_on (responds reply) later = later
+end_on (responds tree) later = later
 end_on (ends end) later = Some end
 
 abbrev pub talk_end : List Message → Option End
@@ -86,7 +87,7 @@ talk_end (message ∷ messages) = end_on (answer_to message) (talk_end messages)
 
 -- The bytes of a response: packets of type 0x04, tabular result, with 4096 bytes each.
 abbrev pub response_bytes : ℕ → Response → List ℕ
-response_bytes spid reply = Packets 0x04 spid 4096 (TokenBytes reply.tokens)
+response_bytes spid response = Packets 0x04 spid 4096 (TokenBytes response.tokens)
 
 -- the bytes of all responses
 abbrev pub Bytes : ℕ → List Response → List ℕ

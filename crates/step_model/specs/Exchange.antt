@@ -1,5 +1,5 @@
--- One operation with its reply, which replies may come to which operation, and what a transaction
--- is afterwards.
+-- Own: one operation with its reply, which replies may come to which operation, and what a transaction
+-- is afterwards. It speaks of what goes through a port, and not of the engine behind it.
 use Rattle.std.specs.Prelude.{◌≡◌, ℕ, ℤ, ◌≤◌, pos, negsuc, ◌≤ℤ◌, Bool, true, false, List, [], ◌∷◌, ◌++◌, Option, None, Some, IsTrue}
 use Rattle.lock_modes.specs.declared.KeyPart.{KeyPart}
 use Rattle.lock_modes.specs.declared.KeyPart.TheVariants.{N, S, U, X}

@@ -1,5 +1,5 @@
--- One step of the engine, as a relation by cases on plain lists, one case for each rule. So far one
--- session steps at a time and there are no locks.
+-- Own: one step of the engine, as a relation by cases on plain lists, one case for each rule. So far one
+-- session steps at a time and there are no locks. The engine has sorted vectors, and changes them in place.
 use Rattle.std.specs.Prelude.{◌≡◌, ℕ, ◌+◌, ◌==◌, ◌&&◌, ◌||◌, not, Bool, true, List, [], ◌∷◌, ◌++◌, map, filter, length, Option, None, Some, IsSome, is_some, if◌then◌else◌}
 use Rattle.std.specs.List.{filter_map, find, list_any, list_all}
 use Rattle.std.specs.Option.{option_and_then}

@@ -1,4 +1,5 @@
--- The words of the program, its statuses, and what `pipe` does (own).
+-- Own: the words of the program, its statuses, and what `pipe` does. It is said of the whole run; the
+-- code calls the connection, and asks the port whether it tells.
 use Rattle.std.specs.Prelude.{◌≡◌, ℕ, ◌<◌, ◌⊎◌, Bool, true, false, List, [], ◌∷◌, length, map, Option, None, Some, is_some, IfSome, codes}
 use Rattle.std.specs.List.{All}
 use Rattle.tds_packets.specs.declared.message.Message.{Message}
@@ -14,8 +15,8 @@ use Rattle.session_server.specs.Conversation.{Conversation}
 use Rattle.session_server.specs.Talk.{talk_end, commits_in}
 
 -- the words are `pipe --bare`, each as its bytes
-abbrev pub IsPipe : List (List ℕ) → Type 0
-IsPipe words = words ≡ codes "pipe" ∷ codes "--bare" ∷ []
+abbrev pub IsPipeBare : List (List ℕ) → Type 0
+IsPipeBare words = words ≡ codes "pipe" ∷ codes "--bare" ∷ []
 
 -- The status at an end, where the port tells its exchanges or not. Where it doesn't, memory was wanting
 -- for one of them.

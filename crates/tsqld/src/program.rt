@@ -2,7 +2,7 @@
 
 ghost use Rattle.std.specs.Prelude.{◌≡◌, ◌≢◌, ◌≤◌, map, string_bytes, IsTrue, ◌↔◌};
 ghost use Rattle.outside_io.specs.Bytes.{Takes, HasRisen};
-ghost use Rattle.tsqld.specs.Program.{IsPipe, Piped, EndsWell, status_of};
+ghost use Rattle.tsqld.specs.Program.{IsPipeBare, Piped, EndsWell, status_of};
 
 use engine_core::SoloPort;
 use outside_io::{Sink, Source};
@@ -33,9 +33,9 @@ pub fn run_program<S: Source, K: Sink>(
     output: &mut K,
 ) -> u8
     // What was taken, asked, written and committed, and the status.
-    ensures conversation { IsPipe (map string_bytes words.now)
+    ensures conversation { IsPipeBare (map string_bytes words.now)
         → Piped (Takes S.left S.given input.old input.new) (S.left input.new) (K.written output.old) (K.written output.new) result }
-    ensures refused { ¬ (IsPipe (map string_bytes words.now)) → (result ≡ 2) × (input.new ≡ input.old) × (output.new ≡ output.old) }
+    ensures refused { ¬ (IsPipeBare (map string_bytes words.now)) → (result ≡ 2) × (input.new ≡ input.old) × (output.new ≡ output.old) }
 
     // When 3 and 4 come.
     ensures read_fault { result ≡ 3 → HasRisen (S.faults input.old) (S.faults input.new) }
@@ -45,9 +45,9 @@ pub fn run_program<S: Source, K: Sink>(
     ensures counted { (S.faults input.old ≤ S.faults input.new) × (K.faults output.old ≤ K.faults output.new) }
 
     // Where nothing fails and the input is whole messages in their places, all of them are answered.
-    ensures complete { IsPipe (map string_bytes words.now) → result ≢ 3 → result ≢ 4 → EndsWell (S.left input.old) result }
+    ensures complete { IsPipeBare (map string_bytes words.now) → result ≢ 3 → result ≢ 4 → EndsWell (S.left input.old) result }
 {
-    if !is_pipe(words) {
+    if !is_pipe_bare(words) {
         return NO_COMMAND;
     }
     let config = Config {
@@ -75,8 +75,8 @@ fn status_of(end: End, tells: bool) -> u8
 }
 
 /// Whether the words are `pipe --bare`.
-fn is_pipe(words: &[String]) -> bool
-    ensures { IsTrue result ↔ IsPipe (map string_bytes words.now) }
+fn is_pipe_bare(words: &[String]) -> bool
+    ensures { IsTrue result ↔ IsPipeBare (map string_bytes words.now) }
 {
     match words {
         [command, flag] => command.as_str() == "pipe" && flag.as_str() == "--bare",

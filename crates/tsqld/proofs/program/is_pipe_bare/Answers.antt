@@ -2,7 +2,7 @@ use Rattle.std.proofs.Common.{◌≡◌, ℕ, List, [], ◌∷◌, string_bytes,
 use lib.Pointwise.{bytes_decides}
 use Rattle.std.specs.Prelude.{codes}
 use Rattle.tsqld.proofs.Words.{two_words}
-use Rattle.tsqld.proofs.program.is_pipe.Goals as goal
+use Rattle.tsqld.proofs.program.is_pipe_bare.Goals as goal
 
 first_of_two : (a b c d : List ℕ) → a ∷ b ∷ [] ≡ c ∷ d ∷ [] → b ≡ d
 first_of_two a b c d h = cc
