@@ -1,7 +1,7 @@
 -- Own: an engine with one session behind a port, and what its exchanges are. They are said to be a run
 -- of steps; the code keeps them in a list beside its engine, until there is no memory for one more.
 use Rattle.std.specs.Prelude.{◌≡◌, ℕ, Bool, true, List, Option, None, Some}
-use Rattle.step_model.specs.Exchange.{Exchange, IsSession}
+use Rattle.step_model.specs.Exchange.{Exchange, PortPast, IsSession}
 use Rattle.step_model.specs.Step.{Engine, Run, asked_by, opening, is_open, is_alone, marks_of}
 
 -- what is told is a run of this session alone, from an engine before any step to this one; where nothing
@@ -27,3 +27,7 @@ solo_open solo = is_open solo.session solo.engine.active
 
 abbrev pub solo_marks : Solo → List ℕ
 solo_marks solo = marks_of solo.session solo.engine.active
+
+-- what is behind the port: what it tells, and the runs of its session alone that lead to its engine
+abbrev pub solo_past : Solo → PortPast
+solo_past solo = record { told = solo.told; led_by = λ exchanges. Run opening (asked_by solo.session exchanges) solo.engine }

@@ -2,10 +2,10 @@
 
 ghost use Rattle.std.specs.Prelude.{◌≡◌, [], Some, is_some, IfSome, IfOk, OnErr, ◌++◌, ◌∷◌, All};
 ghost use Rattle.std.specs.Option.{option_map};
-ghost use Rattle.step_model.specs.Exchange.{Tells, IsSession, MayAsk, CanReply, in_transaction_after, marks_after};
+ghost use Rattle.step_model.specs.Exchange.{TellsAll, GoesOn, IsSession, MayAsk, CanReply, in_transaction_after, marks_after};
 ghost use Rattle.step_model.specs.Fits.{Fits};
 ghost use Rattle.step_model.specs.Step.{Step, opening};
-ghost use Rattle.engine_core.specs.Solo.{IsRunOf, solo_open, solo_marks};
+ghost use Rattle.engine_core.specs.Solo.{IsRunOf, solo_open, solo_marks, solo_past};
 
 use crate::engine::Engine;
 use std::alloc::Global;
@@ -87,7 +87,7 @@ impl SoloPort {
     pub(crate) fn ask_engine(&mut self, op: &Op, manner: Manner) -> Reply
         requires { MayAsk (solo_open self.old) (solo_marks self.old) op.now manner }
         ensures step { Step self.old.engine self.old.session op.now manner result self.new.engine }
-        ensures told { Tells self.old.told self.new.told (record { op = op.now; manner = manner; reply = result }) }
+        ensures past { GoesOn (solo_past self.old) (solo_past self.new) (record { op = op.now; manner = manner; reply = result } ∷ []) }
         ensures session { self.new.session ≡ self.old.session }
     {
         let reply = self.engine.attempt(self.session, op, manner);
@@ -97,9 +97,9 @@ impl SoloPort {
 }
 
 impl Port for SoloPort {
-    ghost use Rattle.engine_core.specs.Solo.{solo_open, solo_marks};
+    ghost use Rattle.engine_core.specs.Solo.{solo_open, solo_marks, solo_past};
 
-    ghost told = { λ port. port.told };
+    ghost past = { solo_past };
 
     ghost session = { λ port. port.session };
 
@@ -110,7 +110,7 @@ impl Port for SoloPort {
     // Beside what the trait promises, each asking is a step of its engine.
     fn ask(&mut self, op: &Op, manner: Manner) -> Reply
         requires allowed { MayAsk (solo_open self.old) (solo_marks self.old) op.now manner }
-        ensures told { Tells self.old.told self.new.told (record { op = op.now; manner = manner; reply = result }) }
+        ensures past { GoesOn (solo_past self.old) (solo_past self.new) (record { op = op.now; manner = manner; reply = result } ∷ []) }
         ensures session { self.new.session ≡ self.old.session }
         ensures reply { CanReply op.now result }
         ensures in_transaction { solo_open self.new ≡ in_transaction_after (solo_open self.old) op.now result }
@@ -123,8 +123,8 @@ impl Port for SoloPort {
 
 // Adds an exchange to those that are told. Where there is no memory for it, none are told from then on.
 fn tell(told: &mut Option<Vec<Exchange>>, alloc: Global, op: &Op, manner: Manner, reply: &Reply)
-    ensures { Tells (option_map (λ told. told.items) told.old) (option_map (λ told. told.items) told.new)
-        (record { op = op.now; manner = manner; reply = reply.now }) }
+    ensures { TellsAll (option_map (λ told. told.items) told.old) (option_map (λ told. told.items) told.new)
+        (record { op = op.now; manner = manner; reply = reply.now } ∷ []) }
 {
     if let Some(list) = told
         && add(list, alloc, op, manner, reply).is_err()

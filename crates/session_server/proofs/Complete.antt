@@ -9,7 +9,7 @@ use Rattle.tds_packets.specs.Stream.{Joins}
 use Rattle.tds_packets.specs.Reading.{StopsBy, IsEnd, OnCut, byte_limit}
 use Rattle.tds_packets.proofs.Joined.{left_whole}
 use Rattle.tds_packets.proofs.Ends.{refuses_none}
-use Rattle.step_model.specs.Exchange.{Exchange}
+use Rattle.step_model.specs.Exchange.{PortPast}
 use Rattle.session_server.specs.declared.end.End.{End}
 use Rattle.session_server.specs.declared.end.End.TheVariants.{Closed, Memory, ReadFault}
 use Rattle.session_server.specs.Conversation.{Completes}
@@ -47,7 +47,7 @@ complete_stopped (Some bytes) (Some back) front rest others fault took joined st
     stopped_well front rest back messages others fault (subst (λ (s : List ℕ). Joins 0 s messages []) took split.joined) joined (subst (λ (s : List ℕ). length s < byte_limit) took short) stops end none
 
 -- the message that ends the talk is none of messages in their places
-made_well : (told_now told_next : Option (List Exchange)) (front back : List ℕ) (messages others : List Message) (message : Message) (end : End) (handling : Handling) → answer_to message ≡ handling → IsEndOf handling told_now told_next end → talk_end others ≡ None
+made_well : (told_now told_next : PortPast) (front back : List ℕ) (messages others : List Message) (message : Message) (end : End) (handling : Handling) → answer_to message ≡ handling → IsEndOf handling told_now told_next end → talk_end others ≡ None
     → Joins 0 (front ++ back) messages [] → Joins 0 front (others ++ message ∷ []) [] → talk_end messages ≡ None → end ≡ Memory
 made_well told_now told_next front back messages others message Memory (responds tree) is of answered whole taken in_place = refl
 made_well told_now told_next front back messages others message end (responds tree) is of answered whole taken in_place = absurd of
@@ -57,7 +57,7 @@ made_well told_now told_next front back messages others message end (ends made) 
     absurd (let no : ⊥ = cc (none, end_more others message answered, end_made message made is) in no)
 
 -- a message came for which nothing was sent
-pub complete_ended : (told after : Option (List ℕ)) (told_now told_next : Option (List Exchange)) (front : List ℕ) (others : List Message) (message : Message) (end : End) → Consumes told after front
+pub complete_ended : (told after : Option (List ℕ)) (told_now told_next : PortPast) (front : List ℕ) (others : List Message) (message : Message) (end : End) → Consumes told after front
     → Joins 0 front (others ++ message ∷ []) [] → talk_end others ≡ None → IsEndOf (answer_to message) told_now told_next end → Completes told end
 complete_ended None after told_now told_next front others message end took joined answered of = tt
 complete_ended (Some bytes) None told_now told_next front others message end took joined answered of = absurd took

@@ -13,7 +13,7 @@ use Rattle.tds_packets.specs.declared.sending.SendFault.TheVariants as sending
 use Rattle.tds_packets.specs.Stream.{IsMessage}
 use Rattle.tds_packets.specs.Reading.{StopsBy, IsUnrefused, IsEnd}
 use Rattle.tds_packets.specs.Packets.{IsPartSent}
-use Rattle.step_model.specs.Exchange.{Exchange}
+use Rattle.step_model.specs.Exchange.{PortPast, GoesOn}
 use Rattle.session_server.specs.declared.end.End.{End}
 use Rattle.session_server.specs.declared.end.End.TheVariants.{OutOfPlace, BadBatch, Memory}
 use Rattle.session_server.specs.Asking.{Asking, Does}
@@ -21,8 +21,8 @@ use Rattle.session_server.specs.Conversation.{Conversation, Wrote, EndsAtLast, E
 use Rattle.session_server.specs.Ends.{end_of_message, end_of_sending}
 use Rattle.session_server.specs.Parts.{IsEndOf}
 use Rattle.session_server.specs.Response.{Response}
-use Rattle.session_server.specs.Talk.{Handling, responds, ends, answer_to, talk_end, response_bytes, Bytes}
-use Rattle.session_server.proofs.Served.{Served, means_of, does_more, does_same, all_taken, place as place_of, split_partial, split_whole, long_enough}
+use Rattle.session_server.specs.Talk.{Handling, responds, ends, answer_to, Talk, talk_end, response_bytes, Bytes}
+use Rattle.session_server.proofs.Served.{Served, means_of, does_more, does_same, does_still, all_taken, place as place_of, split_partial, split_whole, long_enough}
 use Rattle.session_server.proofs.Talks.{IsOfMessage, is_of_message, end_more, end_one}
 
 -- ---- the ends, case by case
@@ -97,7 +97,7 @@ wrote_none spid old mid responses response written = (responses, response, [], r
 
 -- ---- the conversation, where it ends
 
-module _ {S : Type 0} (left given : S → Option (List ℕ)) (first now next : S) (told_first told_now : Option (List Exchange)) (old mid : Option (List ℕ)) (session before : ℕ) (served : Served left given first now told_first told_now old mid (spid_of session) before) (bytes : List ℕ) (took : Takes left given now next bytes) where
+module _ {S : Type 0} (left given : S → Option (List ℕ)) (first now next : S) (told_first told_now : PortPast) (old mid : Option (List ℕ)) (session before : ℕ) (served : Served left given first now told_first told_now old mid (spid_of session) before) (bytes : List ℕ) (took : Takes left given now next bytes) where
   pub taken_at : length (served.bytes ++ bytes) - length bytes ≡ before
   taken_at = place_of left given first now next told_first told_now old mid (spid_of session) before served bytes took
 
@@ -123,7 +123,7 @@ module _ {S : Type 0} (left given : S → Option (List ℕ)) (first now next : S
   long message is = long_enough left given first now next told_first told_now old mid (spid_of session) before served bytes took message is
 
   -- a message was taken, and its response was not sent whole
-  pub not_sent : (told_next : Option (List Exchange)) (new : Option (List ℕ)) (message : Message) (tree : Asking Response) (response : Response) (fault : SendFault) → IsMessage before bytes message → answer_to message ≡ responds tree
+  pub not_sent : (told_next : PortPast) (new : Option (List ℕ)) (message : Message) (tree : Asking Response) (response : Response) (fault : SendFault) → IsMessage before bytes message → answer_to message ≡ responds tree
       → Does told_now told_next tree response → IsPartSent mid new (response_bytes (spid_of session) response) fault → Conversation session (Takes left given first next) (left next) told_first told_next old new (end_of_sending fault)
   not_sent told_next new message tree response fault is answer does part = record {
     taken = served.bytes ++ bytes;
@@ -139,7 +139,7 @@ module _ {S : Type 0} (left given : S → Option (List ℕ)) (first now next : S
   }
 
   -- a message was taken, and there was no memory for its response
-  pub not_made : (told_next : Option (List Exchange)) (message : Message) (tree : Asking Response) (response : Response) → IsMessage before bytes message → answer_to message ≡ responds tree
+  pub not_made : (told_next : PortPast) (message : Message) (tree : Asking Response) (response : Response) → IsMessage before bytes message → answer_to message ≡ responds tree
       → Does told_now told_next tree response → Conversation session (Takes left given first next) (left next) told_first told_next old mid Memory
   not_made told_next message tree response is answer does = record {
     taken = served.bytes ++ bytes;
@@ -155,24 +155,23 @@ module _ {S : Type 0} (left given : S → Option (List ℕ)) (first now next : S
   }
 
   -- a message was taken, and ended the talk
-  pub message_ends : (message : Message) (end : End) → IsMessage before bytes message → answer_to message ≡ ends end → Conversation session (Takes left given first next) (left next) told_first told_now old mid end
-  message_ends message end is answer = record {
+  pub message_ends : (told_next : PortPast) (message : Message) (end : End) → GoesOn told_now told_next [] → IsMessage before bytes message → answer_to message ≡ ends end → Conversation session (Takes left given first next) (left next) told_first told_next old mid end
+  message_ends told_next message end still is answer = record {
     taken = served.bytes ++ bytes;
     messages = served.messages ++ message ∷ [];
     rest = [];
     responses = served.responses;
     from_source = all;
     split = split_whole left given first now next told_first told_now old mid (spid_of session) before served bytes took message is;
-    means = means_of told_first told_now (served.messages ++ message ∷ []) served.responses (does_same told_first told_now served.messages message end served.responses served.answered answer served.does);
+    means = means_of told_first told_next (served.messages ++ message ∷ []) served.responses (does_still told_first told_now told_next (Talk (served.messages ++ message ∷ [])) served.responses (does_same told_first told_now served.messages message end served.responses served.answered answer served.does) still);
     written = made_wrote (spid_of session) old mid served.responses end (is_of_message message end answer) served.written;
     ended = made_ends (served.messages ++ message ∷ []) (length (served.bytes ++ bytes) - 0) end (is_of_message message end answer) (served.messages, message, refl, served.answered, answer);
     emptied = made_emptied (left next) end (is_of_message message end answer);
   }
 
   -- a message was taken, and nothing was sent for it
-  pub none_sent : (told_next : Option (List Exchange)) (message : Message) (end : End) (handling : Handling) → IsMessage before bytes message → answer_to message ≡ handling → IsEndOf handling told_now told_next end
+  pub none_sent : (told_next : PortPast) (message : Message) (end : End) (handling : Handling) → IsMessage before bytes message → answer_to message ≡ handling → IsEndOf handling told_now told_next end
       → Conversation session (Takes left given first next) (left next) told_first told_next old mid end
   none_sent told_next message Memory (responds tree) is answer of = not_made told_next message tree of.0 is answer of.1
   none_sent told_next message end (responds tree) is answer of = absurd of
-  none_sent told_next message end (ends made) is answer of =
-      subst (λ (told : Option (List Exchange)). Conversation session (Takes left given first next) (left next) told_first told old mid end) (sym of.1) (message_ends message end is (answer ∙ ap ends of.0))
+  none_sent told_next message end (ends made) is answer of = message_ends told_next message end of.1 is (answer ∙ ap ends of.0)

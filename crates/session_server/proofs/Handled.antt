@@ -4,7 +4,7 @@ use Rattle.tds_packets.specs.declared.message.Message.{Message}
 use Rattle.tds_tokens.specs.declared.token.Token.{Token}
 use Rattle.tds_tokens.specs.Fit.{FitTokens}
 use Rattle.tds_tokens.specs.Spelling.{TokenBytes}
-use Rattle.step_model.specs.Exchange.{Exchange}
+use Rattle.step_model.specs.Exchange.{PortPast}
 use Rattle.session_server.specs.declared.effect.Effect.{Effect}
 use Rattle.session_server.specs.declared.effect.Failure.{Failure}
 use Rattle.session_server.specs.declared.end.End.TheVariants.{Memory}
@@ -14,11 +14,11 @@ use Rattle.session_server.specs.Meaning.{meaning_of}
 use Rattle.session_server.specs.Parts.{IsMade, IsAnswered, IsEndOf}
 use Rattle.session_server.specs.Response.{Response, response_of, tokens_of}
 use Rattle.session_server.specs.Talk.{Handling, responds, ends, answer_statement, answer_to, attention_response}
-use Rattle.session_server.proofs.Composed.{tells_none, does_nothing, does_then}
+use Rattle.session_server.proofs.Composed.{goes_nowhere, does_nothing, does_then}
 use Rattle.session_server.proofs.Lacking.{lacks}
 use Rattle.session_server.proofs.Responses.{answer_fits}
 
-module _ (before after : Option (List Exchange)) where
+module _ (before after : PortPast) where
   -- a statement that came to this is answered so
   pub statement_does : (statement : Statement) (came : Result Effect Failure) → Does before after (meaning_of statement) came → Does before after (answer_statement statement) (response_of statement came)
   unfolding answer_statement
@@ -32,7 +32,7 @@ module _ (before after : Option (List Exchange)) where
 
   -- memory was wanting before the statement was read
   pub statement_unread : (statement : Statement) → IsEndOf (responds (answer_statement statement)) before before Memory
-  statement_unread statement = let lacking = lacks statement in (lacking.0, record { exchanges = []; told = tells_none before; asks = lacking.1 })
+  statement_unread statement = let lacking = lacks statement in (lacking.0, record { exchanges = []; past = goes_nowhere before; asks = lacking.1 })
 
   pub attention_answered : (tokens : List Token) → tokens ≡ attention_response.tokens → IsAnswered (responds (done attention_response)) before before tokens
   attention_answered tokens are = (attention_response, does_nothing before before before attention_response, are)
@@ -50,7 +50,7 @@ module _ (before after : Option (List Exchange)) where
   answered_wants (ends end) tokens answered = absurd answered
 
 -- what the bytes of a response are
-pub made_parts : (before after : Option (List Exchange)) (message : Message) (bytes : List ℕ) (handling : Handling) → answer_to message ≡ handling → IsMade handling before after bytes
+pub made_parts : (before after : PortPast) (message : Message) (bytes : List ℕ) (handling : Handling) → answer_to message ≡ handling → IsMade handling before after bytes
     → (tree : Asking Response) × (response : Response) × (answer_to message ≡ responds tree) × Does before after tree response × (bytes ≡ TokenBytes response.tokens)
 made_parts before after message bytes (responds tree) is made = (tree, made.0, is, made.1, made.2)
 made_parts before after message bytes (ends end) is made = absurd made
@@ -61,9 +61,9 @@ pub attention_handled : (message : Message) → message.kind ≡ 0x06 → answer
 attention_handled message is = rw is refl
 
 -- tokens of a response have a spelling
-by_handling : (before after : Option (List Exchange)) (message : Message) (tokens : List Token) (handling : Handling) → answer_to message ≡ handling → IsAnswered handling before after tokens → FitTokens [] tokens
+by_handling : (before after : PortPast) (message : Message) (tokens : List Token) (handling : Handling) → answer_to message ≡ handling → IsAnswered handling before after tokens → FitTokens [] tokens
 by_handling before after message tokens (responds tree) is answered = subst (FitTokens []) (sym answered.2) (answer_fits message tree answered.1.exchanges answered.0 is answered.1.asks)
 by_handling before after message tokens (ends end) is answered = absurd answered
 
-pub answered_fits : (before after : Option (List Exchange)) (message : Message) (tokens : List Token) → IsAnswered (answer_to message) before after tokens → FitTokens [] tokens
+pub answered_fits : (before after : PortPast) (message : Message) (tokens : List Token) → IsAnswered (answer_to message) before after tokens → FitTokens [] tokens
 answered_fits before after message tokens answered = by_handling before after message tokens (answer_to message) refl answered

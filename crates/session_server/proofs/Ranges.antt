@@ -17,13 +17,13 @@ use Rattle.step_model.specs.declared.range.Stop.{Stop}
 use Rattle.step_model.specs.declared.range.Stop.TheVariants.{Last}
 use Rattle.step_model.specs.declared.reply.Reply.{Reply}
 use Rattle.step_model.specs.declared.reply.Reply.TheVariants as replies
-use Rattle.step_model.specs.Exchange.{Exchange, Tells, in_transaction_after, TellsAll}
+use Rattle.step_model.specs.Exchange.{Exchange, PortPast, in_transaction_after, GoesOn}
 use Rattle.session_server.specs.declared.asking.Refusal.{Refusal}
 use Rattle.session_server.specs.declared.asking.Refusal.TheVariants as refusals
 use Rattle.session_server.specs.Asking.{KeyedRows, Fetches, ReadsOn, with_row, range_limit, ReadAs, Asks}
 use Rattle.session_server.specs.Parts.{kept_rows, Reads, fetch_past}
 use Rattle.session_server.specs.Tables.{row_fits, table_rows_in}
-use Rattle.session_server.proofs.Composed.{tells_none, tells_more}
+use Rattle.session_server.proofs.Composed.{goes_nowhere, goes_further}
 
 -- rows before those of an answer
 abbrev pub with_rows : KeyedRows → Result KeyedRows Refusal → Result KeyedRows Refusal
@@ -46,43 +46,43 @@ abbrev Whole : Manner → TableName → Hold → ℕ → Start → KeyedRows →
 Whole manner table hold left start front exchanges = (later : List Exchange) (answer : Result KeyedRows Refusal) → Fetches manner table Last hold S left start later answer
     → Fetches manner table Last hold S range_limit First (exchanges ++ later) (with_rows front answer)
 
-pub record Reading (before now : Option (List Exchange)) (manner : Manner) (table : TableName) (hold : Hold) (left : ℕ) (fetch : Op) (rows : List (List Value)) : Type 0 where
+pub record Reading (before now : PortPast) (manner : Manner) (table : TableName) (hold : Hold) (left : ℕ) (fetch : Op) (rows : List (List Value)) : Type 0 where
   pub start : Start
   pub front : KeyedRows
   pub exchanges : List Exchange
-  pub told : TellsAll before now exchanges
+  pub past : GoesOn before now exchanges
   pub fetches : fetch ≡ Fetch table start Last hold S
   pub kept : rows ≡ table_rows_in front
   pub whole : Whole manner table hold left start front exchanges
 
-pub reading_begun : (told : Option (List Exchange)) (manner : Manner) (table : TableName) (hold : Hold) → Reading told told manner table hold range_limit (Fetch table First Last hold S) []
+pub reading_begun : (told : PortPast) (manner : Manner) (table : TableName) (hold : Hold) → Reading told told manner table hold range_limit (Fetch table First Last hold S) []
 reading_begun told manner table hold = record {
   start = First;
   front = [];
   exchanges = [];
-  told = tells_none told;
+  past = goes_nowhere told;
   fetches = refl;
   kept = refl;
   whole = λ later answer reads. subst (λ a. Fetches manner table Last hold S range_limit First later a) (sym (with_no_rows answer)) reads;
 }
 
 -- a range that was read to its end
-reads_whole : (before after : Option (List Exchange)) (manner : Manner) (table : TableName) (hold : Hold) (exchanges : List Exchange) (answer : Result KeyedRows Refusal) (result : Result (List (List Value)) Refusal) → TellsAll before after exchanges
+reads_whole : (before after : PortPast) (manner : Manner) (table : TableName) (hold : Hold) (exchanges : List Exchange) (answer : Result KeyedRows Refusal) (result : Result (List (List Value)) Refusal) → GoesOn before after exchanges
     → Fetches manner table Last hold S range_limit First exchanges answer → result ≡ kept_rows answer → Reads before after manner table hold result
 unfolding Asks ReadAs
 reads_whole before after manner table hold exchanges answer result told fetched kept = record {
   answer = answer;
-  does = record { exchanges = exchanges; told = told; asks = (answer, exchanges, [], sym (append-nil exchanges), fetched, (refl, refl)) };
+  does = record { exchanges = exchanges; past = told; asks = (answer, exchanges, [], sym (append-nil exchanges), fetched, (refl, refl)) };
   kept = kept;
 }
 
-module _ (before now next : Option (List Exchange)) (manner : Manner) (table : TableName) (hold : Hold) (left : ℕ) (fetch : Op) (rows : List (List Value)) (reading : Reading before now manner table hold left fetch rows) (reply : Reply) (told : Tells now next (record { op = fetch; manner = manner; reply = reply })) (some : 0 < left) where
+module _ (before now next : PortPast) (manner : Manner) (table : TableName) (hold : Hold) (left : ℕ) (fetch : Op) (rows : List (List Value)) (reading : Reading before now manner table hold left fetch rows) (reply : Reply) (told : GoesOn now next (record { op = fetch; manner = manner; reply = reply } ∷ [])) (some : 0 < left) where
   -- one exchange more
   abbrev more : List Exchange
   more = reading.exchanges ++ record { op = fetch; manner = manner; reply = reply } ∷ []
 
-  more_told : TellsAll before next more
-  more_told = tells_more before now next reading.exchanges (record { op = fetch; manner = manner; reply = reply } ∷ []) reading.told told
+  more_told : GoesOn before next more
+  more_told = goes_further before now next reading.exchanges (record { op = fetch; manner = manner; reply = reply } ∷ []) reading.past told
 
   -- what the exchange and those behind it give
   onward : (later : List Exchange) (answer : Result KeyedRows Refusal) → ReadsOn (λ key rest. Fetches manner table Last hold S (left - 1) (Past key) later rest) reply later answer
@@ -99,7 +99,7 @@ module _ (before now next : Option (List Exchange)) (manner : Manner) (table : T
     start = Past key;
     front = reading.front ++ (key, row) ∷ [];
     exchanges = more;
-    told = more_told;
+    past = more_told;
     fetches = ap (λ op. fetch_past op key) reading.fetches;
     kept = ap (λ (s : List (List Value)). s ++ table_rows_in ((key, row) ∷ [])) reading.kept ∙ sym (rows_in_append reading.front ((key, row) ∷ []));
     whole = λ later answer reads. subst (λ (a : Result KeyedRows Refusal). Fetches manner table Last hold S range_limit First (more ++ later) a) (with_rows_row reading.front key row answer)
@@ -111,7 +111,7 @@ module _ (before now next : Option (List Exchange)) (manner : Manner) (table : T
     start = Past key;
     front = reading.front;
     exchanges = more;
-    told = more_told;
+    past = more_told;
     fetches = ap (λ op. fetch_past op key) reading.fetches;
     kept = reading.kept;
     whole = λ later answer reads. onward later answer (subst (λ r. ReadsOn (λ key rest. Fetches manner table Last hold S (left - 1) (Past key) later rest) r later answer) (sym is) reads);
@@ -128,15 +128,15 @@ module _ (before now next : Option (List Exchange)) (manner : Manner) (table : T
   reading_lacks key row at is = stopped (Err refusals.Memory) (Err refusals.Memory) (subst (λ r. ReadsOn (λ key rest. Fetches manner table Last hold S (left - 1) (Past key) [] rest) r [] (Err refusals.Memory)) (sym is) (Err refusals.Memory, refl, tt)) refl
 
 -- the range has more keys than are looked at
-pub reading_limited : (before now : Option (List Exchange)) (manner : Manner) (table : TableName) (hold : Hold) (left : ℕ) (fetch : Op) (rows : List (List Value)) → Reading before now manner table hold left fetch rows → left ≡ 0 → Reads before now manner table hold (Err refusals.Limit)
-reading_limited before now manner table hold left fetch rows reading none = reads_whole before now manner table hold reading.exchanges (Err refusals.Limit) (Err refusals.Limit) reading.told
+pub reading_limited : (before now : PortPast) (manner : Manner) (table : TableName) (hold : Hold) (left : ℕ) (fetch : Op) (rows : List (List Value)) → Reading before now manner table hold left fetch rows → left ≡ 0 → Reads before now manner table hold (Err refusals.Limit)
+reading_limited before now manner table hold left fetch rows reading none = reads_whole before now manner table hold reading.exchanges (Err refusals.Limit) (Err refusals.Limit) reading.past
     (subst (λ (s : List Exchange). Fetches manner table Last hold S range_limit First s (Err refusals.Limit)) (append-nil reading.exchanges) (reading.whole [] (Err refusals.Limit) none)) refl
 
 -- a fetch neither begins nor ends a transaction
 pub fetch_stays : (b : Bool) (table : TableName) (start : Start) (stop : Stop) (hold : Hold) (part : KeyPart) (reply : Reply) → in_transaction_after b (Fetch table start stop hold part) reply ≡ b
 fetch_stays b table start stop hold part reply = refl
 
-pub reading_stays : (before now : Option (List Exchange)) (manner : Manner) (table : TableName) (hold : Hold) (left : ℕ) (fetch : Op) (rows : List (List Value)) (b : Bool) (reply : Reply) → Reading before now manner table hold left fetch rows → in_transaction_after b fetch reply ≡ b
+pub reading_stays : (before now : PortPast) (manner : Manner) (table : TableName) (hold : Hold) (left : ℕ) (fetch : Op) (rows : List (List Value)) (b : Bool) (reply : Reply) → Reading before now manner table hold left fetch rows → in_transaction_after b fetch reply ≡ b
 reading_stays before now manner table hold left fetch rows b reply reading = ap (λ op. in_transaction_after b op reply) reading.fetches ∙ fetch_stays b table reading.start Last hold S reply
 
 -- what holds where a call answered Ok

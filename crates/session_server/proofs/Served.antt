@@ -1,5 +1,5 @@
 -- What a connection has done between two messages, and how it goes on.
-use Rattle.std.proofs.Common.{◌≡◌, ℕ, ◌+◌, ◌-◌, ◌≤◌, List, [], ◌∷◌, ◌++◌, length, Option, None, refl, sym, subst, ◌∙◌, arith, length-append, zero-add}
+use Rattle.std.proofs.Common.{◌≡◌, ℕ, ◌+◌, ◌-◌, ◌≤◌, List, [], ◌∷◌, ◌++◌, length, Option, None, refl, sym, subst, ◌∙◌, arith, length-append, zero-add, append-nil}
 use Rattle.std.specs.Io.KnownBytes.{Appends}
 use Rattle.std.proofs.KnownBytes.{Appends-nil, Appends-trans}
 use Rattle.outside_io.specs.Bytes.{Takes}
@@ -11,18 +11,18 @@ use Rattle.tds_packets.specs.declared.reader.MessageFault.{MessageFault}
 use Rattle.tds_packets.specs.declared.reader.MessageFault.TheVariants as reading
 use Rattle.tds_packets.specs.Stream.{IsMessage, IsPartial, Joins, Splits}
 use Rattle.tds_packets.specs.Reading.{StopsBy}
-use Rattle.step_model.specs.Exchange.{Exchange}
+use Rattle.step_model.specs.Exchange.{PortPast, GoesOn}
 use Rattle.session_server.specs.declared.end.End.{End}
 use Rattle.session_server.specs.Asking.{Asking, Does}
 use Rattle.session_server.specs.Conversation.{Means}
 use Rattle.session_server.specs.Response.{Response}
 use Rattle.session_server.specs.Talk.{responds, ends, answer_to, Talk, talk_end, response_bytes, Bytes}
 use Rattle.session_server.proofs.Commits.{talk_commits}
-use Rattle.session_server.proofs.Composed.{does_nothing, tells_more}
+use Rattle.session_server.proofs.Composed.{does_nothing, goes_further}
 use Rattle.session_server.proofs.Talks.{end_more, end_one, talk_more, talk_same, bytes_more}
 
 -- whole messages were taken, and each was answered
-pub record Served {S : Type 0} (left given : S → Option (List ℕ)) (first now : S) (told_first told_now : Option (List Exchange)) (old new : Option (List ℕ)) (spid taken : ℕ) : Type 0 where
+pub record Served {S : Type 0} (left given : S → Option (List ℕ)) (first now : S) (told_first told_now : PortPast) (old new : Option (List ℕ)) (spid taken : ℕ) : Type 0 where
   pub bytes : List ℕ
   pub messages : List Message
   pub responses : List Response
@@ -33,7 +33,7 @@ pub record Served {S : Type 0} (left given : S → Option (List ℕ)) (first now
   pub answered : talk_end messages ≡ None
   pub count : taken ≡ length bytes
 
-pub nothing_served : {S : Type 0} (left given : S → Option (List ℕ)) (source : S) (told : Option (List Exchange)) (sink : Option (List ℕ)) (spid : ℕ) → Served left given source source told told sink sink spid 0
+pub nothing_served : {S : Type 0} (left given : S → Option (List ℕ)) (source : S) (told : PortPast) (sink : Option (List ℕ)) (spid : ℕ) → Served left given source source told told sink sink spid 0
 unfolding Joins Talk
 nothing_served left given source told sink spid = record {
   bytes = [];
@@ -48,26 +48,34 @@ nothing_served left given source told sink spid = record {
 }
 
 -- what was asked is what the talk means
-pub means_of : (before after : Option (List Exchange)) (messages : List Message) (responses : List Response) → Does before after (Talk messages) responses → Means before after messages responses
+pub means_of : (before after : PortPast) (messages : List Message) (responses : List Response) → Does before after (Talk messages) responses → Means before after messages responses
 means_of before after messages responses does = record { does = does; commits = (talk_commits messages does.exchanges responses does.asks).0 }
 
 -- a message more is answered
-pub does_more : (before mid after : Option (List Exchange)) (messages : List Message) (message : Message) (tree : Asking Response) (responses : List Response) (response : Response) → talk_end messages ≡ None → answer_to message ≡ responds tree
+pub does_more : (before mid after : PortPast) (messages : List Message) (message : Message) (tree : Asking Response) (responses : List Response) (response : Response) → talk_end messages ≡ None → answer_to message ≡ responds tree
     → Does before mid (Talk messages) responses → Does mid after tree response → Does before after (Talk (messages ++ message ∷ [])) (responses ++ response ∷ [])
 does_more before mid after messages message tree responses response none is does more = record {
   exchanges = does.exchanges ++ more.exchanges;
-  told = tells_more before mid after does.exchanges more.exchanges does.told more.told;
+  past = goes_further before mid after does.exchanges more.exchanges does.past more.past;
   asks = talk_more messages message tree does.exchanges more.exchanges responses response none is does.asks more.asks;
 }
 
 -- a message that ends the talk asks nothing
-pub does_same : (before after : Option (List Exchange)) (messages : List Message) (message : Message) (end : End) (responses : List Response) → talk_end messages ≡ None → answer_to message ≡ ends end
+pub does_same : (before after : PortPast) (messages : List Message) (message : Message) (end : End) (responses : List Response) → talk_end messages ≡ None → answer_to message ≡ ends end
     → Does before after (Talk messages) responses → Does before after (Talk (messages ++ message ∷ [])) responses
-does_same before after messages message end responses none is does = record { exchanges = does.exchanges; told = does.told; asks = talk_same messages message end does.exchanges responses none is does.asks }
+does_same before after messages message end responses none is does = record { exchanges = does.exchanges; past = does.past; asks = talk_same messages message end does.exchanges responses none is does.asks }
+
+-- nothing more was asked
+pub does_still : {A : Type 0} (before mid after : PortPast) (tree : Asking A) (a : A) → Does before mid tree a → GoesOn mid after [] → Does before after tree a
+does_still before mid after tree a does still = record {
+  exchanges = does.exchanges;
+  past = subst (GoesOn before after) (append-nil does.exchanges) (goes_further before mid after does.exchanges [] does.past still);
+  asks = does.asks;
+}
 
 -- ---- one message more
 
-module _ {S : Type 0} (left given : S → Option (List ℕ)) (first now next : S) (told_first told_now : Option (List Exchange)) (old mid : Option (List ℕ)) (spid before : ℕ) (served : Served left given first now told_first told_now old mid spid before) (bytes : List ℕ) (took : Takes left given now next bytes) where
+module _ {S : Type 0} (left given : S → Option (List ℕ)) (first now next : S) (told_first told_now : PortPast) (old mid : Option (List ℕ)) (spid before : ℕ) (served : Served left given first now told_first told_now old mid spid before) (bytes : List ℕ) (took : Takes left given now next bytes) where
   pub all_taken : Takes left given first next (served.bytes ++ bytes)
   all_taken = Takes-trans left given first now next served.bytes bytes served.took took
 
@@ -78,7 +86,7 @@ module _ {S : Type 0} (left given : S → Option (List ℕ)) (first now next : S
   joined_more message is = Joins-message 0 served.bytes bytes served.messages message served.joined (subst (λ (at : ℕ). IsMessage at bytes message) (served.count ∙ sym (zero-add (length served.bytes))) is)
 
   -- one more message was taken, and answered
-  pub served_more : (told_next : Option (List Exchange)) (new : Option (List ℕ)) (after : ℕ) (message : Message) (tree : Asking Response) (response : Response) → after ≡ before + length bytes → IsMessage before bytes message → answer_to message ≡ responds tree
+  pub served_more : (told_next : PortPast) (new : Option (List ℕ)) (after : ℕ) (message : Message) (tree : Asking Response) (response : Response) → after ≡ before + length bytes → IsMessage before bytes message → answer_to message ≡ responds tree
       → Does told_now told_next tree response → Appends mid new (response_bytes spid response) → Served left given first next told_first told_next old new spid after
   served_more told_next new after message tree response count is answer does written = record {
     bytes = served.bytes ++ bytes;

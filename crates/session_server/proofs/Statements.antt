@@ -6,7 +6,7 @@ use Rattle.value_types.specs.declared.table_name.TableName.{TableName}
 use Rattle.value_types.specs.declared.value.Value.{Value}
 use Rattle.step_model.specs.declared.range.Start.TheVariants.{First}
 use Rattle.step_model.specs.declared.range.Stop.TheVariants.{Last}
-use Rattle.step_model.specs.Exchange.{Exchange}
+use Rattle.step_model.specs.Exchange.{PortPast}
 use Rattle.session_server.specs.declared.asking.Refusal.{Refusal}
 use Rattle.session_server.specs.declared.asking.Refusal.TheVariants as refusals
 use Rattle.session_server.specs.declared.effect.Effect.{Effect}
@@ -18,9 +18,9 @@ use Rattle.session_server.specs.Asking.{KeyedRows, begins, row_at, rows_of, mark
 use Rattle.session_server.specs.Meaning.{first_manner, failure_of, or_failure, ◌>>=◌, known, look_up, looked_through, look_for_triggers, placed, put_row, read_table, rows_read, selected, ending, begun, transaction, create, insert, select, unless_objects, meaning_of}
 use Rattle.session_server.specs.Tables.{table_of, objects_name, object_key, object_row, table_key, table_row, is_objects, table_rows_in}
 use Rattle.session_server.specs.Parts.{kept_rows, Reads}
-use Rattle.session_server.proofs.Composed.{tells_none, does_nothing, does_then, does_bind, does_bind_err, does_ask, does_made}
+use Rattle.session_server.proofs.Composed.{goes_nowhere, does_nothing, does_then, does_bind, does_bind_err, does_ask, does_made}
 
-module _ (t0 t1 t2 t3 : Option (List Exchange)) where
+module _ (t0 t1 t2 t3 : PortPast) where
   -- ---- the end of a transaction
 
   pub ended_well : (effect : Effect) (u v : Unit {0}) → Does t0 t1 (asked first_manner relaxes) u → Does t1 t2 (asked first_manner commits) v → Does t0 t2 (ask first_manner relaxes (λ _. ending (Ok effect))) (Ok effect)
@@ -50,7 +50,7 @@ module _ (t0 t1 t2 t3 : Option (List Exchange)) where
 
   pub look_up_lacking : (name : List ℕ) → Does t0 t0 (look_up name) (Err NoMemory)
   unfolding look_up Asks ReadAs
-  look_up_lacking name = record { exchanges = []; told = tells_none t0; asks = (Err refusals.Memory, [], [], refl, inl refl, (refl, refl)) }
+  look_up_lacking name = record { exchanges = []; past = goes_nowhere t0; asks = (Err refusals.Memory, [], [], refl, inl refl, (refl, refl)) }
 
   -- ---- a row is put
 
@@ -67,7 +67,7 @@ module _ (t0 t1 t2 t3 : Option (List Exchange)) where
 
   pub put_lacking : (table : TableName) (key row : List Value) (failure : Failure) → Does t0 t0 (put_row table key row failure) (Err NoMemory)
   unfolding put_row ◌>>=◌ Asks ReadAs
-  put_lacking table key row failure = record { exchanges = []; told = tells_none t0; asks = (Err refusals.Memory, [], [], refl, inl refl, (refl, refl)) }
+  put_lacking table key row failure = record { exchanges = []; past = goes_nowhere t0; asks = (Err refusals.Memory, [], [], refl, inl refl, (refl, refl)) }
 
   -- ---- ranges
 
@@ -90,7 +90,7 @@ module _ (t0 t1 t2 t3 : Option (List Exchange)) where
 
   pub search_lacking : Does t0 t0 look_for_triggers (Err NoMemory)
   unfolding look_for_triggers Asks ReadAs
-  search_lacking = record { exchanges = []; told = tells_none t0; asks = (Err refusals.Memory, [], [], refl, tt, (refl, refl)) }
+  search_lacking = record { exchanges = []; past = goes_nowhere t0; asks = (Err refusals.Memory, [], [], refl, tt, (refl, refl)) }
 
   pub table_read : (name : List ℕ) (rows : List (List Value)) → Reads t0 t1 first_manner (table_of name) Row (Ok rows) → Does t0 t1 (read_table name) (selected rows)
   unfolding read_table
@@ -112,7 +112,7 @@ module _ (t0 t1 t2 t3 : Option (List Exchange)) where
 
   pub table_lacking : (name : List ℕ) → Does t0 t0 (read_table name) (Err NoMemory)
   unfolding read_table Asks ReadAs
-  table_lacking name = record { exchanges = []; told = tells_none t0; asks = (Err refusals.Memory, [], [], refl, tt, (refl, refl)) }
+  table_lacking name = record { exchanges = []; past = goes_nowhere t0; asks = (Err refusals.Memory, [], [], refl, tt, (refl, refl)) }
 
   -- ---- statements
 

@@ -15,7 +15,7 @@ use Rattle.step_model.specs.declared.range.Stop.{Stop}
 use Rattle.step_model.specs.declared.range.Stop.TheVariants.{Within}
 use Rattle.step_model.specs.declared.reply.Reply.{Reply}
 use Rattle.step_model.specs.declared.reply.Reply.TheVariants as replies
-use Rattle.step_model.specs.Exchange.{Exchange, TellsAll}
+use Rattle.step_model.specs.Exchange.{Exchange, PortPast, GoesOn}
 use Rattle.session_server.specs.declared.asking.Refusal.{Refusal}
 use Rattle.session_server.specs.declared.asking.Refusal.TheVariants as refusals
 
@@ -148,7 +148,7 @@ Asks (ask manner question go) exchanges result = (answer : Answer question) × (
 -- ---- what the port tells
 
 -- between what the port told before and what it tells now, the tree came to the result
-pub record Does {A : Type 0} (before after : Option (List Exchange)) (tree : Asking A) (result : A) : Type 0 where
+pub record Does {A : Type 0} (before after : PortPast) (tree : Asking A) (result : A) : Type 0 where
   pub exchanges : List Exchange
-  pub told : TellsAll before after exchanges
+  pub past : GoesOn before after exchanges
   pub asks : Asks tree exchanges result

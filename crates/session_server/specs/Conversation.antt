@@ -9,7 +9,7 @@ use Rattle.tds_packets.specs.declared.message.Message.{Message}
 use Rattle.tds_packets.specs.declared.reader.MessageFault.TheVariants as faults
 use Rattle.tds_packets.specs.Stream.{Splits}
 use Rattle.tds_packets.specs.Reading.{StopsBy, IsUnrefused, byte_limit}
-use Rattle.step_model.specs.Exchange.{Exchange}
+use Rattle.step_model.specs.Exchange.{PortPast}
 use Rattle.step_model.specs.Fits.{commits_of}
 use Rattle.session_server.specs.declared.end.End.{End}
 use Rattle.session_server.specs.declared.end.End.TheVariants.{Closed, Cut, BadHeader, TooLong, OutOfPlace, BadBatch, Spent, ReadFault, WriteFault, Memory}
@@ -71,13 +71,13 @@ Emptied left end = Unit {0}
 
 -- Between `before` and `after` the port tells exchanges by which the talk of these messages comes to
 -- these responses; and what these say was committed is what those exchanges committed.
-pub record Means (before after : Option (List Exchange)) (messages : List Message) (responses : List Response) : Type 0 where
+pub record Means (before after : PortPast) (messages : List Message) (responses : List Response) : Type 0 where
   pub does : Does before after (Talk messages) responses
   pub commits : commits_of [] does.exchanges ≡ commits_in responses
 
 -- A connection of this session. `gave` says which bytes came from its source, in which `left` are left.
 -- At `Memory` the last response may be one that was never made: then none of its bytes was written.
-pub record Conversation (session : ℕ) (gave : List ℕ → Type 0) (left : Option (List ℕ)) (port_before port_after : Option (List Exchange)) (sink_before sink_after : Option (List ℕ)) (end : End) : Type 0 where
+pub record Conversation (session : ℕ) (gave : List ℕ → Type 0) (left : Option (List ℕ)) (port_before port_after : PortPast) (sink_before sink_after : Option (List ℕ)) (end : End) : Type 0 where
   pub taken : List ℕ
   pub messages : List Message
   pub rest : List ℕ

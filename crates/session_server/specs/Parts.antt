@@ -1,6 +1,6 @@
 -- Own: what the private parts of a connection give: the reader of a range, and the handling of a message.
 -- No public clause cites this file. Each part is said of what the port told before and tells after it.
-use Rattle.std.specs.Prelude.{◌≡◌, ℕ, List, Option, Result, Ok, Err}
+use Rattle.std.specs.Prelude.{◌≡◌, ℕ, List, [], Option, Result, Ok, Err}
 use Rattle.lock_modes.specs.declared.KeyPart.TheVariants.{S}
 use Rattle.value_types.specs.declared.table_name.TableName.{TableName}
 use Rattle.value_types.specs.declared.value.Value.{Value}
@@ -10,7 +10,7 @@ use Rattle.step_model.specs.declared.op.Op.{Op}
 use Rattle.step_model.specs.declared.op.Op.TheVariants.{Fetch}
 use Rattle.step_model.specs.declared.range.Start.TheVariants.{First, Past}
 use Rattle.step_model.specs.declared.range.Stop.TheVariants.{Last}
-use Rattle.step_model.specs.Exchange.{Exchange}
+use Rattle.step_model.specs.Exchange.{PortPast, GoesOn}
 use Rattle.session_server.specs.declared.asking.Refusal.{Refusal}
 use Rattle.session_server.specs.Asking.{KeyedRows, rows_of, asked, Does}
 use Rattle.session_server.specs.Tables.{table_rows_in}
@@ -27,7 +27,7 @@ kept_rows (Ok rows) = Ok (table_rows_in rows)
 kept_rows (Err refusal) = Err refusal
 
 -- a whole table was read, and this was kept of it
-pub record Reads (before after : Option (List Exchange)) (manner : Manner) (table : TableName) (hold : Hold) (result : Result (List (List Value)) Refusal) : Type 0 where
+pub record Reads (before after : PortPast) (manner : Manner) (table : TableName) (hold : Hold) (result : Result (List (List Value)) Refusal) : Type 0 where
   pub answer : Result KeyedRows Refusal
   pub does : Does before after (asked manner (rows_of table First Last hold S)) answer
   pub kept : result ≡ kept_rows answer
@@ -40,17 +40,17 @@ fetch_past op key = op
 -- ---- a message
 
 -- a message's response was made, as these bytes
-abbrev pub IsMade : Handling → Option (List Exchange) → Option (List Exchange) → List ℕ → Type 0
+abbrev pub IsMade : Handling → PortPast → PortPast → List ℕ → Type 0
 IsMade (responds tree) before after bytes = (response : Response) × Does before after tree response × (bytes ≡ TokenBytes response.tokens)
 IsMade (ends end) before after bytes = ⊥
 
 -- a message has this response
-abbrev pub IsAnswered : Handling → Option (List Exchange) → Option (List Exchange) → List Token → Type 0
+abbrev pub IsAnswered : Handling → PortPast → PortPast → List Token → Type 0
 IsAnswered (responds tree) before after tokens = (response : Response) × Does before after tree response × (tokens ≡ response.tokens)
 IsAnswered (ends end) before after tokens = ⊥
 
 -- the end that comes in place of a response: the message's, or want of memory for the response
-abbrev pub IsEndOf : Handling → Option (List Exchange) → Option (List Exchange) → End → Type 0
+abbrev pub IsEndOf : Handling → PortPast → PortPast → End → Type 0
 IsEndOf (responds tree) before after Memory = (response : Response) × Does before after tree response
 IsEndOf (responds tree) before after end = ⊥
-IsEndOf (ends made) before after end = (made ≡ end) × (after ≡ before)
+IsEndOf (ends made) before after end = (made ≡ end) × GoesOn before after []

@@ -22,7 +22,7 @@ pub(crate) enum Refusal {
 pub(crate) fn begin<P: Port>(port: &mut P, manner: Manner) -> Result<(), Refusal>
     requires ended { P.in_transaction port.old ≡ false }
     requires priority { IsPriority manner.priority }
-    ensures does { Does (P.told port.old) (P.told port.new) (asked manner begins) result }
+    ensures does { Does (P.past port.old) (P.past port.new) (asked manner begins) result }
     ensures begun { P.in_transaction port.new ≡ is_ok result }
     ensures session { P.session port.new ≡ P.session port.old }
 {
@@ -38,7 +38,7 @@ pub(crate) fn begin<P: Port>(port: &mut P, manner: Manner) -> Result<(), Refusal
 pub(crate) fn mark<P: Port>(port: &mut P, manner: Manner) -> Result<u64, Refusal>
     requires begun { P.in_transaction port.old ≡ true }
     requires priority { IsPriority manner.priority }
-    ensures does { Does (P.told port.old) (P.told port.new) (asked manner marks) result }
+    ensures does { Does (P.past port.old) (P.past port.new) (asked manner marks) result }
     ensures begun { P.in_transaction port.new ≡ true }
     ensures session { P.session port.new ≡ P.session port.old }
 {
@@ -60,7 +60,7 @@ pub(crate) fn insert<P: Port>(
 ) -> Result<bool, Refusal>
     requires begun { P.in_transaction port.old ≡ true }
     requires priority { IsPriority manner.priority }
-    ensures does { Does (P.told port.old) (P.told port.new) (asked manner (inserts table key row)) result }
+    ensures does { Does (P.past port.old) (P.past port.new) (asked manner (inserts table key row)) result }
     ensures begun { P.in_transaction port.new ≡ true }
     ensures session { P.session port.new ≡ P.session port.old }
 {
@@ -85,7 +85,7 @@ pub(crate) fn find_row<P: Port>(
     requires begun { P.in_transaction port.old ≡ true }
     requires priority { IsPriority manner.priority }
     requires whole { stop ≡ start }
-    ensures does { Does (P.told port.old) (P.told port.new) (asked manner (row_at table start Hold.Range KeyPart.S)) result }
+    ensures does { Does (P.past port.old) (P.past port.new) (asked manner (row_at table start Hold.Range KeyPart.S)) result }
     ensures begun { P.in_transaction port.new ≡ true }
     ensures session { P.session port.new ≡ P.session port.old }
 {
@@ -110,7 +110,7 @@ pub(crate) fn find_row<P: Port>(
 pub(crate) fn relax<P: Port>(port: &mut P, manner: Manner)
     requires begun { P.in_transaction port.old ≡ true }
     requires priority { IsPriority manner.priority }
-    ensures does { Does (P.told port.old) (P.told port.new) (asked manner relaxes) result }
+    ensures does { Does (P.past port.old) (P.past port.new) (asked manner relaxes) result }
     ensures begun { P.in_transaction port.new ≡ true }
     ensures session { P.session port.new ≡ P.session port.old }
 {
@@ -125,7 +125,7 @@ pub(crate) fn relax<P: Port>(port: &mut P, manner: Manner)
 pub(crate) fn commit<P: Port>(port: &mut P, manner: Manner)
     requires begun { P.in_transaction port.old ≡ true }
     requires priority { IsPriority manner.priority }
-    ensures does { Does (P.told port.old) (P.told port.new) (asked manner commits) result }
+    ensures does { Does (P.past port.old) (P.past port.new) (asked manner commits) result }
     ensures ended { P.in_transaction port.new ≡ false }
     ensures session { P.session port.new ≡ P.session port.old }
 {
@@ -140,7 +140,7 @@ pub(crate) fn commit<P: Port>(port: &mut P, manner: Manner)
 pub(crate) fn roll_back<P: Port>(port: &mut P, manner: Manner)
     requires begun { P.in_transaction port.old ≡ true }
     requires priority { IsPriority manner.priority }
-    ensures does { Does (P.told port.old) (P.told port.new) (asked manner rolls_back) result }
+    ensures does { Does (P.past port.old) (P.past port.new) (asked manner rolls_back) result }
     ensures ended { P.in_transaction port.new ≡ false }
     ensures session { P.session port.new ≡ P.session port.old }
 {

@@ -26,7 +26,7 @@ pub(crate) fn read_rows<P: Port>(
 ) -> Result<RowList, Refusal>
     requires begun { P.in_transaction port.old ≡ true }
     requires priority { IsPriority manner.priority }
-    ensures reads { Reads (P.told port.old) (P.told port.new) manner table hold result }
+    ensures reads { Reads (P.past port.old) (P.past port.new) manner table hold result }
     ensures begun { P.in_transaction port.new ≡ true }
     ensures session { P.session port.new ≡ P.session port.old }
 {

@@ -52,7 +52,7 @@ pub(crate) fn run_statement<P: Port>(
     statement: &Statement,
 ) -> Result<Effect, Failure>
     requires ended { P.in_transaction port.old ≡ false }
-    ensures does { Does (P.told port.old) (P.told port.new) (meaning_of statement.now) result }
+    ensures does { Does (P.past port.old) (P.past port.new) (meaning_of statement.now) result }
     ensures ended { P.in_transaction port.new ≡ false }
     ensures session { P.session port.new ≡ P.session port.old }
 {
@@ -68,7 +68,7 @@ pub(crate) fn run_statement<P: Port>(
 // CREATE TABLE.
 fn create_table<P: Port>(alloc: Global, port: &mut P, name: &Units) -> Result<Effect, Failure>
     requires ended { P.in_transaction port.old ≡ false }
-    ensures does { Does (P.told port.old) (P.told port.new) (unless_objects name.now TablePresent (create name.now)) result }
+    ensures does { Does (P.past port.old) (P.past port.new) (unless_objects name.now TablePresent (create name.now)) result }
     ensures ended { P.in_transaction port.new ≡ false }
     ensures session { P.session port.new ≡ P.session port.old }
 {
@@ -89,7 +89,7 @@ fn insert_row<P: Port>(
     value: u32,
 ) -> Result<Effect, Failure>
     requires ended { P.in_transaction port.old ≡ false }
-    ensures does { Does (P.told port.old) (P.told port.new) (unless_objects name.now UnknownTable (insert name.now key value)) result }
+    ensures does { Does (P.past port.old) (P.past port.new) (unless_objects name.now UnknownTable (insert name.now key value)) result }
     ensures ended { P.in_transaction port.new ≡ false }
     ensures session { P.session port.new ≡ P.session port.old }
 {
@@ -104,7 +104,7 @@ fn insert_row<P: Port>(
 // SELECT of a table.
 fn select_table<P: Port>(alloc: Global, port: &mut P, name: &Units) -> Result<Effect, Failure>
     requires ended { P.in_transaction port.old ≡ false }
-    ensures does { Does (P.told port.old) (P.told port.new) (unless_objects name.now UnknownTable (select name.now)) result }
+    ensures does { Does (P.past port.old) (P.past port.new) (unless_objects name.now UnknownTable (select name.now)) result }
     ensures ended { P.in_transaction port.new ≡ false }
     ensures session { P.session port.new ≡ P.session port.old }
 {
@@ -119,7 +119,7 @@ fn select_table<P: Port>(alloc: Global, port: &mut P, name: &Units) -> Result<Ef
 // Ends the statement's locks, and its transaction by what came of it.
 fn end<P: Port>(port: &mut P, came: Result<Effect, Failure>) -> Result<Effect, Failure>
     requires begun { P.in_transaction port.old ≡ true }
-    ensures does { Does (P.told port.old) (P.told port.new) (ask first_manner relaxes (λ _. ending came)) result }
+    ensures does { Does (P.past port.old) (P.past port.new) (ask first_manner relaxes (λ _. ending came)) result }
     ensures ended { P.in_transaction port.new ≡ false }
     ensures session { P.session port.new ≡ P.session port.old }
 {
@@ -134,7 +134,7 @@ fn end<P: Port>(port: &mut P, came: Result<Effect, Failure>) -> Result<Effect, F
 // Adds a table's definition.
 fn create<P: Port>(alloc: Global, port: &mut P, name: &Units) -> Result<Effect, Failure>
     requires begun { P.in_transaction port.old ≡ true }
-    ensures does { Does (P.told port.old) (P.told port.new) (create name.now) result }
+    ensures does { Does (P.past port.old) (P.past port.new) (create name.now) result }
     ensures begun { P.in_transaction port.new ≡ true }
     ensures session { P.session port.new ≡ P.session port.old }
 {
@@ -151,7 +151,7 @@ fn insert<P: Port>(
     value: u32,
 ) -> Result<Effect, Failure>
     requires begun { P.in_transaction port.old ≡ true }
-    ensures does { Does (P.told port.old) (P.told port.new) (insert name.now key value) result }
+    ensures does { Does (P.past port.old) (P.past port.new) (insert name.now key value) result }
     ensures begun { P.in_transaction port.new ≡ true }
     ensures session { P.session port.new ≡ P.session port.old }
 {
@@ -164,7 +164,7 @@ fn insert<P: Port>(
 // Reads a table.
 fn select<P: Port>(alloc: Global, port: &mut P, name: &Units) -> Result<Effect, Failure>
     requires begun { P.in_transaction port.old ≡ true }
-    ensures does { Does (P.told port.old) (P.told port.new) (select name.now) result }
+    ensures does { Does (P.past port.old) (P.past port.new) (select name.now) result }
     ensures begun { P.in_transaction port.new ≡ true }
     ensures session { P.session port.new ≡ P.session port.old }
 {
@@ -175,7 +175,7 @@ fn select<P: Port>(alloc: Global, port: &mut P, name: &Units) -> Result<Effect, 
 // Looks up a table's definition.
 fn look_up<P: Port>(alloc: Global, port: &mut P, name: &Units) -> Result<(), Failure>
     requires begun { P.in_transaction port.old ≡ true }
-    ensures does { Does (P.told port.old) (P.told port.new) (look_up name.now) result }
+    ensures does { Does (P.past port.old) (P.past port.new) (look_up name.now) result }
     ensures begun { P.in_transaction port.new ≡ true }
     ensures session { P.session port.new ≡ P.session port.old }
 {
@@ -197,7 +197,7 @@ fn known(name: &Units, found: &Option<(Key, Row)>) -> Result<(), Failure>
 // Puts a table's definition at its key behind a mark.
 fn put_object<P: Port>(alloc: Global, port: &mut P, name: &Units) -> Result<(), Failure>
     requires begun { P.in_transaction port.old ≡ true }
-    ensures does { Does (P.told port.old) (P.told port.new) (put_row (table_of objects_name) (object_key name.now) (object_row name.now) TablePresent) result }
+    ensures does { Does (P.past port.old) (P.past port.new) (put_row (table_of objects_name) (object_key name.now) (object_row name.now) TablePresent) result }
     ensures begun { P.in_transaction port.new ≡ true }
     ensures session { P.session port.new ≡ P.session port.old }
 {
@@ -214,7 +214,7 @@ fn put_table_row<P: Port>(
     value: u32,
 ) -> Result<(), Failure>
     requires begun { P.in_transaction port.old ≡ true }
-    ensures does { Does (P.told port.old) (P.told port.new) (put_row (table_of name.now) (table_key key) (table_row key value) DuplicateKey) result }
+    ensures does { Does (P.past port.old) (P.past port.new) (put_row (table_of name.now) (table_key key) (table_row key value) DuplicateKey) result }
     ensures begun { P.in_transaction port.new ≡ true }
     ensures session { P.session port.new ≡ P.session port.old }
 {
@@ -231,7 +231,7 @@ fn put_row<P: Port>(
     failure: Failure,
 ) -> Result<(), Failure>
     requires begun { P.in_transaction port.old ≡ true }
-    ensures does { Does (P.told port.old) (P.told port.new) (put_row table key row failure) result }
+    ensures does { Does (P.past port.old) (P.past port.new) (put_row table key row failure) result }
     ensures begun { P.in_transaction port.new ≡ true }
     ensures session { P.session port.new ≡ P.session port.old }
 {
@@ -246,7 +246,7 @@ fn put_row<P: Port>(
 // Reads all rows of a table.
 fn read_table<P: Port>(alloc: Global, port: &mut P, name: &Units) -> Result<Effect, Failure>
     requires begun { P.in_transaction port.old ≡ true }
-    ensures does { Does (P.told port.old) (P.told port.new) (read_table name.now) result }
+    ensures does { Does (P.past port.old) (P.past port.new) (read_table name.now) result }
     ensures begun { P.in_transaction port.new ≡ true }
     ensures session { P.session port.new ≡ P.session port.old }
 {
@@ -269,7 +269,7 @@ fn selected(rows: RowList) -> Result<Effect, Failure>
 // Looks for triggers, and for tables that refer to the one written. So far there are none.
 fn look_for_triggers<P: Port>(alloc: Global, port: &mut P) -> Result<(), Failure>
     requires begun { P.in_transaction port.old ≡ true }
-    ensures does { Does (P.told port.old) (P.told port.new) look_for_triggers result }
+    ensures does { Does (P.past port.old) (P.past port.new) look_for_triggers result }
     ensures begun { P.in_transaction port.new ≡ true }
     ensures session { P.session port.new ≡ P.session port.old }
 {

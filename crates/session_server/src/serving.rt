@@ -46,7 +46,7 @@ pub fn serve_on_port<P: Port, S: Source, K: Sink>(
 
     // What was taken, asked, written and committed, and why the connection ended.
     ensures conversation { Conversation session (Takes S.left S.given source.old source.new) (S.left source.new)
-        (P.told port.old) (P.told port.new) (K.written sink.old) (K.written sink.new) result }
+        (P.past port.old) (P.past port.new) (K.written sink.old) (K.written sink.new) result }
     ensures ended { P.in_transaction port.new ≡ false }
     ensures session { P.session port.new ≡ P.session port.old }
 
@@ -79,10 +79,11 @@ pub fn serve_on_port<P: Port, S: Source, K: Sink>(
 }
 
 // The bytes of the response to a message, or the end that comes in its place.
+#[tactic(auto, using(crate::proofs::Composed::goes_nowhere))]
 fn response_bytes<P: Port>(alloc: Global, port: &mut P, message: &Message) -> Result<Vec<u8>, End>
     requires ended { P.in_transaction port.old ≡ false }
-    ensures made { IfOk result (λ bytes. IsMade (answer_to message.now) (P.told port.old) (P.told port.new) bytes.items) }
-    ensures end { IfErr result (IsEndOf (answer_to message.now) (P.told port.old) (P.told port.new)) }
+    ensures made { IfOk result (λ bytes. IsMade (answer_to message.now) (P.past port.old) (P.past port.new) bytes.items) }
+    ensures end { IfErr result (IsEndOf (answer_to message.now) (P.past port.old) (P.past port.new)) }
     ensures ended { P.in_transaction port.new ≡ false }
     ensures session { P.session port.new ≡ P.session port.old }
 {
@@ -95,10 +96,11 @@ fn response_bytes<P: Port>(alloc: Global, port: &mut P, message: &Message) -> Re
 }
 
 // The tokens of the response to a message, or the end that comes in its place.
+#[tactic(auto, using(crate::proofs::Composed::goes_nowhere))]
 fn tokens_for<P: Port>(alloc: Global, port: &mut P, message: &Message) -> Result<Vec<Token>, End>
     requires ended { P.in_transaction port.old ≡ false }
-    ensures tokens { IfOk result (λ tokens. IsAnswered (answer_to message.now) (P.told port.old) (P.told port.new) tokens.items) }
-    ensures end { IfErr result (IsEndOf (answer_to message.now) (P.told port.old) (P.told port.new)) }
+    ensures tokens { IfOk result (λ tokens. IsAnswered (answer_to message.now) (P.past port.old) (P.past port.new) tokens.items) }
+    ensures end { IfErr result (IsEndOf (answer_to message.now) (P.past port.old) (P.past port.new)) }
     ensures ended { P.in_transaction port.new ≡ false }
     ensures session { P.session port.new ≡ P.session port.old }
 {
@@ -116,10 +118,11 @@ fn tokens_for<P: Port>(alloc: Global, port: &mut P, message: &Message) -> Result
 }
 
 // The tokens of the response to a batch with this payload, or what is wrong with the payload.
+#[tactic(auto, using(crate::proofs::Composed::goes_nowhere))]
 fn batch_tokens<P: Port>(alloc: Global, port: &mut P, payload: &[u8]) -> Result<Vec<Token>, End>
     requires ended { P.in_transaction port.old ≡ false }
-    ensures tokens { IfOk result (λ tokens. IsAnswered (answer_to_batch payload.now (batch_fault payload.now)) (P.told port.old) (P.told port.new) tokens.items) }
-    ensures end { IfErr result (IsEndOf (answer_to_batch payload.now (batch_fault payload.now)) (P.told port.old) (P.told port.new)) }
+    ensures tokens { IfOk result (λ tokens. IsAnswered (answer_to_batch payload.now (batch_fault payload.now)) (P.past port.old) (P.past port.new) tokens.items) }
+    ensures end { IfErr result (IsEndOf (answer_to_batch payload.now (batch_fault payload.now)) (P.past port.old) (P.past port.new)) }
     ensures ended { P.in_transaction port.new ≡ false }
     ensures session { P.session port.new ≡ P.session port.old }
 {
@@ -152,8 +155,8 @@ fn statement_tokens<P: Port>(
     statement: &Statement,
 ) -> Result<Vec<Token>, End>
     requires ended { P.in_transaction port.old ≡ false }
-    ensures tokens { IfOk result (λ tokens. IsAnswered (responds (answer_statement statement.now)) (P.told port.old) (P.told port.new) tokens.items) }
-    ensures end { IfErr result (IsEndOf (responds (answer_statement statement.now)) (P.told port.old) (P.told port.new)) }
+    ensures tokens { IfOk result (λ tokens. IsAnswered (responds (answer_statement statement.now)) (P.past port.old) (P.past port.new) tokens.items) }
+    ensures end { IfErr result (IsEndOf (responds (answer_statement statement.now)) (P.past port.old) (P.past port.new)) }
     ensures ended { P.in_transaction port.new ≡ false }
     ensures session { P.session port.new ≡ P.session port.old }
 {

@@ -17,15 +17,24 @@ pub record Exchange : Type 0 where
   pub manner : Manner
   pub reply : Reply
 
--- these exchanges more are told, or none any longer; what isn't told stays so
+-- What is behind a port: the exchanges so far, where it tells them, and which lists of exchanges may
+-- have led to it.
+pub record PortPast : Type 1 where
+  pub told : Option (List Exchange)
+  pub led_by : List Exchange → Type 0
+
+-- these exchanges more are told, or none any longer, but not without any; what isn't told stays so
 abbrev pub TellsAll : Option (List Exchange) → Option (List Exchange) → List Exchange → Type 0
-TellsAll before None exchanges = Unit {0}
+TellsAll None None exchanges = Unit {0}
+TellsAll (Some before) None [] = ⊥
+TellsAll (Some before) None (exchange ∷ exchanges) = Unit {0}
 TellsAll None (Some after) exchanges = ⊥
 TellsAll (Some before) (Some after) exchanges = after ≡ before ++ exchanges
 
--- one exchange more
-abbrev pub Tells : Option (List Exchange) → Option (List Exchange) → Exchange → Type 0
-Tells before after exchange = TellsAll before after (exchange ∷ [])
+-- between two moments of a port these were its exchanges
+pub record GoesOn (before after : PortPast) (exchanges : List Exchange) : Type 0 where
+  pub told : TellsAll before.told after.told exchanges
+  pub led : (earlier : List Exchange) → before.led_by earlier → after.led_by (earlier ++ exchanges)
 
 -- the numbers of sessions
 abbrev pub IsSession : ℕ → Type 0

@@ -1,20 +1,25 @@
 -- What `pipe` does, from what its connection did and what its port tells.
-use Rattle.std.proofs.Common.{◌≡◌, ℕ, suc, Bool, true, false, List, [], ◌∷◌, map, filter, Option, None, Some, is_some, inl, inr, refl, sym, ap, subst, ◌∙◌, arith}
+use Rattle.std.proofs.Common.{◌≡◌, ℕ, suc, ◌+◌, ◌-◌, ◌≤◌, Bool, true, false, List, [], ◌∷◌, ◌++◌, map, length, drop, filter, Option, None, Some, is_some, inl, inr, refl, sym, ap, subst, ◌∙◌, arith, length-append}
 use Rattle.std.specs.Prelude.{IfSome, ◌==◌, ◌⊎◌}
 use Rattle.std.specs.List.{All}
 use Rattle.std.proofs.lemmas.Bool.{eq-eqb}
 use Rattle.tds_packets.specs.declared.message.Message.{Message}
-use Rattle.step_model.specs.Exchange.{Exchange}
+use Rattle.tds_packets.specs.Stream.{Joins}
+use Rattle.tds_packets.proofs.Joined.{message_length}
+use Rattle.step_model.specs.declared.change.Change.{Change}
+use Rattle.step_model.specs.Exchange.{Exchange, TellsAll}
 use Rattle.step_model.specs.Log.{Commit}
 use Rattle.step_model.specs.Fits.{Fits, commits_of}
-use Rattle.step_model.specs.Step.{opening, is_open}
-use Rattle.engine_core.specs.Solo.{Solo, IsRunOf, solo_open}
+use Rattle.step_model.specs.Step.{Run, asked_by, opening, is_open}
+use Rattle.engine_core.specs.Solo.{Solo, solo_open, solo_past}
+use Rattle.engine_core.proofs.Fitting.{run_fits, run_own}
 use Rattle.session_server.specs.declared.end.End.{End}
 use Rattle.session_server.specs.declared.end.End.TheVariants as ends
-use Rattle.session_server.specs.Conversation.{Conversation, Means, Completes}
+use Rattle.session_server.specs.Asking.{Asks}
+use Rattle.session_server.specs.Conversation.{Conversation, EndsBy, Completes}
 use Rattle.session_server.specs.Response.{Response}
-use Rattle.session_server.specs.Talk.{commits_in}
-use Rattle.tsqld.specs.Program.{Piped, EndsWell, status_of}
+use Rattle.session_server.specs.Talk.{Talk, commits_in}
+use Rattle.tsqld.specs.Program.{Piped, EndsWell, status_of, fresh_port}
 
 -- a log of one session's commits alone
 all_own : (session : ℕ) (log : List Commit) → All (λ commit. commit.session ≡ session) log → filter (λ commit. commit.session == session) log ≡ log
@@ -22,33 +27,72 @@ all_own session [] own = refl
 all_own session (commit ∷ log) own = rw (eq-eqb commit.session session (own 0 commit (omega arith))) (ap (λ (others : List Commit). commit ∷ others) (all_own session log (λ k d below. own (suc k) d (omega (arith, below)))))
 
 -- the commits of the log are those of the responses
-logged : (told : Option (List Exchange)) (messages : List Message) (responses : List Response) (log : List Commit) → Means (Some []) told messages responses → IfSome told (λ exchanges. Fits 1 [] log exchanges)
-    → All (λ commit. commit.session ≡ 1) log → IfSome told (λ _. map (λ commit. commit.changes) log ≡ commits_in responses)
-logged None messages responses log means fits own = tt
-logged (Some exchanges) messages responses log means fits own =
-    ap (map {A = Commit} (λ commit. commit.changes)) (sym (all_own 1 log own)) ∙ fits.commits.1 ∙ ap (commits_of []) means.does.told ∙ means.commits
+logged : (exchanges : List Exchange) (commits : List (List Change)) (log : List Commit) → commits_of [] exchanges ≡ commits → Fits 1 [] log exchanges → All (λ commit. commit.session ≡ 1) log → map (λ commit. commit.changes) log ≡ commits
+logged exchanges commits log are fits own = ap (map {A = Commit} (λ commit. commit.changes)) (sym (all_own 1 log own)) ∙ fits.commits.1 ∙ are
 
-pub piped : (gave : List ℕ → Type 0) (left sink_before sink_after : Option (List ℕ)) (before after : Solo) (end : End) (status : ℕ) → before ≡ record { session = 1; told = Some []; engine = opening }
-    → Conversation 1 gave left before.told after.told sink_before sink_after end → after.session ≡ before.session → solo_open after ≡ false → IsRunOf after.session after.told after.engine
-    → IfSome after.told (λ told. Fits after.session [] after.engine.log told) → All (λ commit. commit.session ≡ after.session) after.engine.log → status ≡ status_of (is_some after.told) end
+-- ---- want of memory
+
+-- where messages were taken, or the rest is long enough, a whole header was
+joined_long : (at : ℕ) (bytes : List ℕ) (message : Message) (messages : List Message) (rest : List ℕ) → Joins at bytes (message ∷ messages) rest → 8 ≤ length bytes
+unfolding Joins
+joined_long at bytes message messages rest joined = omega (arith, ap length joined.2, length-append joined.0 joined.1, message_length at joined.0 message joined.3)
+
+-- what is left behind messages is not longer than all
+joined_rest : (at : ℕ) (bytes : List ℕ) (messages : List Message) (rest : List ℕ) → Joins at bytes messages rest → length rest ≤ length bytes
+unfolding Joins
+joined_rest at bytes [] rest joined = omega (arith, ap length joined)
+joined_rest at bytes (message ∷ messages) rest joined = omega (arith, ap length joined.2, length-append joined.0 joined.1, joined_rest (at + length joined.0) joined.1 messages rest joined.4)
+
+-- without a message nothing was asked
+taken_some : (bytes : List ℕ) (messages : List Message) (rest : List ℕ) (exchanges : List Exchange) (responses : List Response) → Joins 0 bytes messages rest → Asks (Talk messages) exchanges responses → TellsAll (Some []) None exchanges → 8 ≤ length bytes
+unfolding Talk Asks
+taken_some bytes messages rest [] responses joined asks lost = absurd lost
+taken_some bytes [] rest (exchange ∷ exchanges) responses joined asks lost = let none = asks.0 in absurd cc
+taken_some bytes (message ∷ messages) rest (exchange ∷ exchanges) responses joined asks lost = joined_long 0 bytes message messages rest joined
+
+-- the status of an end at which the port still tells
+memory_end : (end : End) → status_of true end ≡ 6 → end ≡ ends.Memory
+memory_end ends.Memory is = refl
+memory_end ends.Closed is = absurd cc
+memory_end (ends.Cut at) is = absurd cc
+memory_end (ends.BadHeader at) is = absurd cc
+memory_end (ends.TooLong at) is = absurd cc
+memory_end (ends.OutOfPlace at kind) is = absurd cc
+memory_end (ends.BadBatch fault) is = absurd cc
+memory_end ends.Spent is = absurd cc
+memory_end ends.ReadFault is = absurd cc
+memory_end ends.WriteFault is = absurd cc
+
+wanted : (told : Option (List Exchange)) (end : End) (status : ℕ) (bytes : List ℕ) (messages : List Message) (rest : List ℕ) (exchanges : List Exchange) (responses : List Response) → status ≡ status_of (is_some told) end → Joins 0 bytes messages rest
+    → Asks (Talk messages) exchanges responses → TellsAll (Some []) told exchanges → EndsBy messages (length bytes - length rest) rest end → status ≡ 6 → 8 ≤ length bytes
+wanted None end status bytes messages rest exchanges responses is joined asks told ended six = taken_some bytes messages rest exchanges responses joined asks told
+wanted (Some all) end status bytes messages rest exchanges responses is joined asks told ended six =
+    let memory : EndsBy messages (length bytes - length rest) rest ends.Memory = subst (EndsBy messages (length bytes - length rest) rest) (memory_end end (sym is ∙ six)) ended in
+    omega (arith, memory.1, joined_rest 0 bytes messages rest joined)
+
+-- ---- the whole
+
+pub piped : (gave : List ℕ → Type 0) (left sink_before sink_after : Option (List ℕ)) (before after : Solo) (end : End) (status : ℕ) → before ≡ fresh_port
+    → Conversation 1 gave left (solo_past before) (solo_past after) sink_before sink_after end → after.session ≡ before.session → solo_open after ≡ false → status ≡ status_of (is_some after.told) end
     → Piped gave left sink_before sink_after status
-piped gave left sink_before sink_after before after end status new served same closed run fits own is =
+piped gave left sink_before sink_after before after end status new served same closed is =
     let one : after.session ≡ 1 = same ∙ ap (λ solo. solo.session) new in
-    let none : before.told ≡ Some [] = ap (λ solo. solo.told) new in
-    let conversation = subst (λ (told : Option (List Exchange)). Conversation 1 gave left told after.told sink_before sink_after end) none served in
-    let fits_one = subst (λ (session : ℕ). IfSome after.told (λ told. Fits session [] after.engine.log told)) one fits in
-    let own_one = subst (λ (session : ℕ). All (λ commit. commit.session ≡ session) after.engine.log) one own in
+    let conversation = subst (λ (solo : Solo). Conversation 1 gave left (solo_past solo) (solo_past after) sink_before sink_after end) new served in
+    let does = conversation.means.does in
+    let run = subst (λ (session : ℕ). Run opening (asked_by session does.exchanges) after.engine) one (does.past.led [] refl) in
+    let fits = run_fits 1 does.exchanges after.engine run in
+    let own = run_own 1 does.exchanges after.engine run in
     record {
       end = end;
-      told = after.told;
-      engine = after.engine;
+      port = after;
       status_is = is;
       conversation = conversation;
-      run = subst (λ (session : ℕ). IsRunOf session after.told after.engine) one run;
-      fits = fits_one;
-      commits = logged after.told conversation.messages conversation.responses after.engine.log conversation.means fits_one own_one;
-      own = own_one;
+      run = run;
+      fits = fits;
+      commits = logged does.exchanges (commits_in conversation.responses) after.engine.log conversation.means.commits fits own;
+      own = own;
       ended = ap (λ (session : ℕ). is_open session after.engine.active) (sym one) ∙ closed;
+      memory = wanted after.told end status conversation.taken conversation.messages conversation.rest does.exchanges conversation.responses is conversation.split.joined does.asks does.past.told conversation.ended;
     }
 
 -- ---- statuses

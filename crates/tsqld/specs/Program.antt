@@ -1,14 +1,13 @@
 -- Own: the words of the program, its statuses, and what `pipe` does. It is said of the whole run; the
 -- code calls the connection, and asks the port whether it tells.
-use Rattle.std.specs.Prelude.{◌≡◌, ℕ, ◌<◌, ◌⊎◌, Bool, true, false, List, [], ◌∷◌, length, map, Option, None, Some, is_some, IfSome, codes}
+use Rattle.std.specs.Prelude.{◌≡◌, ℕ, ◌<◌, ◌≤◌, ◌⊎◌, Bool, true, false, List, [], ◌∷◌, length, map, Option, None, Some, is_some, IfSome, codes}
 use Rattle.std.specs.List.{All}
 use Rattle.tds_packets.specs.declared.message.Message.{Message}
 use Rattle.tds_packets.specs.Stream.{Splits}
 use Rattle.tds_packets.specs.Reading.{byte_limit}
-use Rattle.step_model.specs.Exchange.{Exchange}
 use Rattle.step_model.specs.Fits.{Fits}
-use Rattle.step_model.specs.Step.{Engine, is_open}
-use Rattle.engine_core.specs.Solo.{IsRunOf}
+use Rattle.step_model.specs.Step.{Run, asked_by, opening, is_open}
+use Rattle.engine_core.specs.Solo.{Solo, solo_past}
 use Rattle.session_server.specs.declared.end.End.{End}
 use Rattle.session_server.specs.declared.end.End.TheVariants.{Closed, Cut, BadHeader, TooLong, OutOfPlace, BadBatch, Spent, ReadFault, WriteFault, Memory}
 use Rattle.session_server.specs.Conversation.{Conversation}
@@ -33,22 +32,27 @@ status_of true (BadBatch fault) = 5
 status_of true Spent = 5
 status_of true Memory = 6
 
--- Session 1 was served, over an engine before any step, in which it stepped alone. `gave` says which
--- bytes came from the source, in which `left` are left.
+-- a port for session 1, over an engine before any step
+abbrev pub fresh_port : Solo
+fresh_port = record { session = 1; told = Some []; engine = opening }
+
+-- Session 1 was served over such a port, which stands now as `port`. `gave` says which bytes came from
+-- the source, in which `left` are left.
 pub record Piped (gave : List ℕ → Type 0) (left sink_before sink_after : Option (List ℕ)) (status : ℕ) : Type 0 where
   pub end : End
-  pub told : Option (List Exchange)
-  pub engine : Engine
-  pub status_is : status ≡ status_of (is_some told) end
-  pub conversation : Conversation 1 gave left (Some []) told sink_before sink_after end
-  -- what the port tells is a run of this session alone that leads to the engine, and fits its log
-  pub run : IsRunOf 1 told engine
-  pub fits : IfSome told (λ exchanges. Fits 1 [] engine.log exchanges)
+  pub port : Solo
+  pub status_is : status ≡ status_of (is_some port.told) end
+  pub conversation : Conversation 1 gave left (solo_past fresh_port) (solo_past port) sink_before sink_after end
+  -- its exchanges are a run of this session alone, which leads to the port's engine, and fit its log
+  pub run : Run opening (asked_by 1 conversation.means.does.exchanges) port.engine
+  pub fits : Fits 1 [] port.engine.log conversation.means.does.exchanges
   -- the commits of the log are the conversation's, each once, in order, and no others
-  pub commits : IfSome told (λ _. map (λ commit. commit.changes) engine.log ≡ commits_in conversation.responses)
-  pub own : All (λ commit. commit.session ≡ 1) engine.log
+  pub commits : map (λ commit. commit.changes) port.engine.log ≡ commits_in conversation.responses
+  pub own : All (λ commit. commit.session ≡ 1) port.engine.log
   -- no transaction is left open
-  pub ended : is_open 1 engine.active ≡ false
+  pub ended : is_open 1 port.engine.active ≡ false
+  -- memory was wanting only after a whole header was taken
+  pub memory : status ≡ 6 → 8 ≤ length conversation.taken
 
 -- Where the source told its bytes, and they are fewer than 2^40 and whole messages of which none ends
 -- the talk: all were answered, or memory was wanting.

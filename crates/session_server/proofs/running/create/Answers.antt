@@ -9,13 +9,13 @@ use Rattle.session_server.proofs.running.create.Goals as goal
 
 pub returns-in_err-put_object-clause-does : goal.returns-in_err-put_object-clause-does
 returns-in_err-put_object-clause-does g c =
-    let told0 = g.P.Port.told c.args.port.now in
-    let told1 = g.P.Port.told c.put_object.new.port in
+    let told0 = g.P.Port.past c.args.port.now in
+    let told1 = g.P.Port.past c.put_object.new.port in
     subst (λ (r : Result Effect Failure). Does told0 told1 (create c.args.name.now) r) (sym (err_of c.from_residual.result (c.in_err-put_object.field-0.0) c.from_residual.ensures.0 c.from_residual.ensures.1))
     (not_created told0 told1 told1 told1 c.args.name.now c.in_err-put_object.field-0.0 c.in_err-put_object.ensures.does)
 
 pub returns-clause-does : goal.returns-clause-does
 returns-clause-does g c =
-    let told0 = g.P.Port.told c.args.port.now in
-    let told1 = g.P.Port.told c.put_object.new.port in
+    let told0 = g.P.Port.past c.args.port.now in
+    let told1 = g.P.Port.past c.put_object.new.port in
     created told0 told1 told1 told1 c.args.name.now c.in_ok-put_object.field-0 c.in_ok-put_object.ensures.does

@@ -10,6 +10,6 @@ use Rattle.session_server.proofs.running.put_object.Goals as goal
 
 pub returns-in_err-table-clause-does : goal.returns-in_err-table-clause-does
 returns-in_err-table-clause-does g c =
-    let told0 = g.P.Port.told c.args.port.now in
+    let told0 = g.P.Port.past c.args.port.now in
     subst (λ (r : Result (Unit {0}) Failure). Does told0 told0 (put_row (table_of objects_name) (object_key c.args.name.now) (object_row c.args.name.now) TablePresent) r) (sym (err_of c.from_residual.result (NoMemory) c.from_residual.ensures.0 c.from_residual.ensures.1))
     (put_lacking told0 told0 told0 told0 (table_of objects_name) (object_key c.args.name.now) (object_row c.args.name.now) TablePresent)

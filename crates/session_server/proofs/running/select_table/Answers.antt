@@ -10,20 +10,20 @@ use Rattle.session_server.proofs.running.select_table.Goals as goal
 
 pub returns-then-is_objects-clause-does : goal.returns-then-is_objects-clause-does
 returns-then-is_objects-clause-does g c =
-    let told0 = g.P.Port.told c.args.port.now in
+    let told0 = g.P.Port.past c.args.port.now in
     objects_refused told0 told0 told0 told0 c.args.name.now UnknownTable (select c.args.name.now) (sym c.is_objects.ensures ∙ c.if-is_objects.true)
 
 pub returns-in_err-begin-clause-does : goal.returns-in_err-begin-clause-does
 returns-in_err-begin-clause-does g c =
-    let told0 = g.P.Port.told c.args.port.now in
-    let told1 = g.P.Port.told c.begin.new.port in
+    let told0 = g.P.Port.past c.args.port.now in
+    let told1 = g.P.Port.past c.begin.new.port in
     subst (λ (r : Result Effect Failure). Does told0 told1 (unless_objects c.args.name.now UnknownTable (select c.args.name.now)) r) (sym (err_of c.from_residual.result (failure_of c.in_err-begin.field-0.0) c.from_residual.ensures.0 c.from_residual.ensures.1))
     (others_run told0 told1 told1 told1 c.args.name.now UnknownTable (select c.args.name.now) (Err (failure_of c.in_err-begin.field-0.0)) (sym c.is_objects.ensures ∙ c.if-is_objects.false) (not_begun told0 told1 told1 told1 (select c.args.name.now) c.in_err-begin.field-0.0 c.in_err-begin.ensures.does))
 
 pub returns-clause-does : goal.returns-clause-does
 returns-clause-does g c =
-    let told0 = g.P.Port.told c.args.port.now in
-    let told1 = g.P.Port.told c.begin.new.port in
-    let told2 = g.P.Port.told c.select-came.new.port in
-    let told3 = g.P.Port.told c.end.new.port in
+    let told0 = g.P.Port.past c.args.port.now in
+    let told1 = g.P.Port.past c.begin.new.port in
+    let told2 = g.P.Port.past c.select-came.new.port in
+    let told3 = g.P.Port.past c.end.new.port in
     others_run told0 told3 told3 told3 c.args.name.now UnknownTable (select c.args.name.now) c.end.result (sym c.is_objects.ensures ∙ c.if-is_objects.false) (transacted told0 told1 told2 told3 (select c.args.name.now) c.in_ok-begin.field-0 c.select-came.result c.end.result c.in_ok-begin.ensures.does c.select-came.ensures.does c.end.ensures.does)

@@ -9,5 +9,5 @@ use Rattle.session_server.proofs.serving.batch_tokens.Goals as goal
 
 pub returns-in-Err-statement_in-clause-end : goal.returns-in-Err-statement_in-clause-end
 returns-in-Err-statement_in-clause-end g c =
-    let told = g.P.Port.told c.args.port.now in
-    subst (λ (fault : Option BatchFault). IsEndOf (answer_to_batch c.args.payload.now fault) told told Memory) (sym c.in-Ok.ensures.text.0) (statement_unread told told (statement_of (text_of c.args.payload.now)))
+    let past = g.P.Port.past c.args.port.now in
+    subst (λ (fault : Option BatchFault). IsEndOf (answer_to_batch c.args.payload.now fault) past past Memory) (sym c.in-Ok.ensures.text.0) (statement_unread past past (statement_of (text_of c.args.payload.now)))

@@ -8,7 +8,7 @@ pub returns-clause-conversation : goal.returns-clause-conversation
 returns-clause-conversation g c = λ words.
     piped (Takes g.S.Source.left g.S.Source.given c.args.input.now c.serve_on_port-end.new.source) (g.S.Source.left c.serve_on_port-end.new.source) (g.K.Sink.written c.args.output.now) (g.K.Sink.written c.serve_on_port-end.new.sink)
     c.new-port.result c.serve_on_port-end.new.port c.serve_on_port-end.result c.status_of.result c.new-port.ensures c.serve_on_port-end.ensures.conversation c.serve_on_port-end.ensures.session c.serve_on_port-end.ensures.ended
-    c.tells.ensures.run c.tells.ensures.fits c.tells.ensures.own (c.status_of.ensures ∙ ap (λ tells. status_of tells c.serve_on_port-end.result) c.tells.ensures.tells)
+    (c.status_of.ensures ∙ ap (λ tells. status_of tells c.serve_on_port-end.result) c.tells.ensures.tells)
 
 pub returns-clause-complete : goal.returns-clause-complete
 returns-clause-complete g c = λ words reads writes.
