@@ -23,3 +23,5 @@ mod text_tests;
 pub use config::{Config, Entry};
 pub use end::{BatchFault, End};
 pub use serving::serve_on_port;
+pub use statement::Statement;
+pub use text::law_texts;

@@ -57,7 +57,8 @@ pub fn serve_on_port<P: Port, S: Source, K: Sink>(
     ensures no_write_fault { result ≢ End.WriteFault → K.faults sink.new ≡ K.faults sink.old }
     ensures counted { (S.faults source.old ≤ S.faults source.new) × (K.faults sink.old ≤ K.faults sink.new) }
 
-    // Where nothing fails and the input is whole messages in their places, all of them are answered.
+    // Where nothing fails and the input is whole messages that can be read, in their places, all of them
+    // are answered.
     ensures complete { result ≢ End.ReadFault → result ≢ End.WriteFault → Completes (S.left source.old) result }
 {
     let spid = SPID_BASE + session as u16;

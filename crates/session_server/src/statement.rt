@@ -4,7 +4,7 @@ use value_types::Units;
 
 /// A batch of one statement.
 #[derive(Debug, Drop, PartialEq)]
-pub(crate) enum Statement {
+pub enum Statement {
     /// `SELECT` of one number.
     SelectNumber {
         /// The number.

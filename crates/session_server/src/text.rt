@@ -206,7 +206,7 @@ fn value_of(digits: &[u16]) -> u32
 }
 
 /// A text spells what is read of it, and is read as what it spells.
-pub(crate) fn law_texts()
+pub fn law_texts()
     ensures read { (text : List ℕ) → Spells (statement_of text) text }
     ensures spelled { (statement : BatchStatement) (text : List ℕ) → Spells statement text → statement_of text ≡ statement }
 {}

@@ -44,7 +44,8 @@ pub fn run_program<S: Source, K: Sink>(
     ensures no_write_fault { result ≢ 4 → K.faults output.new ≡ K.faults output.old }
     ensures counted { (S.faults input.old ≤ S.faults input.new) × (K.faults output.old ≤ K.faults output.new) }
 
-    // Where nothing fails and the input is whole messages in their places, all of them are answered.
+    // Where nothing fails and the input is whole messages that can be read, in their places, all of them
+    // are answered.
     ensures complete { IsPipeBare (map string_bytes words.now) → result ≢ 3 → result ≢ 4 → EndsWell (S.left input.old) result }
 {
     if !is_pipe_bare(words) {
