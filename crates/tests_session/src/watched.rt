@@ -55,7 +55,7 @@ impl Watched {
 }
 
 impl Port for Watched {
-    ghost told = { λ _. None };
+    ghost past = { λ _. record { told = None; led_by = λ _. Unit {0} } };
 
     ghost session = { λ watched. watched.port.session };
 
