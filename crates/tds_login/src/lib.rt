@@ -4,6 +4,8 @@
 mod config;
 mod login;
 mod prelogin;
+#[cfg(test)]
+mod tests;
 mod verdict;
 
 pub use config::{Config, Entry};

@@ -1,8 +1,12 @@
 //! Who may log in, and what is answered.
 
-ghost use Rattle.std.specs.Prelude.{◌≡◌, IfOk};
+ghost use Rattle.std.specs.Prelude.{◌≡◌, [], IfOk, codes};
 ghost use Rattle.std.specs.Fmt.{decimal};
-ghost use Rattle.tds_login.specs.Verdict.{verdict, size_for, same_units, is_granted, is_known, login_answer};
+ghost use Rattle.tds_tokens.specs.Fit.{FitTokens};
+ghost use Rattle.tds_tokens.specs.Spelling.{collation, server_name};
+ghost use Rattle.tds_tokens.specs.declared.token.Token.TheVariants.{EnvText, EnvBytes, LoginAck};
+ghost use Rattle.tds_login.specs.Login.{served_version};
+ghost use Rattle.tds_login.specs.Verdict.{verdict, size_for, same_units, is_granted, is_known, release, login_answer};
 
 use crate::config::Config;
 use crate::login::{Login, TDS_7_4};
@@ -52,37 +56,69 @@ pub fn judge_login(login: &Login, config: &Config) -> Result<u16, i32>
     Ok(size_for(login.packet_size))
 }
 
-/// The tokens that grant a login with packets of this size.
+/// The tokens that grant a login with packets of this size. They have a spelling.
+#[tactic(auto, using(crate::proofs::Granted::login_answer_fits))]
 pub fn login_reply(alloc: Global, size: u16) -> Result<Vec<Token>, Memory>
-    ensures { IfOk result (λ tokens. tokens.items ≡ login_answer (decimal size)) }
+    ensures tokens { IfOk result (λ tokens. tokens.items ≡ login_answer (decimal size)) }
+    ensures fit { IfOk result (λ tokens. FitTokens [] tokens.items) }
 {
-    let database = Token::EnvText {
-        kind: ENV_DATABASE,
-        fresh: Units::of_ascii(alloc, b"main")?,
-        former: Units::new(alloc),
-    };
-    let collation = Token::EnvBytes {
-        kind: ENV_COLLATION,
-        fresh: Bytes::from(Vec::from_slice(alloc, &COLLATION)?),
-        former: Bytes::from(Vec::new(alloc)),
-    };
-    let granted = Token::LoginAck {
-        version: TDS_7_4,
-        program: Units::of_ascii(alloc, b"tsqld")?,
-        release: RELEASE,
-    };
-    let packets = Token::EnvText {
-        kind: ENV_PACKET_SIZE,
-        fresh: digits_of(alloc, size)?,
-        former: Units::of_ascii(alloc, b"4096")?,
-    };
     let end = Token::Finished {
         kind: DoneKind::Done,
         status: DONE_FINAL,
         command: 0,
         rows: 0,
     };
-    Ok(vec![in alloc; database, collation, granted, packets, end]?)
+    Ok(vec![in alloc;
+        database(alloc)?,
+        collation(alloc)?,
+        acknowledgement(alloc)?,
+        packet_size(alloc, size)?,
+        end,
+    ]?)
+}
+
+/// The database, where there was none before.
+fn database(alloc: Global) -> Result<Token, Memory>
+    ensures { IfOk result (λ token. token ≡ EnvText 1 (codes "main") []) }
+{
+    Ok(Token::EnvText {
+        kind: ENV_DATABASE,
+        fresh: Units::of_ascii(alloc, b"main")?,
+        former: Units::new(alloc),
+    })
+}
+
+/// The collation, where there was none before.
+fn collation(alloc: Global) -> Result<Token, Memory>
+    ensures { IfOk result (λ token. token ≡ EnvBytes 7 collation []) }
+{
+    Ok(Token::EnvBytes {
+        kind: ENV_COLLATION,
+        fresh: Bytes::from(Vec::from_slice(alloc, &COLLATION)?),
+        former: Bytes::from(Vec::new(alloc)),
+    })
+}
+
+/// The login is granted.
+fn acknowledgement(alloc: Global) -> Result<Token, Memory>
+    ensures { IfOk result (λ token. token ≡ LoginAck served_version server_name release) }
+{
+    Ok(Token::LoginAck {
+        version: TDS_7_4,
+        program: Units::of_ascii(alloc, b"tsqld")?,
+        release: RELEASE,
+    })
+}
+
+/// The packet size, where it was 4096 before.
+fn packet_size(alloc: Global, size: u16) -> Result<Token, Memory>
+    ensures { IfOk result (λ token. token ≡ EnvText 4 (decimal size) (codes "4096")) }
+{
+    Ok(Token::EnvText {
+        kind: ENV_PACKET_SIZE,
+        fresh: digits_of(alloc, size)?,
+        former: Units::of_ascii(alloc, b"4096")?,
+    })
 }
 
 /// The digits of a packet size.
