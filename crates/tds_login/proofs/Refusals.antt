@@ -39,12 +39,12 @@ none_before : {A : Type 0} (b : Bool) (x : A) (rest : Option A) → cond b (Some
 none_before true x rest none = absurd cc
 none_before false x rest none = (refl, none)
 
-none_at : {A : Type 0} (test : A → Bool) (xs : List A) (k : ℕ) (d : A) → find test xs ≡ None → k < length xs → test (get_or xs k d) ≡ false
+pub none_at : {A : Type 0} (test : A → Bool) (xs : List A) (k : ℕ) (d : A) → find test xs ≡ None → k < length xs → test (get_or xs k d) ≡ false
 none_at test [] k d none lt = absurd (omega arith)
 none_at test (x ∷ xs) zero d none lt = (none_before (test x) x (find test xs) none).0
 none_at test (x ∷ xs) (suc k) d none lt = none_at test xs k d (none_before (test x) x (find test xs) none).1 (omega arith)
 
-inside : (payload : List ℕ) (number place : ℕ) → login_length payload ≤ length payload → is_outside payload (record { number = number; place = place; unit = 2 }) ≡ false → IsInside payload place
+pub inside : (payload : List ℕ) (number place : ℕ) → login_length payload ≤ length payload → is_outside payload (record { number = number; place = place; unit = 2 }) ≡ false → IsInside payload place
 inside payload number place whole within =
     let count = short_at payload (place + 2) in
     let end = short_at payload place + 2 * count in

@@ -1,10 +1,10 @@
 //! LOGIN7 ([MS-TDS] 2.2.6.4).
 
-ghost use Rattle.std.specs.Prelude.{◌≡◌, ◌+◌, ◌≤◌, ◌<◌, ◌^◌, ◌⊎◌, length, None, IfOk, IfErr, IsTrue};
+ghost use Rattle.std.specs.Prelude.{◌≡◌, ◌+◌, ◌++◌, ◌≤◌, ◌<◌, ◌^◌, ◌⊎◌, length, None, IfOk, IfErr, IsTrue};
 ghost use Rattle.std.specs.Result.{result_err};
 ghost use Rattle.std.specs.List.{find, list_all};
 ghost use Rattle.value_types.specs.Units.{units_of};
-ghost use Rattle.tds_login.specs.Login.{login_of, long_at, short_at, fields, is_outside, field_bytes, plain_byte, password_units};
+ghost use Rattle.tds_login.specs.Login.{login_of, login_length, long_at, short_at, fields, is_outside, field_bytes, plain_byte, password_units};
 ghost use Rattle.tds_login.specs.Inside.{is_placed, IsInside, IsServed};
 ghost use Rattle.tds_login.specs.declared.login.LoginFault.TheVariants.{Memory as NoMemory};
 
@@ -170,6 +170,11 @@ pub fn read_login(alloc: Global, payload: &[u8]) -> Result<Login, LoginFault>
     }
 }
 
+/// Bytes behind the Length field change nothing of what a payload says.
+pub fn law_login_length(login: &[u8], rest: &[u8])
+    ensures { 94 ≤ length login.now → login_length login.now ≡ length login.now → login_of (login.now ++ rest.now) ≡ login_of login.now }
+{}
+
 /// Why a payload is refused.
 #[tactic(auto, unfolding(crate::specs::Login::login_of))]
 fn refusal(payload: &[u8]) -> Option<LoginFault>
@@ -182,7 +187,8 @@ fn refusal(payload: &[u8]) -> Option<LoginFault>
     if length < FIXED_LEN || payload.len() < length {
         return Some(LoginFault::Length);
     }
-    if long_at(payload, TDS_VERSION) != TDS_7_4 {
+    let version = long_at(payload, TDS_VERSION);
+    if version != TDS_7_4 {
         return Some(LoginFault::Version);
     }
     let field = first_outside(payload, &FIELDS)?;
