@@ -1,0 +1,4 @@
+pub mod Options
+pub mod Refusals
+pub mod Granted
+pub mod Behind

@@ -1,0 +1,5 @@
+pub mod Prelogin
+pub mod Login
+pub mod Verdict
+pub mod Walk
+pub mod Inside

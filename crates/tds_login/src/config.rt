@@ -1,0 +1,23 @@
+//! How a connection is to be served.
+
+use value_types::Units;
+
+/// How a connection begins.
+#[derive(Clone, Copy, Debug, PartialEq, Eq)]
+pub enum Entry {
+    /// The client logs in first.
+    Login,
+    /// The client is logged in from the beginning, with packets of 4096 bytes.
+    Bare,
+}
+
+/// What a server asks of its clients.
+#[derive(Debug, Drop)]
+pub struct Config {
+    /// The user who may log in.
+    pub user: Units,
+    /// That user's password.
+    pub password: Units,
+    /// How a connection begins.
+    pub entry: Entry,
+}

@@ -1,0 +1,30 @@
+//! The messages of a login, PRELOGIN and LOGIN7 of [MS-TDS], and what is answered to them.
+//!
+//! Read `specs/Login.antt` first, what a payload says as a LOGIN7 or why it is refused, then
+//! `specs/Prelogin.antt` and `specs/Verdict.antt`. The layers above rely on each function giving
+//! exactly what those definitions give: [`read_prelogin`] and [`judge_login`] take no memory, and
+//! [`read_login`] takes it only for a login that it reads. What stands behind a login's Length field
+//! changes nothing ([`law_login_length`]).
+//!
+//! ```text
+//! let prelogin = read_prelogin(first)?;
+//! send(prelogin_reply(alloc)?);
+//! let login = read_login(alloc, second)?;
+//! match judge_login(&login, &config) {
+//!     Ok(size) => write_tokens(&login_reply(alloc, size)?, &mut out)?,
+//!     Err(number) => refuse(number),
+//! }
+//! ```
+#![tactic(auto)]
+
+mod config;
+mod login;
+mod prelogin;
+#[cfg(test)]
+mod tests;
+mod verdict;
+
+pub use config::{Config, Entry};
+pub use login::{Login, LoginFault, law_login_length, read_login};
+pub use prelogin::{Prelogin, PreloginFault, prelogin_reply, read_prelogin};
+pub use verdict::{judge_login, login_reply};

@@ -1,0 +1,163 @@
+//! Who may log in, and what is answered.
+
+ghost use Rattle.std.specs.Prelude.{◌≡◌, [], IfOk, codes};
+ghost use Rattle.std.specs.Fmt.{decimal};
+ghost use Rattle.tds_tokens.specs.Fit.{FitTokens};
+ghost use Rattle.tds_tokens.specs.Spelling.{collation, server_name};
+ghost use Rattle.tds_tokens.specs.declared.token.Token.TheVariants.{EnvText, EnvBytes, LoginAck};
+ghost use Rattle.tds_login.specs.Login.{served_version};
+ghost use Rattle.tds_login.specs.Verdict.{verdict, size_for, same_units, is_granted, is_known, release, login_answer};
+
+use crate::config::Config;
+use crate::login::{Login, TDS_7_4};
+use std::alloc::Global;
+use tds_tokens::{Bytes, DONE_FINAL, DoneKind, Token};
+use value_types::{Memory, Units};
+
+/// The login is refused.
+const LOGIN_FAILED: i32 = 18456;
+
+/// There is no such database.
+const UNKNOWN_DATABASE: i32 = 49011;
+
+/// The kinds of the environment changes: the database, the packet size and the collation
+/// ([MS-TDS] 2.2.7.9).
+const ENV_DATABASE: u8 = 1;
+
+const ENV_PACKET_SIZE: u8 = 4;
+
+const ENV_COLLATION: u8 = 7;
+
+/// The collation of every text: LCID 0x0409, fBinary2, version 0, SortId 0 ([MS-TDS] 2.2.5.1.2).
+const COLLATION: [u8; 5] = [0x09, 0x04, 0x00, 0x02, 0x00];
+
+/// The release of the server, 15.0.0.0.
+const RELEASE: u32 = 0x0F00_0000;
+
+/// The names of the one database, `main` and `master`.
+const MAIN: [u16; 4] = [0x6D, 0x61, 0x69, 0x6E];
+
+const MASTER: [u16; 6] = [0x6D, 0x61, 0x73, 0x74, 0x65, 0x72];
+
+/// The packet size before a login, and where the client asks for none that is served.
+const DEFAULT_SIZE: u16 = 4096;
+
+/// Judges a login: the packet size from then on, or the number of the error that refuses it.
+#[tactic(auto, unfolding(crate::specs::Verdict::verdict))]
+pub fn judge_login(login: &Login, config: &Config) -> Result<u16, i32>
+    ensures { result ≡ verdict login.now config.now }
+{
+    if !is_granted(login, config) {
+        return Err(LOGIN_FAILED);
+    }
+    if !is_known(&login.database) {
+        return Err(UNKNOWN_DATABASE);
+    }
+    Ok(size_for(login.packet_size))
+}
+
+/// The tokens that grant a login with packets of this size. They have a spelling.
+#[tactic(auto, using(crate::proofs::Granted::login_answer_fits))]
+pub fn login_reply(alloc: Global, size: u16) -> Result<Vec<Token>, Memory>
+    ensures tokens { IfOk result (λ tokens. tokens.items ≡ login_answer (decimal size)) }
+    ensures fit { IfOk result (λ tokens. FitTokens [] tokens.items) }
+{
+    let end = Token::Finished {
+        kind: DoneKind::Done,
+        status: DONE_FINAL,
+        command: 0,
+        rows: 0,
+    };
+    Ok(vec![in alloc;
+        database(alloc)?,
+        collation(alloc)?,
+        acknowledgement(alloc)?,
+        packet_size(alloc, size)?,
+        end,
+    ]?)
+}
+
+/// The database, where there was none before.
+fn database(alloc: Global) -> Result<Token, Memory>
+    ensures { IfOk result (λ token. token ≡ EnvText 1 (codes "main") []) }
+{
+    Ok(Token::EnvText {
+        kind: ENV_DATABASE,
+        fresh: Units::of_ascii(alloc, b"main")?,
+        former: Units::new(alloc),
+    })
+}
+
+/// The collation, where there was none before.
+fn collation(alloc: Global) -> Result<Token, Memory>
+    ensures { IfOk result (λ token. token ≡ EnvBytes 7 collation []) }
+{
+    Ok(Token::EnvBytes {
+        kind: ENV_COLLATION,
+        fresh: Bytes::from(Vec::from_slice(alloc, &COLLATION)?),
+        former: Bytes::from(Vec::new(alloc)),
+    })
+}
+
+/// The login is granted.
+fn acknowledgement(alloc: Global) -> Result<Token, Memory>
+    ensures { IfOk result (λ token. token ≡ LoginAck served_version server_name release) }
+{
+    Ok(Token::LoginAck {
+        version: TDS_7_4,
+        program: Units::of_ascii(alloc, b"tsqld")?,
+        release: RELEASE,
+    })
+}
+
+/// The packet size, where it was 4096 before.
+fn packet_size(alloc: Global, size: u16) -> Result<Token, Memory>
+    ensures { IfOk result (λ token. token ≡ EnvText 4 (decimal size) (codes "4096")) }
+{
+    Ok(Token::EnvText {
+        kind: ENV_PACKET_SIZE,
+        fresh: digits_of(alloc, size)?,
+        former: Units::of_ascii(alloc, b"4096")?,
+    })
+}
+
+/// The digits of a packet size.
+fn digits_of(alloc: Global, size: u16) -> Result<Units, Memory>
+    ensures { IfOk result (λ digits. digits ≡ decimal size) }
+{
+    let digits = format!(in alloc; "{size}")?;
+    Units::of_ascii(alloc, digits.as_bytes())
+}
+
+/// The user and the password are the configuration's.
+fn is_granted(login: &Login, config: &Config) -> bool
+    ensures { result ≡ is_granted login.now config.now }
+{
+    login.user == config.user && login.password == config.password
+}
+
+/// The database is the one that there is, by one of its names, or none is named.
+fn is_known(database: &Units) -> bool
+    ensures { result ≡ is_known database.now }
+{
+    let database = database.as_slice();
+    is_text(database, &[]) || is_text(database, &MAIN) || is_text(database, &MASTER)
+}
+
+/// Two texts of the same units.
+fn is_text(text: &[u16], other: &[u16]) -> bool
+    ensures { result ≡ same_units text.now other.now }
+{
+    text == other
+}
+
+/// The packet size that is served where this one is asked for.
+fn size_for(asked: u32) -> u16
+    ensures { result ≡ size_for asked }
+{
+    if 512 <= asked && asked <= 32767 {
+        asked as u16
+    } else {
+        DEFAULT_SIZE
+    }
+}
