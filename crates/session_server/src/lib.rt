@@ -6,7 +6,6 @@
 #![tactic(auto)]
 
 mod asking;
-mod config;
 mod effect;
 mod end;
 mod payload;
@@ -20,7 +19,6 @@ mod text;
 #[cfg(test)]
 mod text_tests;
 
-pub use config::{Config, Entry};
 pub use end::{BatchFault, End};
 pub use serving::serve_on_port;
 pub use statement::Statement;

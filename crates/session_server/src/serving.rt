@@ -2,14 +2,13 @@
 
 ghost use Rattle.std.specs.Prelude.{◌≡◌, ◌≢◌, ◌%◌, ◌≤◌, List, length, false, None, Some, IfOk, IfErr};
 ghost use Rattle.outside_io.specs.Bytes.{Takes, HasRisen};
-ghost use Rattle.session_server.specs.declared.config.Entry.TheVariants.{Bare};
+ghost use Rattle.tds_login.specs.declared.config.Entry.TheVariants.{Bare};
 ghost use Rattle.session_server.specs.Conversation.{Conversation, Completes};
 ghost use Rattle.session_server.specs.Parts.{IsMade, IsEndOf, IsAnswered};
 ghost use Rattle.session_server.specs.Talk.{responds, answer_statement, answer_to, answer_to_batch, batch_fault};
 ghost use Rattle.session_server.specs.Text.{statement_of};
 ghost use Rattle.value_types.specs.Units.{units_of};
 
-use crate::config::Config;
 use crate::end::End;
 use crate::payload::batch_text;
 use crate::response::{attention_tokens, response_tokens};
@@ -19,6 +18,7 @@ use crate::text::read_statement;
 use outside_io::{Sink, Source};
 use std::alloc::Global;
 use step_model::Port;
+use tds_login::Config;
 use tds_packets::{ATTENTION, Message, Reader, SQL_BATCH, TABULAR_RESULT, send_message};
 use tds_tokens::{Token, write_tokens};
 use value_types::{Memory, UnitsFault, units_of_le};

@@ -4,9 +4,10 @@ ghost use Rattle.std.specs.Prelude.{◌≡◌, false};
 
 use self::Told::{Columns, Done, Error, Row};
 use outside_io::{MemorySink, MemorySource};
-use session_server::{Config, End, Entry, serve_on_port};
+use session_server::{End, serve_on_port};
 use std::alloc::{AllocError, Global};
 use step_model::Port;
+use tds_login::{Config, Entry};
 use value_types::Units;
 
 /// A token of a response.

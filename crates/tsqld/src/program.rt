@@ -6,8 +6,9 @@ ghost use Rattle.tsqld.specs.Program.{IsPipeBare, Piped, EndsWell, status_of};
 
 use engine_core::SoloPort;
 use outside_io::{Sink, Source};
-use session_server::{Config, End, Entry, serve_on_port};
+use session_server::{End, serve_on_port};
 use std::alloc::Global;
+use tds_login::{Config, Entry};
 use value_types::Units;
 
 /// The status where the words are no command.
