@@ -39,8 +39,9 @@ served_version = 0x74000004
 
 -- ---- the variable part
 
--- HostName, UserName, Password, AppName, ServerName, Extension, CltIntName, Language, Database, SSPI,
--- AtchDBFile, ChangePassword: characters of two bytes, but for Extension and SSPI
+-- the fields, each by its number, where its offset and behind that its count stand, and how many bytes it
+-- counts as one: HostName, UserName, Password, AppName, ServerName, Extension, CltIntName, Language,
+-- Database, SSPI, AtchDBFile, ChangePassword; characters of two bytes, but for Extension and SSPI
 unfoldable pub fields : List Field
 fields = record { number = 0; place = 36; unit = 2 } ∷ record { number = 1; place = 40; unit = 2 } ∷ record { number = 2; place = 44; unit = 2 }
     ∷ record { number = 3; place = 48; unit = 2 } ∷ record { number = 4; place = 52; unit = 2 } ∷ record { number = 5; place = 56; unit = 1 }

@@ -20,12 +20,13 @@ const LOGIN_FAILED: i32 = 18456;
 /// There is no such database.
 const UNKNOWN_DATABASE: i32 = 49011;
 
-/// The kinds of the environment changes: the database, the packet size and the collation
-/// ([MS-TDS] 2.2.7.9).
+/// The kind of an environment change of the database ([MS-TDS] 2.2.7.9).
 const ENV_DATABASE: u8 = 1;
 
+/// The kind of an environment change of the packet size.
 const ENV_PACKET_SIZE: u8 = 4;
 
+/// The kind of an environment change of the collation.
 const ENV_COLLATION: u8 = 7;
 
 /// The collation of every text: LCID 0x0409, fBinary2, version 0, SortId 0 ([MS-TDS] 2.2.5.1.2).
@@ -34,9 +35,10 @@ const COLLATION: [u8; 5] = [0x09, 0x04, 0x00, 0x02, 0x00];
 /// The release of the server, 15.0.0.0.
 const RELEASE: u32 = 0x0F00_0000;
 
-/// The names of the one database, `main` and `master`.
+/// A name of the one database, `main`.
 const MAIN: [u16; 4] = [0x6D, 0x61, 0x69, 0x6E];
 
+/// Its other name, `master`.
 const MASTER: [u16; 6] = [0x6D, 0x61, 0x73, 0x74, 0x65, 0x72];
 
 /// The packet size before a login, and where the client asks for none that is served.
