@@ -2,9 +2,9 @@
 //!
 //! Read `specs/Login.antt` first, what a payload says as a LOGIN7 or why it is refused, then
 //! `specs/Prelogin.antt` and `specs/Verdict.antt`. The layers above rely on each function giving
-//! exactly what those definitions give: [`read_prelogin`] and [`judge_login`] take no memory, and
-//! [`read_login`] takes it only for a login that it reads. What stands behind a login's Length field
-//! changes nothing ([`law_login_length`]).
+//! exactly what those definitions give. [`read_prelogin`] and [`judge_login`] take no memory; for
+//! [`read_login`] memory is wanting only where the payload is not refused. Bytes behind the Length
+//! field of a login of at least 94 bytes change nothing ([`law_login_length`]).
 //!
 //! ```text
 //! let prelogin = read_prelogin(first)?;

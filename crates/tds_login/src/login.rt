@@ -1,6 +1,6 @@
 //! LOGIN7 ([MS-TDS] 2.2.6.4).
 
-ghost use Rattle.std.specs.Prelude.{◌≡◌, ◌+◌, ◌++◌, ◌≤◌, ◌<◌, ◌^◌, ◌⊎◌, length, None, IfOk, IfErr, IsTrue};
+ghost use Rattle.std.specs.Prelude.{◌≡◌, ◌+◌, ◌++◌, ◌≤◌, ◌<◌, ◌^◌, ◌⊎◌, length, None, IfOk, IfErr, IsOk, IsTrue};
 ghost use Rattle.std.specs.Result.{result_err};
 ghost use Rattle.std.specs.List.{find, list_all};
 ghost use Rattle.value_types.specs.Units.{units_of};
@@ -158,11 +158,11 @@ impl<T: Drop> From<AllocFailed<T>> for LoginFault {
     }
 }
 
-/// What a payload says as a LOGIN7. A refusal takes no memory, and no byte behind the Length field is
-/// read.
+/// What a payload says as a LOGIN7, or its refusal. Memory is wanting only where the payload is not
+/// refused.
 pub fn read_login(alloc: Global, payload: &[u8]) -> Result<Login, LoginFault>
     ensures read { IfOk result (λ login. login_of payload.now ≡ Ok login) }
-    ensures refused { IfErr result (λ fault. (fault ≡ LoginFault.Memory) ⊎ (login_of payload.now ≡ Err fault)) }
+    ensures refused { IfErr result (λ fault. ((fault ≡ LoginFault.Memory) × IsOk (login_of payload.now)) ⊎ (login_of payload.now ≡ Err fault)) }
 {
     match refusal(payload) {
         Some(fault) => Err(fault),
@@ -170,7 +170,7 @@ pub fn read_login(alloc: Global, payload: &[u8]) -> Result<Login, LoginFault>
     }
 }
 
-/// Bytes behind the Length field change nothing of what a payload says.
+/// Bytes behind the Length field of a login of at least 94 bytes change nothing of what it says.
 pub fn law_login_length(login: &[u8], rest: &[u8])
     ensures { 94 ≤ length login.now → login_length login.now ≡ length login.now → login_of (login.now ++ rest.now) ≡ login_of login.now }
 {}
