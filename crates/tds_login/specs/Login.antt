@@ -1,5 +1,7 @@
--- [MS-TDS] 2.2.6.4: LOGIN7. Each field is said by its offset in the whole payload, as the standard's
--- table has it; the code reads the table once.
+-- [MS-TDS] 2.2.6.4: LOGIN7. Each field is said by where it stands in the whole payload, as the standard's
+-- table has it, and `login_of` gives the refusal or the login at once. The code first looks for a refusal,
+-- over the same table of fields, and only then reads user, password and database, each by its own place;
+-- for an empty one it cuts nothing out of the payload.
 use Rattle.std.specs.Prelude.{ℕ, ◌+◌, ◌*◌, ◌/◌, ◌%◌, ◌==◌, ◌&&◌, ◌||◌, not, Bool, nat_lt, if◌then◌else◌, List, [], ◌∷◌, length, take, drop, map, bit_xor, Option, None, Some, Result, Ok, Err}
 use Rattle.std.specs.List.{find}
 use Rattle.byteorder.specs.Endian.{little_number}
