@@ -4,6 +4,7 @@ ghost use Rattle.std.specs.Prelude.{◌≡◌, ◌+◌, ◌*◌, ◌^◌, ◌<�
 ghost use Rattle.tds_login.specs.Prelogin.{prelogin_of, prelogin_answer};
 ghost use Rattle.tds_login.specs.Walk.{option_at, judged_after, seen_after};
 
+use byteorder::{BigEndian, ByteOrder};
 use std::alloc::Global;
 use value_types::Memory;
 
@@ -111,11 +112,12 @@ fn with_option(payload: &[u8], seen: Seen, option: &[u8]) -> Seen
 
 /// A number of two bytes, the higher first.
 fn number_at(bytes: &[u8], place: usize) -> usize
-    requires { place + 1 < length bytes.now }
+    requires { place + 2 ≤ length bytes.now }
     ensures value { result ≡ slice_index bytes.now place * 256 + slice_index bytes.now (place + 1) }
     ensures small { result < 2 ^ 16 }
 {
-    usize::from(bytes[place]) * 256 + usize::from(bytes[place + 1])
+    let (_, behind) = bytes.split_at(place);
+    usize::from(BigEndian::read_u16(behind))
 }
 
 /// What the options say once their end was seen.
