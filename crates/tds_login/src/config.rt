@@ -11,8 +11,8 @@ pub enum Entry {
     Bare,
 }
 
-/// What a server asks of its clients.
-#[derive(Debug, Drop)]
+/// What a server asks of its clients. It is not `Debug`, which would print the password.
+#[derive(Drop)]
 pub struct Config {
     /// The user who may log in.
     pub user: Units,

@@ -109,8 +109,8 @@ const FIELDS: [Field; 12] = [
     },
 ];
 
-/// What a LOGIN7 says, as far as it is looked at.
-#[derive(Debug, Drop)]
+/// What a LOGIN7 says, as far as it is looked at. It is not `Debug`, which would print the password.
+#[derive(Drop)]
 pub struct Login {
     /// The version of the protocol.
     pub version: u32,
