@@ -27,6 +27,16 @@ const GRANTED: [u8; 83] = [
     0x00, 0x00, 0x00,
 ];
 
+// The tokens that grant one that asks for packets of 512 bytes.
+const GRANTED_512: [u8; 81] = [
+    0xE3, 0x0B, 0x00, 0x01, 0x04, 0x6D, 0x00, 0x61, 0x00, 0x69, 0x00, 0x6E, 0x00, 0x00, 0xE3, 0x08,
+    0x00, 0x07, 0x05, 0x09, 0x04, 0x00, 0x02, 0x00, 0x00, 0xAD, 0x14, 0x00, 0x01, 0x74, 0x00, 0x00,
+    0x04, 0x05, 0x74, 0x00, 0x73, 0x00, 0x71, 0x00, 0x6C, 0x00, 0x64, 0x00, 0x0F, 0x00, 0x00, 0x00,
+    0xE3, 0x11, 0x00, 0x04, 0x03, 0x35, 0x00, 0x31, 0x00, 0x32, 0x00, 0x04, 0x34, 0x00, 0x30, 0x00,
+    0x39, 0x00, 0x36, 0x00, 0xFD, 0x00, 0x00, 0x00, 0x00, 0x00, 0x00, 0x00, 0x00, 0x00, 0x00, 0x00,
+    0x00,
+];
+
 // The answer to a PRELOGIN.
 const ANSWERED: [u8; 35] = [
     0x00, 0x00, 0x1A, 0x00, 0x06, 0x01, 0x00, 0x20, 0x00, 0x01, 0x02, 0x00, 0x21, 0x00, 0x01, 0x03,
@@ -53,17 +63,21 @@ fn a_login_is_read_and_granted(rt: HostRuntime) -> Result<(), Fail> {
     assert_eq!(rt; login.user, units_of_str(alloc, "sa")?);
     assert_eq!(rt; login.password, units_of_str(alloc, "A")?);
     assert_eq!(rt; login.database, units_of_str(alloc, "")?);
-    let mut out = Vec::new(alloc);
-    write_tokens(&login_reply(alloc, 4096)?, &mut out)?;
-    assert_eq!(rt; out.as_slice(), GRANTED.as_slice());
+    let sizes: [(u16, &[u8]); 2] = [(4096, &GRANTED), (512, &GRANTED_512)];
+    for (size, expected) in sizes {
+        let mut out = Vec::new(alloc);
+        write_tokens(&login_reply(alloc, size)?, &mut out)?;
+        assert_eq!(rt; out.as_slice(), expected, "packets of {size}");
+    }
     Ok(())
 }
 
 // Changes of the login above, and its refusal or none: what comes first, how much a field counts, and
 // fields that share bytes.
-const CHANGES: [(usize, &[u8], Option<LoginFault>); 9] = [
+const CHANGES: [(usize, &[u8], Option<LoginFault>); 10] = [
     (0, &[93, 0, 0, 0], Some(LoginFault::Length)),
     (0, &[101, 0, 0, 0], Some(LoginFault::Length)),
+    (0, &[0xFF, 0xFF, 0xFF, 0xFF], Some(LoginFault::Length)),
     (0, &[93, 0, 0, 0, 4, 0, 0, 0x73], Some(LoginFault::Length)),
     (4, &[4, 0, 0, 0x73], Some(LoginFault::Version)),
     (
@@ -86,6 +100,15 @@ fn a_change_is_refused_or_read(rt: HostRuntime) -> Result<(), Fail> {
     }
     let (short, _) = LOGIN7.split_at(93);
     assert_eq!(rt; read_login(alloc, short).err(), Some(LoginFault::Short));
+    Ok(())
+}
+
+// The locale of the login above stands where its user is said to stand.
+#[test]
+fn a_field_may_lie_in_the_fixed_part(rt: HostRuntime) -> Result<(), Fail> {
+    let alloc = rt.alloc();
+    let login = read_login(alloc, &patched(alloc, &LOGIN7, 40, &[32, 0, 1, 0])?)?;
+    assert_eq!(rt; login.user, units_of_str(alloc, "\u{409}")?);
     Ok(())
 }
 
