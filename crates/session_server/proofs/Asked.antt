@@ -1,5 +1,5 @@
 -- One question asked of a port.
-use Rattle.std.proofs.Common.{◌≡◌, List, [], ◌∷◌, Option, None, Some, Ok, refl, subst}
+use Rattle.std.proofs.Common.{◌≡◌, List, [], ◌∷◌, None, Ok, refl, subst}
 use Rattle.lock_modes.specs.declared.KeyPart.TheVariants.{S}
 use Rattle.value_types.specs.declared.table_name.TableName.{TableName}
 use Rattle.value_types.specs.declared.value.Value.{Value}

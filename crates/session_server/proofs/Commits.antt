@@ -1,20 +1,21 @@
 -- What the exchanges of a statement commit is what its response says, and so it is for all messages.
-use Rattle.std.proofs.Common.{◌≡◌, ◌==◌, Bool, true, false, if◌then◌else◌, List, [], ◌∷◌, ◌++◌, Option, None, Some, refl, sym, ap, ◌∙◌, append_assoc}
+use Rattle.std.proofs.Common.{◌≡◌, ℕ, List, [], ◌∷◌, ◌++◌, refl, sym, ap, ◌∙◌, append_assoc}
 use Rattle.std.proofs.lemmas.List.{append-nil}
+use Rattle.tds_login.specs.declared.config.Config.{Config}
 use Rattle.tds_packets.specs.declared.message.Message.{Message}
 use Rattle.step_model.specs.declared.change.Change.{Change}
 use Rattle.step_model.specs.Exchange.{Exchange}
 use Rattle.step_model.specs.Fits.{own_after, committed_by, commits_of as commits_done}
-use Rattle.session_server.specs.declared.end.BatchFault.{BatchFault}
-use Rattle.session_server.specs.declared.end.End.TheVariants.{OutOfPlace}
+use Rattle.session_server.specs.declared.place.Place.{Place}
 use Rattle.session_server.specs.declared.statement.Statement.{Statement}
 use Rattle.session_server.specs.Text.{statement_of}
 use Rattle.session_server.specs.Asking.{Asking, done, ◌then◌, Asks}
 use Rattle.session_server.specs.Meaning.{meaning_of}
-use Rattle.session_server.specs.Response.{Response, response_of}
-use Rattle.session_server.specs.Talk.{Handling, responds, ends, text_of, batch_fault, answer_statement, answer_to_batch, attention_response, answer_to, talk_on, Talk, commits_in}
+use Rattle.session_server.specs.Response.{Response, response_of, commits_for}
+use Rattle.session_server.specs.Talk.{Handling, responds, refuses, ends, answer_statement, answer_to, talk_on, Talk, commits_in}
 use Rattle.session_server.proofs.Standing.{Standing, after_one, after}
 use Rattle.session_server.proofs.Comes.{Comes, comes, comes_then, comes_more}
+use Rattle.session_server.proofs.Ways.{EachWay, every_way}
 use Rattle.session_server.proofs.Committed.{committed_all, meaning_told}
 
 -- ---- where a session stands, by its exchanges alone
@@ -46,54 +47,62 @@ commits_after exchanges commits now =
 
 -- what a response says was committed
 abbrev pub Says : List (List Change) → Response → Standing → Type 0
-Says commits reply now = now ≡ committed_all (commits ++ reply.commits)
+Says commits response now = now ≡ committed_all (commits ++ commits_for response)
 
-statement_says : (commits : List (List Change)) (statement : Statement) → Comes (Says commits) (committed_all commits) (answer_statement statement)
+statement_says : (commits : List (List Change)) (size : ℕ) (statement : Statement) → Comes (Says commits) (committed_all commits) (answer_statement size statement)
 unfolding Comes answer_statement
-statement_says commits statement = comes_then (Says commits) (committed_all commits) (meaning_of statement) (λ result. done (response_of statement result)) (meaning_told commits statement)
-
-pub statement_commits : (statement : Statement) (exchanges : List Exchange) (reply : Response) → Asks (answer_statement statement) exchanges reply → Commits exchanges reply.commits
-statement_commits statement exchanges reply asks = commits_after exchanges reply.commits (comes (Says []) (committed_all []) (answer_statement statement) exchanges reply (statement_says [] statement) asks)
+statement_says commits size statement = comes_then (Says commits) (committed_all commits) (meaning_of statement) (λ result. done (response_of size statement result)) (meaning_told commits statement)
 
 -- ---- messages
 
 abbrev pub HandlingSays : List (List Change) → Handling → Type 0
-HandlingSays commits (responds tree) = Comes (Says commits) (committed_all commits) tree
+HandlingSays commits (responds tree place) = Comes (Says commits) (committed_all commits) tree
+HandlingSays commits (refuses response number) = Says commits response (committed_all commits)
 HandlingSays commits (ends end) = Unit {0}
 
--- an attention asks nothing
-handling_says : (commits : List (List Change)) (message : Message) → HandlingSays commits (answer_to message)
+-- only a statement commits
+handling_says : (commits : List (List Change)) (config : Config) (place : Place) (message : Message) → HandlingSays commits (answer_to config place message)
 unfolding Comes
-handling_says commits message = by_kind (message.kind == 0x01) (message.kind == 0x06)
+handling_says commits config place message = every_way (HandlingSays commits) each config place message
   where
-    batch : (fault : Option BatchFault) → HandlingSays commits (answer_to_batch message.payload fault)
-    batch None = statement_says commits (statement_of (text_of message.payload))
-    batch (Some fault) = tt
+    nothing : committed_all commits ≡ committed_all (commits ++ [])
+    nothing = ap committed_all (sym (append-nil commits))
 
-    by_kind : (b a : Bool) → HandlingSays commits (if b then answer_to_batch message.payload (batch_fault message.payload) else if a then responds (done attention_response) else ends (OutOfPlace message.at message.kind))
-    by_kind true a = batch (batch_fault message.payload)
-    by_kind false true = ap committed_all (sym (append-nil commits))
-    by_kind false false = tt
+    each : EachWay (HandlingSays commits)
+    each = record {
+      prelogin = nothing;
+      bad_prelogin = λ fault. tt;
+      granted = λ size. nothing;
+      refused = λ number. nothing;
+      batch = λ size text. statement_says commits size (statement_of text);
+      bad_batch = λ fault. tt;
+      attention = λ size. nothing;
+      misplaced = λ at kind. tt;
+    }
 
 -- what responses say was committed
 abbrev pub AllSay : List (List Change) → List Response → Standing → Type 0
 AllSay commits answered now = now ≡ committed_all (commits ++ commits_in answered)
 
-talk_on_says : (commits : List (List Change)) (answer : Handling) (others : Asking (List Response)) → HandlingSays commits answer → ((more : List (List Change)) → Comes (AllSay more) (committed_all more) others) → Comes (AllSay commits) (committed_all commits) (talk_on answer others)
+talk_on_says : (commits : List (List Change)) (answer : Handling) (others : Place → Asking (List Response)) → HandlingSays commits answer → ((place : Place) (more : List (List Change)) → Comes (AllSay more) (committed_all more) (others place))
+    → Comes (AllSay commits) (committed_all commits) (talk_on answer others)
 unfolding Comes talk_on
-talk_on_says commits (responds tree) others says others_say = comes_then (AllSay commits) (committed_all commits) tree _ (comes_more (Says commits) _ (committed_all commits) tree first_then says)
+talk_on_says commits (responds tree place) others says others_say = comes_then (AllSay commits) (committed_all commits) tree _ (comes_more (Says commits) _ (committed_all commits) tree first_then says)
   where
-    both : (first : Response) (later : List Response) (now : Standing) → AllSay (commits ++ first.commits) later now → AllSay commits (first ∷ later) now
-    both first later now all = all ∙ ap committed_all (append_assoc commits first.commits (commits_in later))
+    both : (first : Response) (later : List Response) (now : Standing) → AllSay (commits ++ commits_for first) later now → AllSay commits (first ∷ later) now
+    both first later now all = all ∙ ap committed_all (append_assoc commits (commits_for first) (commits_in later))
 
-    first_then : (first : Response) (now : Standing) → Says commits first now → Comes (AllSay commits) now (others then λ later. done (first ∷ later))
-    first_then first now said = rw said (comes_then (AllSay commits) _ others _ (comes_more (AllSay (commits ++ first.commits)) _ _ others (both first) (others_say (commits ++ first.commits))))
+    first_then : (first : Response) (now : Standing) → Says commits first now → Comes (AllSay commits) now (others place then λ later. done (first ∷ later))
+    first_then first now said = rw said (comes_then (AllSay commits) _ (others place) _ (comes_more (AllSay (commits ++ commits_for first)) _ _ (others place) (both first) (others_say place (commits ++ commits_for first))))
+talk_on_says commits (refuses response number) others says others_say = says ∙ ap (λ (s : List (List Change)). committed_all (commits ++ s)) (sym (append-nil (commits_for response)))
 talk_on_says commits (ends end) others says others_say = ap committed_all (sym (append-nil commits))
 
-talk_says : (messages : List Message) (commits : List (List Change)) → Comes (AllSay commits) (committed_all commits) (Talk messages)
+talk_says : (config : Config) (messages : List Message) (place : Place) (commits : List (List Change)) → Comes (AllSay commits) (committed_all commits) (Talk config place messages)
 unfolding Comes Talk
-talk_says [] commits = ap committed_all (sym (append-nil commits))
-talk_says (message ∷ messages) commits = talk_on_says commits (answer_to message) (Talk messages) (handling_says commits message) (talk_says messages)
+talk_says config [] place commits = ap committed_all (sym (append-nil commits))
+talk_says config (message ∷ messages) place commits =
+    talk_on_says commits (answer_to config place message) (λ next. Talk config next messages) (handling_says commits config place message) (talk_says config messages)
 
-pub talk_commits : (messages : List Message) (exchanges : List Exchange) (answered : List Response) → Asks (Talk messages) exchanges answered → Commits exchanges (commits_in answered)
-talk_commits messages exchanges answered asks = commits_after exchanges (commits_in answered) (comes (AllSay []) (committed_all []) (Talk messages) exchanges answered (talk_says messages []) asks)
+pub talk_commits : (config : Config) (place : Place) (messages : List Message) (exchanges : List Exchange) (answered : List Response) → Asks (Talk config place messages) exchanges answered → Commits exchanges (commits_in answered)
+talk_commits config place messages exchanges answered asks =
+    commits_after exchanges (commits_in answered) (comes (AllSay []) (committed_all []) (Talk config place messages) exchanges answered (talk_says config messages place []) asks)

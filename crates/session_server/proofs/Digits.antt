@@ -1,8 +1,8 @@
 -- Numbers in base ten, from the left.
-use Rattle.std.proofs.Common.{◌≡◌, ℕ, suc, ◌+◌, ◌-◌, ◌*◌, ◌^◌, ◌<◌, ◌≤◌, true, List, ◌∷◌, length, get_or, drop, sym, ap, ◌∙◌, arith, length-drop, add-one}
+use Rattle.std.proofs.Common.{◌≡◌, ℕ, suc, ◌+◌, ◌-◌, ◌*◌, ◌^◌, ◌<◌, ◌≤◌, true, List, [], ◌∷◌, length, get_or, drop, sym, ap, ◌∙◌, arith, length-drop, add-one}
 use Rattle.std.specs.Prelude.{IsTrue, nat_le}
 use Rattle.std.specs.List.{list_all}
-use Rattle.std.proofs.Math.Nat.{pow-suc, pow-le-pow_right}
+use Rattle.std.proofs.Math.Nat.{pow-suc, pow-le-pow_right, mul-le-mul_right}
 use Rattle.std.proofs.Math.Seq.{drop-cons}
 use Rattle.std.proofs.lemmas.Bool.{leb-true, and_parts}
 use Rattle.std.proofs.lemmas.List.Sums.{AllPass-from_list_all}
@@ -39,3 +39,15 @@ digit_bounds digits i all_digits within =
     let digit : is_digit (get_or digits i 0) ≡ true = AllPass-from_list_all is_digit digits all_digits i 0 within in
     let bounds = and_parts (nat_le 48 (get_or digits i 0)) (nat_le (get_or digits i 0) 57) digit in
     (leb-true 48 (get_or digits i 0) bounds.0, leb-true (get_or digits i 0) 57 bounds.1)
+
+one_more : (digit value place : ℕ) → digit ≤ 9 → value < place → digit * place + value < place * 10
+one_more digit value place d v = let most : digit * place ≤ 9 * place = mul-le-mul_right place d in omega (arith, most)
+
+-- digits spell a number below the power of ten for their count
+pub value_below : (digits : List ℕ) → list_all is_digit digits ≡ true → digits_value digits < 10 ^ length digits
+value_below [] h = omega arith
+value_below (digit ∷ digits) h =
+    let parts = and_parts (is_digit digit) (list_all is_digit digits) h in
+    let bounds = and_parts (nat_le 48 digit) (nat_le digit 57) parts.0 in
+    let high : digit ≤ 57 = leb-true digit 57 bounds.1 in
+    rw (pow-suc 10 (length digits)) (one_more (digit - 48) (digits_value digits) (10 ^ length digits) (omega arith) (value_below digits parts.1))

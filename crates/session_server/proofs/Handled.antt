@@ -1,69 +1,96 @@
 -- How one message is handled, from what its parts do.
-use Rattle.std.proofs.Common.{◌≡◌, ℕ, List, [], Option, Result, refl, sym, ap, subst, ◌∙◌}
+use Rattle.std.proofs.Common.{◌≡◌, ℕ, List, [], Result, Ok, Err, IfOk, IfErr, refl, sym, subst, ap, ◌∙◌}
+use Rattle.tds_login.specs.declared.config.Config.{Config}
+use Rattle.tds_login.specs.Prelogin.{prelogin_of}
+use Rattle.tds_login.specs.Login.{login_of}
 use Rattle.tds_packets.specs.declared.message.Message.{Message}
 use Rattle.tds_tokens.specs.declared.token.Token.{Token}
-use Rattle.tds_tokens.specs.Fit.{FitTokens}
 use Rattle.tds_tokens.specs.Spelling.{TokenBytes}
 use Rattle.step_model.specs.Exchange.{PortPast}
+use Rattle.session_server.specs.declared.prepared.PreparedResponse.{PreparedResponse}
 use Rattle.session_server.specs.declared.effect.Effect.{Effect}
 use Rattle.session_server.specs.declared.effect.Failure.{Failure}
+use Rattle.session_server.specs.declared.end.End.{End}
 use Rattle.session_server.specs.declared.end.End.TheVariants.{Memory}
+use Rattle.session_server.specs.declared.place.Place.{Place}
+use Rattle.session_server.specs.declared.place.Place.TheVariants.{Initial, LoginReady, LoggedIn}
 use Rattle.session_server.specs.declared.statement.Statement.{Statement}
-use Rattle.session_server.specs.Asking.{Asking, done, Does}
+use Rattle.session_server.specs.Asking.{done, Does}
 use Rattle.session_server.specs.Meaning.{meaning_of}
-use Rattle.session_server.specs.Parts.{IsMade, IsAnswered, IsEndOf}
-use Rattle.session_server.specs.Response.{Response, response_of, tokens_of}
-use Rattle.session_server.specs.Talk.{Handling, responds, ends, answer_statement, answer_to, attention_response}
+use Rattle.session_server.specs.Parts.{IsMade, IsEndOf, IsGiven, IsEndGiven}
+use Rattle.session_server.specs.Response.{tabular, response_of, tokens_of, added_by}
+use Rattle.session_server.specs.Talk.{Handling, responds, refuses, ends, answer_to_prelogin, answer_statement, answer_to_login, attention_tokens, answer_to}
 use Rattle.session_server.proofs.Composed.{goes_nowhere, does_nothing, does_then}
 use Rattle.session_server.proofs.Lacking.{lacks}
-use Rattle.session_server.proofs.Responses.{answer_fits}
+use Rattle.session_server.proofs.Bearing.{bears_tokens, Carries}
 
-module _ (before after : PortPast) where
+-- ---- a statement
+
+module _ (before after : PortPast) (size : ℕ) (statement : Statement) where
   -- a statement that came to this is answered so
-  pub statement_does : (statement : Statement) (came : Result Effect Failure) → Does before after (meaning_of statement) came → Does before after (answer_statement statement) (response_of statement came)
+  statement_does : (came : Result Effect Failure) → Does before after (meaning_of statement) came → Does before after (answer_statement size statement) (response_of size statement came)
   unfolding answer_statement
-  statement_does statement came does = does_then before after after (meaning_of statement) (λ result. done (response_of statement result)) came (response_of statement came) does (does_nothing after after after (response_of statement came))
+  statement_does came does = does_then before after after (meaning_of statement) (λ result. done (response_of size statement result)) came (response_of size statement came) does (does_nothing after after after (response_of size statement came))
 
-  pub statement_answered : (statement : Statement) (came : Result Effect Failure) (tokens : List Token) → Does before after (meaning_of statement) came → tokens ≡ tokens_of statement came → IsAnswered (responds (answer_statement statement)) before after tokens
-  statement_answered statement came tokens does are = (response_of statement came, statement_does statement came does, are)
+  pub statement_made : (spid : ℕ) (came : Result Effect Failure) (tokens : List Token) (result : Result PreparedResponse End) → Does before after (meaning_of statement) came → tokens ≡ tokens_of statement came → Carries spid size tokens (Ok (LoggedIn size)) result
+      → IfOk result (IsMade spid (responds (answer_statement size statement) (LoggedIn size)) before after)
+  statement_made spid came tokens (Ok prepared) does are carries =
+      (response_of size statement came, statement_does came does, bears_tokens spid size (tokens_of statement came) (added_by statement came) prepared carries.by carries.sized (carries.payload ∙ ap TokenBytes are), carries.next_is)
+  statement_made spid came tokens (Err end) does are carries = tt
 
-  pub statement_wants : (statement : Statement) (came : Result Effect Failure) → Does before after (meaning_of statement) came → IsEndOf (responds (answer_statement statement)) before after Memory
-  statement_wants statement came does = (response_of statement came, statement_does statement came does)
+  pub statement_wants : (came : Result Effect Failure) → Does before after (meaning_of statement) came → IsEndOf (responds (answer_statement size statement) (LoggedIn size)) before after Memory
+  statement_wants came does = (response_of size statement came, statement_does came does)
 
-  -- memory was wanting before the statement was read
-  pub statement_unread : (statement : Statement) → IsEndOf (responds (answer_statement statement)) before before Memory
-  statement_unread statement = let lacking = lacks statement in (lacking.0, record { exchanges = []; past = goes_nowhere before; asks = lacking.1 })
+-- memory was wanting for the bytes
+pub wants_for : {X : Type 0} (P : End → Type 0) (result : Result X End) → IfErr result (λ end. end ≡ Memory) → P Memory → IfErr result P
+wants_for P (Ok x) memory p = tt
+wants_for P (Err end) memory p = subst P (sym memory) p
 
-  pub attention_answered : (tokens : List Token) → tokens ≡ attention_response.tokens → IsAnswered (responds (done attention_response)) before before tokens
-  attention_answered tokens are = (attention_response, does_nothing before before before attention_response, are)
+-- memory was wanting before the statement was read
+pub statement_unread : (past : PortPast) (size : ℕ) (statement : Statement) → IsEndOf (responds (answer_statement size statement) (LoggedIn size)) past past Memory
+statement_unread past size statement = let lacking = lacks size statement in (lacking.0, record { exchanges = []; past = goes_nowhere past; asks = lacking.1 })
 
-  pub attention_wants : IsEndOf (responds (done attention_response)) before before Memory
-  attention_wants = (attention_response, does_nothing before before before attention_response)
+-- ---- a message for which nothing is asked
 
-  -- the tokens of a response have become bytes, or memory was wanting for these
-  pub answered_made : (handling : Handling) (tokens : List Token) (bytes : List ℕ) → IsAnswered handling before after tokens → bytes ≡ TokenBytes tokens → IsMade handling before after bytes
-  answered_made (responds tree) tokens bytes answered are = (answered.0, answered.1, are ∙ ap TokenBytes answered.2)
-  answered_made (ends end) tokens bytes answered are = absurd answered
+pub given_made : (spid : ℕ) (past : PortPast) (handling : Handling) (prepared : PreparedResponse) → IsGiven spid handling prepared → IsMade spid handling past past prepared
+given_made spid past (responds tree place) prepared given = (given.0, rw given.1 (does_nothing past past past given.0), given.2, given.3)
+given_made spid past (refuses response number) prepared given = (goes_nowhere past, given.0, given.1)
+given_made spid past (ends end) prepared given = absurd given
 
-  pub answered_wants : (handling : Handling) (tokens : List Token) → IsAnswered handling before after tokens → IsEndOf handling before after Memory
-  answered_wants (responds tree) tokens answered = (answered.0, answered.1)
-  answered_wants (ends end) tokens answered = absurd answered
+pub given_ended : (past : PortPast) (handling : Handling) (end : End) → IsEndGiven handling end → IsEndOf handling past past end
+given_ended past (responds tree place) Memory given = (given.0, rw given.1 (does_nothing past past past given.0))
+given_ended past (responds tree place) end given = absurd given
+given_ended past (refuses response number) Memory given = goes_nowhere past
+given_ended past (refuses response number) end given = absurd given
+given_ended past (ends made) end given = (given, goes_nowhere past)
 
--- what the bytes of a response are
-pub made_parts : (before after : PortPast) (message : Message) (bytes : List ℕ) (handling : Handling) → answer_to message ≡ handling → IsMade handling before after bytes
-    → (tree : Asking Response) × (response : Response) × (answer_to message ≡ responds tree) × Does before after tree response × (bytes ≡ TokenBytes response.tokens)
-made_parts before after message bytes (responds tree) is made = (tree, made.0, is, made.1, made.2)
-made_parts before after message bytes (ends end) is made = absurd made
+-- whatever came of it
+module _ (spid : ℕ) (past : PortPast) (handling placed : Handling) (result : Result PreparedResponse End) (same : placed ≡ handling) where
+  pub all_made : IfOk result (IsGiven spid handling) → IfOk result (IsMade spid placed past past)
+  all_made given = rw same (by_result result given)
+    where
+      by_result : (result : Result PreparedResponse End) → IfOk result (IsGiven spid handling) → IfOk result (IsMade spid handling past past)
+      by_result (Ok prepared) given = given_made spid past handling prepared given
+      by_result (Err end) given = tt
 
--- ---- an attention, and the tokens' spelling
+  pub all_ended : IfErr result (IsEndGiven handling) → IfErr result (IsEndOf placed past past)
+  all_ended given = rw same (by_result result given)
+    where
+      by_result : (result : Result PreparedResponse End) → IfErr result (IsEndGiven handling) → IfErr result (IsEndOf handling past past)
+      by_result (Ok prepared) given = tt
+      by_result (Err end) given = given_ended past handling end given
 
-pub attention_handled : (message : Message) → message.kind ≡ 0x06 → answer_to message ≡ responds (done attention_response)
-attention_handled message is = rw is refl
+-- ---- messages by place and kind
 
--- tokens of a response have a spelling
-by_handling : (before after : PortPast) (message : Message) (tokens : List Token) (handling : Handling) → answer_to message ≡ handling → IsAnswered handling before after tokens → FitTokens [] tokens
-by_handling before after message tokens (responds tree) is answered = subst (FitTokens []) (sym answered.2) (answer_fits message tree answered.1.exchanges answered.0 is answered.1.asks)
-by_handling before after message tokens (ends end) is answered = absurd answered
+module _ (config : Config) (place : Place) (message : Message) (payload : List ℕ) (is_payload : payload ≡ message.payload) where
+  pub at_prelogin : place ≡ Initial → message.kind ≡ 0x12 → answer_to config place message ≡ answer_to_prelogin (prelogin_of payload)
+  at_prelogin at is = rw at (rw is_payload (rw is refl))
 
-pub answered_fits : (before after : PortPast) (message : Message) (tokens : List Token) → IsAnswered (answer_to message) before after tokens → FitTokens [] tokens
-answered_fits before after message tokens answered = by_handling before after message tokens (answer_to message) refl answered
+  pub at_login : place ≡ Initial → message.kind ≡ 0x10 → answer_to config place message ≡ answer_to_login config (login_of payload)
+  at_login at is = rw at (rw is_payload (rw is refl))
+
+  pub at_ready_login : place ≡ LoginReady → message.kind ≡ 0x10 → answer_to config place message ≡ answer_to_login config (login_of payload)
+  at_ready_login at is = rw at (rw is_payload (rw is refl))
+
+  pub at_attention : (size : ℕ) → place ≡ LoggedIn size → message.kind ≡ 0x06 → answer_to config place message ≡ responds (done (tabular size attention_tokens [])) (LoggedIn size)
+  at_attention size at is = rw at (rw is refl)

@@ -1,21 +1,17 @@
 -- Where memory is wanting before anything is asked, a statement comes to a response without an exchange.
-use Rattle.std.proofs.Common.{◌≡◌, ℕ, ◌==◌, Bool, true, false, if◌then◌else◌, List, [], Option, None, Some, Result, Ok, Err, inl, refl}
-use Rattle.tds_packets.specs.declared.message.Message.{Message}
+use Rattle.std.proofs.Common.{ℕ, Bool, true, false, if◌then◌else◌, List, [], Result, Ok, Err, inl, refl}
 use Rattle.session_server.specs.declared.asking.Refusal.TheVariants as refusals
-use Rattle.session_server.specs.declared.end.BatchFault.{BatchFault}
-use Rattle.session_server.specs.declared.end.End.TheVariants.{OutOfPlace}
 use Rattle.session_server.specs.declared.effect.Effect.{Effect}
 use Rattle.session_server.specs.declared.effect.Effect.TheVariants.{Number}
 use Rattle.session_server.specs.declared.effect.Failure.{Failure}
 use Rattle.session_server.specs.declared.effect.Failure.TheVariants.{UnknownTable, TablePresent, NoMemory, NotBuilt}
 use Rattle.session_server.specs.declared.statement.Statement.{Statement}
 use Rattle.session_server.specs.declared.statement.Statement.TheVariants.{SelectNumber, CreateTable, Insert, SelectTable, Unread}
-use Rattle.session_server.specs.Text.{statement_of}
 use Rattle.session_server.specs.Asking.{Asking, done, ◌then◌, ReadAs, Asks}
 use Rattle.session_server.specs.Tables.{is_objects}
 use Rattle.session_server.specs.Meaning.{begun, transaction, create, insert, select, unless_objects, meaning_of}
-use Rattle.session_server.specs.Response.{Response, response_of}
-use Rattle.session_server.specs.Talk.{Handling, responds, ends, text_of, batch_fault, answer_statement, answer_to_batch, attention_response, answer_to}
+use Rattle.session_server.specs.Response.{response_of}
+use Rattle.session_server.specs.Talk.{answer_statement}
 use Rattle.session_server.proofs.Trees.{asks_then}
 
 -- the tree comes to something without an exchange
@@ -39,30 +35,8 @@ meaning_lacks (Insert name key value) = unless_objects_lacks name UnknownTable (
 meaning_lacks (SelectTable name) = unless_objects_lacks name UnknownTable (select name)
 meaning_lacks Unread = (Err NotBuilt, (refl, refl))
 
-pub lacks : (statement : Statement) → Lacks (answer_statement statement)
+pub lacks : (size : ℕ) (statement : Statement) → Lacks (answer_statement size statement)
 unfolding Asks answer_statement
-lacks statement =
+lacks size statement =
     let meant = meaning_lacks statement in
-    (response_of statement meant.0, asks_then (meaning_of statement) (λ result. done (response_of statement result)) [] [] meant.0 (response_of statement meant.0) meant.1 (refl, refl))
-
--- ---- messages
-
-abbrev pub HandlingLacks : Handling → Type 0
-HandlingLacks (responds tree) = Lacks tree
-HandlingLacks (ends end) = Unit {0}
-
-handling_lacks : (message : Message) → HandlingLacks (answer_to message)
-unfolding Asks
-handling_lacks message = by_kind (message.kind == 0x01) (message.kind == 0x06)
-  where
-    batch : (fault : Option BatchFault) → HandlingLacks (answer_to_batch message.payload fault)
-    batch None = lacks (statement_of (text_of message.payload))
-    batch (Some fault) = tt
-
-    by_kind : (b a : Bool) → HandlingLacks (if b then answer_to_batch message.payload (batch_fault message.payload) else if a then responds (done attention_response) else ends (OutOfPlace message.at message.kind))
-    by_kind true a = batch (batch_fault message.payload)
-    by_kind false true = (attention_response, (refl, refl))
-    by_kind false false = tt
-
-pub message_lacks : (message : Message) (tree : Asking Response) → answer_to message ≡ responds tree → Lacks tree
-message_lacks message tree is = rw is at (handling_lacks message)
+    (response_of size statement meant.0, asks_then (meaning_of statement) (λ result. done (response_of size statement result)) [] [] meant.0 (response_of size statement meant.0) meant.1 (refl, refl))

@@ -8,9 +8,12 @@ pub mod Selected
 pub mod Standing
 pub mod Comes
 pub mod Committed
+pub mod Ways
 pub mod Commits
 pub mod Lacking
 pub mod Responses
+pub mod Bearing
+pub mod Sizes
 pub mod Handled
 pub mod Talks
 pub mod Served

@@ -1,10 +1,11 @@
 -- Own: what one connection did: which messages it took from its source, what it asked of its port and
 -- wrote for them, and why it ended. The whole of the bytes and of the exchanges is spoken of; the
 -- code goes message by message.
-use Rattle.std.specs.Prelude.{◌≡◌, ℕ, ◌+◌, ◌-◌, ◌<◌, ◌≤◌, ◌⊎◌, List, [], ◌∷◌, ◌++◌, length, Option, None, IfSome}
+use Rattle.std.specs.Prelude.{◌≡◌, ℕ, ℤ, ◌+◌, ◌-◌, ◌<◌, ◌≤◌, ◌⊎◌, List, [], ◌∷◌, ◌++◌, length, Option, None, Some, IfSome}
 use Rattle.std.specs.Io.{StartsWith}
 use Rattle.std.specs.Io.KnownBytes.{Appends, IsAtEnd}
 use Rattle.outside_io.specs.Bytes.{AppendsOrHides}
+use Rattle.tds_login.specs.declared.config.Config.{Config}
 use Rattle.tds_packets.specs.declared.message.Message.{Message}
 use Rattle.tds_packets.specs.declared.reader.MessageFault.TheVariants as faults
 use Rattle.tds_packets.specs.Stream.{Splits}
@@ -12,10 +13,10 @@ use Rattle.tds_packets.specs.Reading.{StopsBy, IsUnrefused, byte_limit}
 use Rattle.step_model.specs.Exchange.{PortPast}
 use Rattle.step_model.specs.Fits.{commits_of}
 use Rattle.session_server.specs.declared.end.End.{End}
-use Rattle.session_server.specs.declared.end.End.TheVariants.{Closed, Cut, BadHeader, TooLong, OutOfPlace, BadBatch, Spent, ReadFault, WriteFault, Memory}
+use Rattle.session_server.specs.declared.end.End.TheVariants.{Closed, Cut, BadHeader, TooLong, OutOfPlace, BadPrelogin, LoginRefused, BadBatch, Spent, ReadFault, WriteFault, Memory}
 use Rattle.session_server.specs.Asking.{Does}
 use Rattle.session_server.specs.Response.{Response}
-use Rattle.session_server.specs.Talk.{ends, answer_to, talk_end, Talk, response_bytes, Bytes, commits_in}
+use Rattle.session_server.specs.Talk.{first_place, talk_end, Talk, response_bytes, Bytes, commits_in}
 
 -- the SPID of a session
 abbrev pub spid_of : ℕ → ℕ
@@ -23,27 +24,42 @@ spid_of session = 50 + session
 
 -- ---- why it ended
 
--- the message that ends the connection is the last one that was taken
-abbrev pub EndsAtLast : List Message → End → Type 0
-EndsAtLast messages end = (front : List Message) × (last : Message) × (messages ≡ front ++ last ∷ [])
-    × (talk_end front ≡ None) × (answer_to last ≡ ends end)
+-- the last message that was taken ends the connection, and none before it does
+abbrev pub EndsAtLast : Config → List Message → End → Type 0
+EndsAtLast config messages end = (front : List Message) × (last : Message) × (messages ≡ front ++ last ∷ [])
+    × (talk_end config (first_place config.entry) front ≡ None) × (talk_end config (first_place config.entry) messages ≡ Some end)
+
+-- no message ends the connection
+abbrev pub IsUnended : Config → List Message → Type 0
+IsUnended config messages = talk_end config (first_place config.entry) messages ≡ None
+
+-- the last message is a login that is refused
+abbrev pub IsRefused : Config → List Message → Type 0
+IsRefused config messages = (number : ℤ) × EndsAtLast config messages (LoginRefused number)
+
+-- each message has a response: none ends the connection, or a refused login does, with nothing behind it
+abbrev pub IsAnswered : Config → List Message → List ℕ → Type 0
+IsAnswered config messages rest = IsUnended config messages ⊎ (IsRefused config messages × (rest ≡ []))
 
 -- Why the connection ended, where these messages were taken and then `rest`, which begins at offset
--- `at`. The first four are the end of the stream; a message that is out of place, or can't be read,
--- ends it with nothing taken behind. At a fault of reading, and where 2^40 bytes are taken, the rest is
--- no refused header; at a fault of writing nothing was taken behind the message whose response failed;
--- memory is wanted only after the first whole header.
-abbrev pub EndsBy : List Message → ℕ → List ℕ → End → Type 0
-EndsBy messages at rest Closed = (talk_end messages ≡ None) × StopsBy at rest faults.Closed
-EndsBy messages at rest (Cut place) = (talk_end messages ≡ None) × StopsBy at rest (faults.Cut place)
-EndsBy messages at rest (BadHeader place) = (talk_end messages ≡ None) × StopsBy at rest (faults.BadHeader place)
-EndsBy messages at rest (TooLong place) = (talk_end messages ≡ None) × StopsBy at rest (faults.TooLong place)
-EndsBy messages at rest (OutOfPlace place kind) = EndsAtLast messages (OutOfPlace place kind) × (rest ≡ [])
-EndsBy messages at rest (BadBatch fault) = EndsAtLast messages (BadBatch fault) × (rest ≡ [])
-EndsBy messages at rest Spent = (talk_end messages ≡ None) × StopsBy at rest faults.Spent
-EndsBy messages at rest ReadFault = (talk_end messages ≡ None) × StopsBy at rest faults.ReadFault
-EndsBy messages at rest WriteFault = (talk_end messages ≡ None) × (rest ≡ [])
-EndsBy messages at rest Memory = (talk_end messages ≡ None) × (8 ≤ at + length rest) × IsUnrefused at rest
+-- `at`. The first four are the end of the stream; a message that is out of place, is refused, or can't
+-- be read, ends the connection with nothing taken behind. At a fault of reading, and where 2^40 bytes
+-- are taken, the rest is no refused header; at a fault of writing nothing was taken behind the message
+-- whose response failed; memory is wanted only after the first whole header, and the rest is then no
+-- refused header either.
+abbrev pub EndsBy : Config → List Message → ℕ → List ℕ → End → Type 0
+EndsBy config messages at rest Closed = IsUnended config messages × StopsBy at rest faults.Closed
+EndsBy config messages at rest (Cut place) = IsUnended config messages × StopsBy at rest (faults.Cut place)
+EndsBy config messages at rest (BadHeader place) = IsUnended config messages × StopsBy at rest (faults.BadHeader place)
+EndsBy config messages at rest (TooLong place) = IsUnended config messages × StopsBy at rest (faults.TooLong place)
+EndsBy config messages at rest (OutOfPlace place kind) = EndsAtLast config messages (OutOfPlace place kind) × (rest ≡ [])
+EndsBy config messages at rest (BadPrelogin fault) = EndsAtLast config messages (BadPrelogin fault) × (rest ≡ [])
+EndsBy config messages at rest (LoginRefused number) = EndsAtLast config messages (LoginRefused number) × (rest ≡ [])
+EndsBy config messages at rest (BadBatch fault) = EndsAtLast config messages (BadBatch fault) × (rest ≡ [])
+EndsBy config messages at rest Spent = IsUnended config messages × StopsBy at rest faults.Spent
+EndsBy config messages at rest ReadFault = IsUnended config messages × StopsBy at rest faults.ReadFault
+EndsBy config messages at rest WriteFault = IsAnswered config messages rest × (rest ≡ [])
+EndsBy config messages at rest Memory = IsAnswered config messages rest × (8 ≤ at + length rest) × IsUnrefused at rest
 
 -- ---- what was written
 
@@ -71,26 +87,26 @@ Emptied left end = Unit {0}
 
 -- Between `before` and `after` the port tells exchanges by which the talk of these messages comes to
 -- these responses; and what these say was committed is what those exchanges committed.
-pub record Means (before after : PortPast) (messages : List Message) (responses : List Response) : Type 0 where
-  pub does : Does before after (Talk messages) responses
+pub record Means (config : Config) (before after : PortPast) (messages : List Message) (responses : List Response) : Type 0 where
+  pub does : Does before after (Talk config (first_place config.entry) messages) responses
   pub commits : commits_of [] does.exchanges ≡ commits_in responses
 
--- A connection of this session. `gave` says which bytes came from its source, in which `left` are left.
--- At `Memory` the last response may be one that was never made: then none of its bytes was written.
-pub record Conversation (session : ℕ) (gave : List ℕ → Type 0) (left : Option (List ℕ)) (port_before port_after : PortPast) (sink_before sink_after : Option (List ℕ)) (end : End) : Type 0 where
+-- A connection of this session, by this configuration. `gave` says which bytes came from its source, in
+-- which `left` are left. At `Memory` the last response may be one that could not be made whole.
+pub record Conversation (config : Config) (session : ℕ) (gave : List ℕ → Type 0) (left : Option (List ℕ)) (port_before port_after : PortPast) (sink_before sink_after : Option (List ℕ)) (end : End) : Type 0 where
   pub taken : List ℕ
   pub messages : List Message
   pub rest : List ℕ
   pub responses : List Response
   pub from_source : gave taken
   pub split : Splits taken messages rest
-  pub means : Means port_before port_after messages responses
+  pub means : Means config port_before port_after messages responses
   pub written : Wrote (spid_of session) sink_before sink_after responses rest end
-  pub ended : EndsBy messages (length taken - length rest) rest end
+  pub ended : EndsBy config messages (length taken - length rest) rest end
   pub emptied : Emptied left end
 
 -- Where the source told its bytes, and they are fewer than 2^40 and whole messages of which none ends
--- the talk: the connection was closed, or memory was wanting. What was written then, and that nothing
--- is left, the conversation says.
-abbrev pub Completes : Option (List ℕ) → End → Type 0
-Completes told end = IfSome told (λ bytes. length bytes < byte_limit → (messages : List Message) → Splits bytes messages [] → talk_end messages ≡ None → (end ≡ Closed) ⊎ (end ≡ Memory))
+-- the talk, as a refused login does: the connection was closed, or memory was wanting. What was written
+-- then, and that nothing is left where it was closed, the conversation says.
+abbrev pub Completes : Config → Option (List ℕ) → End → Type 0
+Completes config told end = IfSome told (λ bytes. length bytes < byte_limit → (messages : List Message) → Splits bytes messages [] → IsUnended config messages → (end ≡ Closed) ⊎ (end ≡ Memory))

@@ -1,7 +1,7 @@
--- What a client is sent of a statement ([MS-TDS] 2.2.7; the errors' numbers and texts are own): the
--- tokens of its response, and what it committed. They are a function of the statement and of what came
--- of it; the code makes the tokens, and nothing of what was committed.
-use Rattle.std.specs.Prelude.{ℕ, pos, Bool, true, false, if◌then◌else◌, List, [], ◌∷◌, ◌++◌, map, length, take, Some, Result, Ok, Err, codes}
+-- What a client is sent ([MS-TDS] 2.2.7): the responses to messages, and the tokens of a statement's. They
+-- are a function of the statement and of what came of it; the code makes the tokens, and nothing of what
+-- was committed.
+use Rattle.std.specs.Prelude.{ℕ, ℤ, pos, Bool, true, false, if◌then◌else◌, List, [], ◌∷◌, ◌++◌, map, length, take, Some, Result, Ok, Err, codes}
 use Rattle.value_types.specs.declared.sql_type.SqlType.TheVariants.{Int}
 use Rattle.value_types.specs.declared.value.Value.{Value}
 use Rattle.value_types.specs.declared.value.Value.TheVariants.{Whole}
@@ -27,7 +27,7 @@ pub record ErrorRow : Type 0 where
   pub text : List ℕ → List ℕ
   pub ends_batch : Bool
 
--- the errors of these statements (own; the numbers below 49000 are SQL Server's)
+-- the errors of these statements (own; the numbers below 49000 are SQL Server's for such errors)
 abbrev pub error_row : Failure → ErrorRow
 error_row UnknownTable = record { number = 208; class = 16; text = λ name. codes "Invalid object name '" ++ name ++ codes "'."; ends_batch = true }
 error_row NoMemory = record { number = 701; class = 17; text = λ name. codes "There is insufficient memory to run this statement."; ends_batch = false }
@@ -64,8 +64,12 @@ statement_failed statement = Finished Done 0x03 (command_of statement) 0
 -- ---- what is sent
 
 -- ERROR with state 1, line 1 and no procedure; at most 2,000 units of its text are sent
-abbrev pub error_token : ErrorRow → List ℕ → Token
-error_token row name = Error (record { number = pos row.number; state = 1; class = row.class; text = take 2000 (row.text name); procedure = []; line = pos 1 })
+abbrev pub error_token : ℤ → ℕ → List ℕ → Token
+error_token number class text = Error (record { number = number; state = 1; class = class; text = take 2000 text; procedure = []; line = pos 1 })
+
+-- the error of a row, for a name
+abbrev pub row_token : ErrorRow → List ℕ → Token
+row_token row name = error_token (pos row.number) row.class (row.text name)
 
 -- the columns of a table
 abbrev pub table_columns : List ColumnInfo
@@ -84,7 +88,7 @@ statement_tokens statement (Ok (Number number)) = result_tokens statement (recor
 statement_tokens statement (Ok Created) = []
 statement_tokens statement (Ok Inserted) = statement_done statement 1 ∷ []
 statement_tokens statement (Ok (Selected rows)) = result_tokens statement table_columns rows
-statement_tokens statement (Err failure) = error_token (error_row failure) (name_in statement) ∷ (if (error_row failure).ends_batch then [] else statement_failed statement ∷ [])
+statement_tokens statement (Err failure) = row_token (error_row failure) (name_in statement) ∷ (if (error_row failure).ends_batch then [] else statement_failed statement ∷ [])
 
 -- a batch's end: DONE_FINAL, or DONE_ERROR where an error ended it
 abbrev pub batch_status : Result Effect Failure → ℕ
@@ -101,10 +105,19 @@ added_by (CreateTable name) (Ok Created) = (record { table = table_of objects_na
 added_by (Insert name key value) (Ok Inserted) = (record { table = table_of name; key = table_key key; row = Some (table_row key value) } ∷ []) ∷ []
 added_by statement result = []
 
--- what a message is answered by, and what was committed for it
-pub record Response : Type 0 where
-  pub tokens : List Token
-  pub commits : List (List Change)
+-- ---- responses
 
-abbrev pub response_of : Statement → Result Effect Failure → Response
-response_of statement result = record { tokens = tokens_of statement result; commits = added_by statement result }
+-- What a message is answered by: the options that answer every PRELOGIN ([MS-TDS] 2.2.6.5), or tokens in
+-- packets of a size, and what was committed for them.
+pub data Response : Type 0 where
+  options : Response
+  tabular : ℕ → List Token → List (List Change) → Response
+
+-- the response to a statement
+abbrev pub response_of : ℕ → Statement → Result Effect Failure → Response
+response_of size statement result = tabular size (tokens_of statement result) (added_by statement result)
+
+-- what was committed for a response
+abbrev pub commits_for : Response → List (List Change)
+commits_for options = []
+commits_for (tabular size tokens commits) = commits

@@ -2,10 +2,11 @@
 -- table `objects`, which has a row for each of them: its name, and the text of its definition. What is
 -- no row is told by tests on values; the code makes the same tests on borrowed rows.
 use Rattle.std.specs.Prelude.{ℕ, pos, negsuc, ◌&&◌, Bool, true, false, List, [], ◌∷◌, map, filter, Option, None, Some, codes, int_le}
+use Rattle.value_types.specs.Units.{same_units}
 use Rattle.value_types.specs.declared.table_name.TableName.{TableName}
 use Rattle.value_types.specs.declared.value.Value.{Value}
 use Rattle.value_types.specs.declared.value.Value.TheVariants.{Null, Whole, Text}
-use Rattle.session_server.specs.Text.{same_units, definition_text, created_table}
+use Rattle.session_server.specs.Text.{definition_text, created_table}
 use Rattle.session_server.specs.Asking.{KeyedRows}
 
 -- ---- names and rows

@@ -9,9 +9,9 @@
 -- `Spells` says it of whole texts, and `statement_of` reads a text part by part, as the code does; that they
 -- agree is `law_texts`. A number is the sum of its digits' worths here; the code goes from the left and
 -- multiplies by ten.
-use Rattle.std.specs.Prelude.{◌≡◌, ℕ, ◌≤◌, ◌+◌, ◌-◌, ◌*◌, ◌^◌, ◌&&◌, ◌==◌, Bool, nat_le, nat_eq, if◌then◌else◌, IsTrue, List, [], ◌∷◌, ◌++◌, length, take, drop, Option, None, Some, codes}
+use Rattle.std.specs.Prelude.{◌≡◌, ℕ, ◌≤◌, ◌+◌, ◌-◌, ◌*◌, ◌^◌, ◌&&◌, ◌==◌, Bool, nat_le, if◌then◌else◌, IsTrue, List, [], ◌∷◌, ◌++◌, length, take, drop, Option, None, Some, codes}
 use Rattle.std.specs.List.{prefix_len, list_all}
-use Rattle.std.specs.Cmp.Lexicographic.{pointwise}
+use Rattle.value_types.specs.Units.{same_units}
 use Rattle.session_server.specs.declared.statement.Statement.{Statement}
 use Rattle.session_server.specs.declared.statement.Statement.TheVariants.{SelectNumber, CreateTable, Insert, SelectTable, Unread}
 
@@ -27,10 +27,6 @@ is_letter unit = nat_le 97 unit && nat_le unit 122
 abbrev pub digits_value : List ℕ → ℕ
 digits_value [] = 0
 digits_value (digit ∷ digits) = (digit - 48) * 10 ^ length digits + digits_value digits
-
--- two texts of the same units
-abbrev pub same_units : List ℕ → List ℕ → Bool
-same_units a b = pointwise nat_eq a b
 
 -- ---- how a statement is spelled
 
@@ -87,7 +83,7 @@ Spells Unread text = ((number : ℕ) → SpellsSelectNumber number text → ⊥)
 
 -- what is behind a word
 unfoldable pub behind : List ℕ → List ℕ → Option (List ℕ)
-behind word text = if pointwise nat_eq (take (length word) text) word then Some (drop (length word) text) else None
+behind word text = if same_units (take (length word) text) word then Some (drop (length word) text) else None
 
 -- the units that pass the test up to the first that doesn't, where they are at least one and at most so many
 unfoldable pub run_of : (ℕ → Bool) → ℕ → List ℕ → Option (List ℕ × List ℕ)

@@ -1,11 +1,10 @@
 //! Why a connection ended.
 
 ghost use Rattle.std.specs.Prelude.{◌≡◌};
-ghost use Rattle.session_server.specs.declared.end.End.TheVariants.{Memory as NoMemory};
 ghost use Rattle.session_server.specs.Ends.{end_of_message, end_of_sending};
 
+use tds_login::PreloginFault;
 use tds_packets::{MessageFault, SendFault};
-use value_types::Memory;
 
 /// What is wrong with the payload of a batch ([MS-TDS] 2.2.5.3).
 #[derive(Clone, Copy, Debug, PartialEq, Eq)]
@@ -44,6 +43,17 @@ pub enum End {
         at: u64,
         /// The type of its packets.
         kind: u8,
+    },
+    /// A PRELOGIN can't be read.
+    BadPrelogin {
+        /// What is wrong with it.
+        fault: PreloginFault,
+    },
+    /// The login was refused, by an ERROR of this number.
+    LoginRefused {
+        /// 49010 where the message can't be read, 18456 where user or password is another, 49011 where
+        /// there is no such database.
+        number: i32,
     },
     /// The payload of a batch can't be read.
     BadBatch {
@@ -84,13 +94,5 @@ impl From<SendFault> for End {
             SendFault::WriteFault => End::WriteFault,
             SendFault::Memory => End::Memory,
         }
-    }
-}
-
-impl From<Memory> for End {
-    ghost from_gives = { λ _ end. end ≡ NoMemory };
-
-    fn from(_wanting: Memory) -> End {
-        End::Memory
     }
 }

@@ -1,4 +1,4 @@
-//! One connection over a port: its messages read, its batches run, its responses sent.
+//! One connection over a port: its messages read, its login judged, its batches run, its responses sent.
 //!
 //! Read `specs/Talk.antt` first: how each message is handled, and what is asked of the port for it; then
 //! `specs/Conversation.antt`: what one connection did. The layer above relies on [`serve_on_port`],
@@ -6,18 +6,21 @@
 #![tactic(auto)]
 
 mod asking;
+mod batch;
 mod effect;
 mod end;
+mod login;
 mod payload;
+mod place;
+mod prepared;
 mod range;
+mod responding;
 mod response;
 mod running;
 mod serving;
 mod statement;
 mod tables;
 mod text;
-#[cfg(test)]
-mod text_tests;
 
 pub use end::{BatchFault, End};
 pub use serving::serve_on_port;

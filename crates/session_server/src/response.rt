@@ -1,16 +1,14 @@
-//! The tokens that answer a statement, and those that answer an attention.
+//! The tokens that answer a statement.
 
 ghost use Rattle.std.specs.Prelude.{◌≡◌, ◌++◌, pos, [], ◌∷◌, IfOk};
-ghost use Rattle.session_server.specs.Response.{error_row, name_in, command_of, statement_done, statement_failed, error_token, table_columns, row_tokens, result_tokens, statement_tokens, batch_status, tokens_of};
-ghost use Rattle.session_server.specs.Talk.{attention_response};
+ghost use Rattle.session_server.specs.Response.{error_row, name_in, command_of, statement_done, statement_failed, error_token, row_token, table_columns, row_tokens, result_tokens, statement_tokens, batch_status, tokens_of};
 
 use crate::effect::{Effect, Failure};
 use crate::statement::Statement;
 use crate::tables::around;
 use std::alloc::Global;
 use tds_tokens::{
-    ColumnInfo, ColumnList, DONE_ATTN, DONE_COUNT, DONE_ERROR, DONE_FINAL, DONE_MORE, DoneKind,
-    Notice, Token,
+    ColumnInfo, ColumnList, DONE_COUNT, DONE_ERROR, DONE_FINAL, DONE_MORE, DoneKind, Notice, Token,
 };
 use value_types::{Memory, Row, SqlType, Units, Value};
 
@@ -32,13 +30,6 @@ pub(crate) fn response_tokens(
     let mut tokens = statement_tokens(alloc, statement, came)?;
     tokens.push(done(status, 0, 0))?;
     Ok(tokens)
-}
-
-/// The tokens that answer an attention.
-pub(crate) fn attention_tokens(alloc: Global) -> Result<Vec<Token>, Memory>
-    ensures { IfOk result (λ tokens. tokens.items ≡ attention_response.tokens) }
-{
-    Ok(vec![in alloc; done(DONE_ATTN, 0, 0)]?)
 }
 
 /// The status of a batch's end.
@@ -114,7 +105,7 @@ fn failure_tokens(
 ) -> Result<Vec<Token>, Memory>
     ensures { IfOk result (λ tokens. tokens.items ≡ statement_tokens statement.now (Err failure)) }
 {
-    let error = error_token(alloc, failure, name_in(statement))?;
+    let error = failure_token(alloc, failure, name_in(statement))?;
     if ends_batch(failure) {
         Ok(vec![in alloc; error]?)
     } else {
@@ -162,7 +153,8 @@ fn statement_failed(statement: &Statement) -> Token
     done(DONE_MORE | DONE_ERROR, command_of(statement), 0)
 }
 
-fn done(status: u16, command: u16, rows: u64) -> Token
+/// A DONE.
+pub(crate) fn done(status: u16, command: u16, rows: u64) -> Token
     ensures { result ≡ Token.Finished DoneKind.Done status command rows }
 {
     Token::Finished {
@@ -196,20 +188,19 @@ fn name_in(statement: &Statement) -> &[u16]
     }
 }
 
-/// ERROR with state 1, line 1 and no procedure.
-fn error_token(alloc: Global, failure: Failure, name: &[u16]) -> Result<Token, Memory>
-    ensures { IfOk result (λ token. token ≡ error_token (error_row failure) name.now) }
+/// The ERROR of a failure, for a name.
+fn failure_token(alloc: Global, failure: Failure, name: &[u16]) -> Result<Token, Memory>
+    ensures { IfOk result (λ token. token ≡ row_token (error_row failure) name.now) }
 {
     let text = error_text(alloc, failure, name)?;
-    let notice = Notice::new(
-        error_number(failure),
-        1,
-        error_class(failure),
-        text,
-        Units::new(alloc),
-        1,
-    );
-    Ok(Token::Error(notice))
+    Ok(error_token(alloc, error_number(failure), error_class(failure), text))
+}
+
+/// ERROR with state 1, line 1 and no procedure.
+pub(crate) fn error_token(alloc: Global, number: i32, class: u8, text: Units) -> Token
+    ensures { result ≡ error_token number class text }
+{
+    Token::Error(Notice::new(number, 1, class, text, Units::new(alloc), 1))
 }
 
 /// An error's number.

@@ -1,6 +1,6 @@
 -- Own: who may log in, and what is answered. Texts are compared unit by unit; the code compares them so.
-use Rattle.std.specs.Prelude.{ℕ, ℤ, pos, ◌&&◌, ◌||◌, Bool, nat_le, nat_eq, if◌then◌else◌, List, [], ◌∷◌, Result, Ok, Err, codes}
-use Rattle.std.specs.Cmp.Lexicographic.{pointwise}
+use Rattle.std.specs.Prelude.{ℕ, ℤ, pos, ◌&&◌, ◌||◌, Bool, nat_le, if◌then◌else◌, List, [], ◌∷◌, Result, Ok, Err, codes}
+use Rattle.value_types.specs.Units.{same_units}
 use Rattle.tds_tokens.specs.declared.token.DoneKind.TheVariants.{Done}
 use Rattle.tds_tokens.specs.declared.token.Token.{Token}
 use Rattle.tds_tokens.specs.declared.token.Token.TheVariants.{LoginAck, EnvText, EnvBytes, Finished}
@@ -9,26 +9,26 @@ use Rattle.tds_login.specs.declared.config.Config.{Config}
 use Rattle.tds_login.specs.declared.login.Login.{Login}
 use Rattle.tds_login.specs.Login.{served_version}
 
--- two texts of the same units
-abbrev pub same_units : List ℕ → List ℕ → Bool
-same_units a b = pointwise nat_eq a b
-
 -- the user and the password are the configuration's
-abbrev pub is_granted : Login → Config → Bool
-is_granted login config = same_units login.user config.user && same_units login.password config.password
+abbrev pub has_credentials : Login → Config → Bool
+has_credentials login config = same_units login.user config.user && same_units login.password config.password
 
 -- the database is the one that there is, by one of its names, or none is named
 abbrev pub is_known : List ℕ → Bool
 is_known database = same_units database [] || same_units database (codes "main") || same_units database (codes "master")
 
--- the packet size that a client asks for, from 512 to 32767, else 4096
+-- the packet size before a login, and where the client asks for none that is served
+abbrev pub default_size : ℕ
+default_size = 4096
+
+-- the packet size that a client asks for, from 512 to 32767
 abbrev pub size_for : ℕ → ℕ
-size_for asked = if nat_le 512 asked && nat_le asked 32767 then asked else 4096
+size_for asked = if nat_le 512 asked && nat_le asked 32767 then asked else default_size
 
 -- the packet size, or error 18456 (login failed) or 49011 (unknown database)
 unfoldable pub verdict : Login → Config → Result ℕ ℤ
 verdict login config =
-    if is_granted login config then if is_known login.database then Ok (size_for login.packet_size) else Err (pos 49011)
+    if has_credentials login config then if is_known login.database then Ok (size_for login.packet_size) else Err (pos 49011)
     else Err (pos 18456)
 
 -- LOGINACK's release of the server (own)

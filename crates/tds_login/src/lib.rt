@@ -27,4 +27,4 @@ mod verdict;
 pub use config::{Config, Entry};
 pub use login::{Login, LoginFault, law_login_length, read_login};
 pub use prelogin::{Prelogin, PreloginFault, prelogin_reply, read_prelogin};
-pub use verdict::{judge_login, login_reply};
+pub use verdict::{DEFAULT_SIZE, LOGIN_FAILED, UNKNOWN_DATABASE, judge_login, login_reply};

@@ -5,20 +5,21 @@ ghost use Rattle.std.specs.Fmt.{decimal};
 ghost use Rattle.tds_tokens.specs.Fit.{FitTokens};
 ghost use Rattle.tds_tokens.specs.Spelling.{collation, server_name};
 ghost use Rattle.tds_tokens.specs.declared.token.Token.TheVariants.{EnvText, EnvBytes, LoginAck};
+ghost use Rattle.value_types.specs.Units.{same_units};
 ghost use Rattle.tds_login.specs.Login.{served_version};
-ghost use Rattle.tds_login.specs.Verdict.{verdict, size_for, same_units, is_granted, is_known, release, login_answer};
+ghost use Rattle.tds_login.specs.Verdict.{verdict, size_for, has_credentials, is_known, release, login_answer};
 
 use crate::config::Config;
 use crate::login::{Login, TDS_7_4};
 use std::alloc::Global;
-use tds_tokens::{Bytes, DONE_FINAL, DoneKind, Token};
+use tds_tokens::{Bytes, COLLATION, DONE_FINAL, DoneKind, Token};
 use value_types::{Memory, Units};
 
-/// The login is refused.
-const LOGIN_FAILED: i32 = 18456;
+/// The number of the error where user or password is another.
+pub const LOGIN_FAILED: i32 = 18456;
 
-/// There is no such database.
-const UNKNOWN_DATABASE: i32 = 49011;
+/// The number of the error where there is no such database.
+pub const UNKNOWN_DATABASE: i32 = 49011;
 
 /// The kind of an environment change of the database ([MS-TDS] 2.2.7.9).
 const ENV_DATABASE: u8 = 1;
@@ -29,9 +30,6 @@ const ENV_PACKET_SIZE: u8 = 4;
 /// The kind of an environment change of the collation.
 const ENV_COLLATION: u8 = 7;
 
-/// The collation of every text: LCID 0x0409, fBinary2, version 0, SortId 0 ([MS-TDS] 2.2.5.1.2).
-const COLLATION: [u8; 5] = [0x09, 0x04, 0x00, 0x02, 0x00];
-
 /// The release of the server, 15.0.0.0.
 const RELEASE: u32 = 0x0F00_0000;
 
@@ -41,15 +39,16 @@ const MAIN: [u16; 4] = [0x6D, 0x61, 0x69, 0x6E];
 /// Its other name, `master`.
 const MASTER: [u16; 6] = [0x6D, 0x61, 0x73, 0x74, 0x65, 0x72];
 
-/// The packet size before a login, and where the client asks for none that is served.
-const DEFAULT_SIZE: u16 = 4096;
+/// The packet size before a login, and where the client asks for none that is served, in bytes.
+pub const DEFAULT_SIZE: u16 = 4096;
 
-/// Judges a login: the packet size from then on, or the number of the error that refuses it.
+/// Judges a login: the size of the packets from then on, in bytes, or the number of the error that refuses
+/// it, [`LOGIN_FAILED`] where user or password is another, else [`UNKNOWN_DATABASE`].
 #[tactic(auto, unfolding(crate::specs::Verdict::verdict))]
 pub fn judge_login(login: &Login, config: &Config) -> Result<u16, i32>
     ensures { result ≡ verdict login.now config.now }
 {
-    if !is_granted(login, config) {
+    if !has_credentials(login, config) {
         return Err(LOGIN_FAILED);
     }
     if !is_known(&login.database) {
@@ -58,7 +57,8 @@ pub fn judge_login(login: &Login, config: &Config) -> Result<u16, i32>
     Ok(size_for(login.packet_size))
 }
 
-/// The tokens that grant a login with packets of this size. They have a spelling.
+/// The tokens that grant a login with packets of this many bytes: ENVCHANGE of database, collation and
+/// packet size, LOGINACK and DONE ([MS-TDS] 2.2.7.9, 2.2.7.14, 2.2.7.6). They have a spelling.
 #[tactic(auto, using(crate::proofs::Granted::login_answer_fits))]
 pub fn login_reply(alloc: Global, size: u16) -> Result<Vec<Token>, Memory>
     ensures tokens { IfOk result (λ tokens. tokens.items ≡ login_answer (decimal size)) }
@@ -132,8 +132,8 @@ fn digits_of(alloc: Global, size: u16) -> Result<Units, Memory>
 }
 
 /// The user and the password are the configuration's.
-fn is_granted(login: &Login, config: &Config) -> bool
-    ensures { result ≡ is_granted login.now config.now }
+fn has_credentials(login: &Login, config: &Config) -> bool
+    ensures { result ≡ has_credentials login.now config.now }
 {
     login.user == config.user && login.password == config.password
 }

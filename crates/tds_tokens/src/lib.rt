@@ -38,6 +38,7 @@ pub use fault::TokenFault;
 pub use notice::{Notice, TEXT_LIMIT};
 pub use reading::{law_tokens, read_tokens};
 pub use token::{DoneKind, Token};
+pub use wire::COLLATION;
 pub use writing::{bytes_of_tokens, write_tokens};
 
 #[cfg(test)]

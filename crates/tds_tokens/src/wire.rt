@@ -43,7 +43,7 @@ pub(crate) const BITNTYPE: u8 = 0x68;
 pub(crate) const NVARCHARTYPE: u8 = 0xE7;
 
 /// The collation of every text: LCID 0x0409, fBinary2, version 0, SortId 0 (2.2.5.1.2).
-pub(crate) const COLLATION: [u8; 5] = [0x09, 0x04, 0x00, 0x02, 0x00];
+pub const COLLATION: [u8; 5] = [0x09, 0x04, 0x00, 0x02, 0x00];
 
 /// What stands in a text's place where it is NULL.
 pub(crate) static CHARBIN_NULL: [u8; 2] = [0xFF, 0xFF];

@@ -3,6 +3,7 @@ use Rattle.std.proofs.Common.{◌≡◌, ℕ, suc, ◌+◌, ◌-◌, ◌≤◌, 
 use Rattle.std.specs.Prelude.{IfSome, ◌==◌, ◌⊎◌}
 use Rattle.std.specs.List.{All}
 use Rattle.std.proofs.lemmas.Bool.{eq-eqb}
+use Rattle.tds_login.specs.declared.config.Config.{Config}
 use Rattle.tds_packets.specs.declared.message.Message.{Message}
 use Rattle.tds_packets.specs.Stream.{Joins}
 use Rattle.tds_packets.proofs.Joined.{message_length}
@@ -18,7 +19,7 @@ use Rattle.session_server.specs.declared.end.End.TheVariants as ends
 use Rattle.session_server.specs.Asking.{Asks}
 use Rattle.session_server.specs.Conversation.{Conversation, EndsBy, Completes}
 use Rattle.session_server.specs.Response.{Response}
-use Rattle.session_server.specs.Talk.{Talk, commits_in}
+use Rattle.session_server.specs.Talk.{Talk, first_place, commits_in}
 use Rattle.tsqld.specs.Program.{Piped, EndsWell, status_of, fresh_port}
 
 -- a log of one session's commits alone
@@ -44,11 +45,12 @@ joined_rest at bytes [] rest joined = omega (arith, ap length joined)
 joined_rest at bytes (message ∷ messages) rest joined = omega (arith, ap length joined.2, length-append joined.0 joined.1, joined_rest (at + length joined.0) joined.1 messages rest joined.4)
 
 -- without a message nothing was asked
-taken_some : (bytes : List ℕ) (messages : List Message) (rest : List ℕ) (exchanges : List Exchange) (responses : List Response) → Joins 0 bytes messages rest → Asks (Talk messages) exchanges responses → TellsAll (Some []) None exchanges → 8 ≤ length bytes
+taken_some : (config : Config) (bytes : List ℕ) (messages : List Message) (rest : List ℕ) (exchanges : List Exchange) (responses : List Response) → Joins 0 bytes messages rest
+    → Asks (Talk config (first_place config.entry) messages) exchanges responses → TellsAll (Some []) None exchanges → 8 ≤ length bytes
 unfolding Talk Asks
-taken_some bytes messages rest [] responses joined asks lost = absurd lost
-taken_some bytes [] rest (exchange ∷ exchanges) responses joined asks lost = let none = asks.0 in absurd cc
-taken_some bytes (message ∷ messages) rest (exchange ∷ exchanges) responses joined asks lost = joined_long 0 bytes message messages rest joined
+taken_some config bytes messages rest [] responses joined asks lost = absurd lost
+taken_some config bytes [] rest (exchange ∷ exchanges) responses joined asks lost = let none = asks.0 in absurd cc
+taken_some config bytes (message ∷ messages) rest (exchange ∷ exchanges) responses joined asks lost = joined_long 0 bytes message messages rest joined
 
 -- the status of an end at which the port still tells
 memory_end : (end : End) → status_of true end ≡ 6 → end ≡ ends.Memory
@@ -58,26 +60,28 @@ memory_end (ends.Cut at) is = absurd cc
 memory_end (ends.BadHeader at) is = absurd cc
 memory_end (ends.TooLong at) is = absurd cc
 memory_end (ends.OutOfPlace at kind) is = absurd cc
+memory_end (ends.BadPrelogin fault) is = absurd cc
+memory_end (ends.LoginRefused number) is = absurd cc
 memory_end (ends.BadBatch fault) is = absurd cc
 memory_end ends.Spent is = absurd cc
 memory_end ends.ReadFault is = absurd cc
 memory_end ends.WriteFault is = absurd cc
 
-wanted : (told : Option (List Exchange)) (end : End) (status : ℕ) (bytes : List ℕ) (messages : List Message) (rest : List ℕ) (exchanges : List Exchange) (responses : List Response) → status ≡ status_of (is_some told) end → Joins 0 bytes messages rest
-    → Asks (Talk messages) exchanges responses → TellsAll (Some []) told exchanges → EndsBy messages (length bytes - length rest) rest end → status ≡ 6 → 8 ≤ length bytes
-wanted None end status bytes messages rest exchanges responses is joined asks told ended six = taken_some bytes messages rest exchanges responses joined asks told
-wanted (Some all) end status bytes messages rest exchanges responses is joined asks told ended six =
-    let memory : EndsBy messages (length bytes - length rest) rest ends.Memory = subst (EndsBy messages (length bytes - length rest) rest) (memory_end end (sym is ∙ six)) ended in
+wanted : (config : Config) (told : Option (List Exchange)) (end : End) (status : ℕ) (bytes : List ℕ) (messages : List Message) (rest : List ℕ) (exchanges : List Exchange) (responses : List Response) → status ≡ status_of (is_some told) end → Joins 0 bytes messages rest
+    → Asks (Talk config (first_place config.entry) messages) exchanges responses → TellsAll (Some []) told exchanges → EndsBy config messages (length bytes - length rest) rest end → status ≡ 6 → 8 ≤ length bytes
+wanted config None end status bytes messages rest exchanges responses is joined asks told ended six = taken_some config bytes messages rest exchanges responses joined asks told
+wanted config (Some all) end status bytes messages rest exchanges responses is joined asks told ended six =
+    let memory : EndsBy config messages (length bytes - length rest) rest ends.Memory = subst (EndsBy config messages (length bytes - length rest) rest) (memory_end end (sym is ∙ six)) ended in
     omega (arith, memory.1, joined_rest 0 bytes messages rest joined)
 
 -- ---- the whole
 
-pub piped : (gave : List ℕ → Type 0) (left sink_before sink_after : Option (List ℕ)) (before after : Solo) (end : End) (status : ℕ) → before ≡ fresh_port
-    → Conversation 1 gave left (solo_past before) (solo_past after) sink_before sink_after end → after.session ≡ before.session → solo_open after ≡ false → status ≡ status_of (is_some after.told) end
-    → Piped gave left sink_before sink_after status
-piped gave left sink_before sink_after before after end status new served same closed is =
+pub piped : (config : Config) (gave : List ℕ → Type 0) (left sink_before sink_after : Option (List ℕ)) (before after : Solo) (end : End) (status : ℕ) → before ≡ fresh_port
+    → Conversation config 1 gave left (solo_past before) (solo_past after) sink_before sink_after end → after.session ≡ before.session → solo_open after ≡ false → status ≡ status_of (is_some after.told) end
+    → Piped config gave left sink_before sink_after status
+piped config gave left sink_before sink_after before after end status new served same closed is =
     let one : after.session ≡ 1 = same ∙ ap (λ solo. solo.session) new in
-    let conversation = subst (λ (solo : Solo). Conversation 1 gave left (solo_past solo) (solo_past after) sink_before sink_after end) new served in
+    let conversation = subst (λ (solo : Solo). Conversation config 1 gave left (solo_past solo) (solo_past after) sink_before sink_after end) new served in
     let does = conversation.means.does in
     let run = subst (λ (session : ℕ). Run opening (asked_by session does.exchanges) after.engine) one (does.past.led [] refl) in
     let fits = run_fits 1 does.exchanges after.engine run in
@@ -92,7 +96,7 @@ piped gave left sink_before sink_after before after end status new served same c
       commits = logged does.exchanges (commits_in conversation.responses) after.engine.log conversation.means.commits fits own;
       own = own;
       ended = ap (λ (session : ℕ). is_open session after.engine.active) (sym one) ∙ closed;
-      memory = wanted after.told end status conversation.taken conversation.messages conversation.rest does.exchanges conversation.responses is conversation.split.joined does.asks does.past.told conversation.ended;
+      memory = wanted config after.told end status conversation.taken conversation.messages conversation.rest does.exchanges conversation.responses is conversation.split.joined does.asks does.past.told conversation.ended;
     }
 
 -- ---- statuses
@@ -104,9 +108,9 @@ well_status true end (inr wanting) = inr (ap (status_of true) wanting)
 well_status false end (inl closed) = inr (ap (status_of false) closed)
 well_status false end (inr wanting) = inr (ap (status_of false) wanting)
 
-pub ends_well : (told : Option (List ℕ)) (tells : Bool) (end : End) (status : ℕ) → status ≡ status_of tells end → Completes told end → EndsWell told status
-ends_well None tells end status is well = tt
-ends_well (Some bytes) tells end status is well = λ short messages split in_place. subst (λ (s : ℕ). (s ≡ 0) ⊎ (s ≡ 6)) (sym is) (well_status tells end (well short messages split in_place))
+pub ends_well : (config : Config) (told : Option (List ℕ)) (tells : Bool) (end : End) (status : ℕ) → status ≡ status_of tells end → Completes config told end → EndsWell config told status
+ends_well config None tells end status is well = tt
+ends_well config (Some bytes) tells end status is well = λ short messages split in_place. subst (λ (s : ℕ). (s ≡ 0) ⊎ (s ≡ 6)) (sym is) (well_status tells end (well short messages split in_place))
 
 pub read_status : (tells : Bool) (end : End) (status : ℕ) → status ≡ status_of tells end → (status ≡ 3 → ⊥) → end ≡ ends.ReadFault → ⊥
 read_status tells end status is none same = none (is ∙ ap (status_of tells) same)

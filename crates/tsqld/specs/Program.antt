@@ -2,6 +2,9 @@
 -- code calls the connection, and asks the port whether it tells.
 use Rattle.std.specs.Prelude.{◌≡◌, ℕ, ◌<◌, ◌≤◌, ◌⊎◌, Bool, true, false, List, [], ◌∷◌, length, map, Option, None, Some, is_some, IfSome, codes}
 use Rattle.std.specs.List.{All}
+use Rattle.value_types.specs.Units.{utf16_of}
+use Rattle.tds_login.specs.declared.config.Config.{Config}
+use Rattle.tds_login.specs.declared.config.Entry.TheVariants.{Login, Bare}
 use Rattle.tds_packets.specs.declared.message.Message.{Message}
 use Rattle.tds_packets.specs.Stream.{Splits}
 use Rattle.tds_packets.specs.Reading.{byte_limit}
@@ -9,13 +12,33 @@ use Rattle.step_model.specs.Fits.{Fits}
 use Rattle.step_model.specs.Step.{Run, asked_by, opening, is_open}
 use Rattle.engine_core.specs.Solo.{Solo, solo_past}
 use Rattle.session_server.specs.declared.end.End.{End}
-use Rattle.session_server.specs.declared.end.End.TheVariants.{Closed, Cut, BadHeader, TooLong, OutOfPlace, BadBatch, Spent, ReadFault, WriteFault, Memory}
-use Rattle.session_server.specs.Conversation.{Conversation}
-use Rattle.session_server.specs.Talk.{talk_end, commits_in}
+use Rattle.session_server.specs.declared.end.End.TheVariants.{Closed, Cut, BadHeader, TooLong, OutOfPlace, BadPrelogin, LoginRefused, BadBatch, Spent, ReadFault, WriteFault, Memory}
+use Rattle.session_server.specs.Conversation.{Conversation, IsUnended}
+use Rattle.session_server.specs.Talk.{commits_in}
 
--- the words are `pipe --bare`, each as its bytes
-abbrev pub IsPipeBare : List (List ℕ) → Type 0
-IsPipeBare words = words ≡ codes "pipe" ∷ codes "--bare" ∷ []
+-- ---- words
+
+-- this user may log in, with this password
+abbrev pub login_config : List ℕ → List ℕ → Config
+login_config user password = record { user = user; password = password; entry = Login }
+
+-- the client is logged in from the beginning
+abbrev pub bare_config : Config
+bare_config = record { user = []; password = []; entry = Bare }
+
+-- The words, each as its UTF-8 bytes, are `pipe`, for the user `sa` with the password `A`; or
+-- `pipe --user U --password P`, for these; or `pipe --bare`. They ask for this configuration.
+abbrev pub IsPipe : List (List ℕ) → Config → Type 0
+IsPipe words config =
+    ((words ≡ codes "pipe" ∷ []) × (config ≡ login_config (codes "sa") (codes "A")))
+    ⊎ (((user : List ℕ) × (password : List ℕ) × (words ≡ codes "pipe" ∷ codes "--user" ∷ user ∷ codes "--password" ∷ password ∷ []) × (config ≡ login_config (utf16_of user) (utf16_of password)))
+    ⊎ ((words ≡ codes "pipe" ∷ codes "--bare" ∷ []) × (config ≡ bare_config)))
+
+-- the words are no command
+abbrev pub IsNoCommand : List (List ℕ) → Type 0
+IsNoCommand words = (config : Config) → IsPipe words config → ⊥
+
+-- ---- statuses
 
 -- The status at an end, where the port tells its exchanges or not. Where it doesn't, memory was wanting
 -- for one of them.
@@ -28,21 +51,25 @@ status_of true (Cut at) = 5
 status_of true (BadHeader at) = 5
 status_of true (TooLong at) = 5
 status_of true (OutOfPlace at kind) = 5
+status_of true (BadPrelogin fault) = 5
+status_of true (LoginRefused number) = 5
 status_of true (BadBatch fault) = 5
 status_of true Spent = 5
 status_of true Memory = 6
+
+-- ---- what `pipe` does
 
 -- a port for session 1, over an engine before any step
 abbrev pub fresh_port : Solo
 fresh_port = record { session = 1; told = Some []; engine = opening }
 
--- Session 1 was served over such a port, which stands now as `port`. `gave` says which bytes came from
--- the source, in which `left` are left.
-pub record Piped (gave : List ℕ → Type 0) (left sink_before sink_after : Option (List ℕ)) (status : ℕ) : Type 0 where
+-- Session 1 was served by this configuration over such a port, which stands now as `port`. `gave` says
+-- which bytes came from the source, in which `left` are left.
+pub record Piped (config : Config) (gave : List ℕ → Type 0) (left sink_before sink_after : Option (List ℕ)) (status : ℕ) : Type 0 where
   pub end : End
   pub port : Solo
   pub status_is : status ≡ status_of (is_some port.told) end
-  pub conversation : Conversation 1 gave left (solo_past fresh_port) (solo_past port) sink_before sink_after end
+  pub conversation : Conversation config 1 gave left (solo_past fresh_port) (solo_past port) sink_before sink_after end
   -- its exchanges are a run of this session alone, which leads to the port's engine, and fit its log
   pub run : Run opening (asked_by 1 conversation.means.does.exchanges) port.engine
   pub fits : Fits 1 [] port.engine.log conversation.means.does.exchanges
@@ -55,6 +82,6 @@ pub record Piped (gave : List ℕ → Type 0) (left sink_before sink_after : Opt
   pub memory : status ≡ 6 → 8 ≤ length conversation.taken
 
 -- Where the source told its bytes, and they are fewer than 2^40 and whole messages of which none ends
--- the talk: all were answered, or memory was wanting.
-abbrev pub EndsWell : Option (List ℕ) → ℕ → Type 0
-EndsWell told status = IfSome told (λ bytes. length bytes < byte_limit → (messages : List Message) → Splits bytes messages [] → talk_end messages ≡ None → (status ≡ 0) ⊎ (status ≡ 6))
+-- the talk, as a refused login does: all were answered, or memory was wanting.
+abbrev pub EndsWell : Config → Option (List ℕ) → ℕ → Type 0
+EndsWell config told status = IfSome told (λ bytes. length bytes < byte_limit → (messages : List Message) → Splits bytes messages [] → IsUnended config messages → (status ≡ 0) ⊎ (status ≡ 6))

@@ -1,15 +1,18 @@
 //! The program.
 
-ghost use Rattle.std.specs.Prelude.{◌≡◌, ◌≢◌, ◌≤◌, map, string_bytes, IsTrue, ◌↔◌};
+ghost use Rattle.std.specs.Prelude.{◌≡◌, ◌≢◌, ◌≤◌, ◌⊎◌, ◌∷◌, codes, map, string_bytes, IsNone, IfSome, IfOk, IfErr};
 ghost use Rattle.outside_io.specs.Bytes.{Takes, HasRisen};
-ghost use Rattle.tsqld.specs.Program.{IsPipeBare, Piped, EndsWell, status_of};
+ghost use Rattle.tds_login.specs.declared.config.Config.{Config};
+ghost use Rattle.tds_login.specs.declared.config.Entry.TheVariants.{Login};
+ghost use Rattle.tsqld.specs.Command.{config_of};
+ghost use Rattle.tsqld.specs.Program.{IsPipe, IsNoCommand, Piped, EndsWell, status_of};
 
 use engine_core::SoloPort;
 use outside_io::{Sink, Source};
 use session_server::{End, serve_on_port};
 use std::alloc::Global;
 use tds_login::{Config, Entry};
-use value_types::Units;
+use value_types::{Memory, Units, units_of_str};
 
 /// The status where the words are no command.
 pub(crate) const NO_COMMAND: u8 = 2;
@@ -20,23 +23,26 @@ pub(crate) const NO_MEMORY: u8 = 6;
 /// The session that `pipe` serves.
 const SESSION: u32 = 1;
 
-/// Does all that the program does, for the words after its name. So far `pipe --bare` serves one
-/// connection of session 1, logged in from the beginning, over an engine of its own, and all other
-/// words are no command.
+/// Does all that the program does, for the words after its name. So far they are `pipe`,
+/// `pipe --user U --password P` and `pipe --bare`, which serve one connection of session 1 over an engine
+/// of its own; all other words are no command. The first two ask the client to log in, as user `sa` with
+/// the password `A`, or as U with P; with the last it is logged in from the beginning.
 ///
 /// The status is 0 where the connection was closed, 2 where the words are no command, 3 where
-/// reading failed, 4 where writing failed, 6 where memory was wanting, for the connection or for the
-/// list of what it asked, and 5 at any other end.
+/// reading failed, 4 where writing failed, 6 where memory was wanting, for the configuration, for the
+/// connection or for the list of what it asked, and 5 at any other end.
 pub fn run_program<S: Source, K: Sink>(
     alloc: Global,
     words: &[String],
     input: &mut S,
     output: &mut K,
 ) -> u8
-    // What was taken, asked, written and committed, and the status.
-    ensures conversation { IsPipeBare (map string_bytes words.now)
-        → Piped (Takes S.left S.given input.old input.new) (S.left input.new) (K.written output.old) (K.written output.new) result }
-    ensures refused { ¬ (IsPipeBare (map string_bytes words.now)) → (result ≡ 2) × (input.new ≡ input.old) × (output.new ≡ output.old) }
+    // What was taken, asked, written and committed, and the status. Memory for the user and the password
+    // may be wanting before anything is taken.
+    ensures conversation { (config : Config) → IsPipe (map string_bytes words.now) config
+        → Piped config (Takes S.left S.given input.old input.new) (S.left input.new) (K.written output.old) (K.written output.new) result
+        ⊎ ((config.entry ≡ Login) × (result ≡ 6) × (input.new ≡ input.old) × (output.new ≡ output.old)) }
+    ensures refused { IsNoCommand (map string_bytes words.now) → (result ≡ 2) × (input.new ≡ input.old) × (output.new ≡ output.old) }
 
     // When 3 and 4 come.
     ensures read_fault { result ≡ 3 → HasRisen (S.faults input.old) (S.faults input.new) }
@@ -45,20 +51,98 @@ pub fn run_program<S: Source, K: Sink>(
     ensures no_write_fault { result ≢ 4 → K.faults output.new ≡ K.faults output.old }
     ensures counted { (S.faults input.old ≤ S.faults input.new) × (K.faults output.old ≤ K.faults output.new) }
 
-    // Where nothing fails and the input is whole messages that can be read, in their places, all of them
-    // are answered.
-    ensures complete { IsPipeBare (map string_bytes words.now) → result ≢ 3 → result ≢ 4 → EndsWell (S.left input.old) result }
+    // Where nothing fails, memory is not wanting, and the input is fewer than 2^40 bytes of whole messages
+    // that can be read, in their places, with no login that is refused, all of them are answered.
+    ensures complete { (config : Config) → IsPipe (map string_bytes words.now) config → result ≢ 3 → result ≢ 4 → EndsWell config (S.left input.old) result }
 {
-    if !is_pipe_bare(words) {
-        return NO_COMMAND;
+    match command_of(words) {
+        Some(command) => match config_for(alloc, &command) {
+            Ok(config) => pipe(alloc, &config, input, output),
+            Err(_) => NO_MEMORY,
+        },
+        None => NO_COMMAND,
     }
-    let config = Config {
-        user: Units::new(alloc),
-        password: Units::new(alloc),
-        entry: Entry::Bare,
-    };
+}
+
+/// What the words ask for. It is not `Debug`, which would print the password.
+#[derive(Clone, Copy)]
+enum Command<'a> {
+    /// The client logs in as this user with this password.
+    Pipe {
+        /// The user.
+        user: &'a str,
+        /// That user's password.
+        password: &'a str,
+    },
+    /// The client is logged in from the beginning.
+    PipeBare,
+}
+
+/// The command that the words are, if they are one.
+fn command_of(words: &[String]) -> Option<Command<'_>>
+    ensures command { IfSome result (λ command. IsPipe (map string_bytes words.now) (config_of command)) }
+    ensures none { IsNone result → IsNoCommand (map string_bytes words.now) }
+{
+    match words {
+        [command, options @ ..] if command.as_str() == "pipe" => pipe_command(options),
+        _ => None,
+    }
+}
+
+/// The command that `pipe` is with these options, if it has such.
+fn pipe_command(options: &[String]) -> Option<Command<'_>>
+    ensures command { IfSome result (λ command. IsPipe (codes "pipe" ∷ map string_bytes options.now) (config_of command)) }
+    ensures none { IsNone result → IsNoCommand (codes "pipe" ∷ map string_bytes options.now) }
+{
+    match options {
+        [] => Some(Command::Pipe {
+            user: "sa",
+            password: "A",
+        }),
+        [flag] if flag.as_str() == "--bare" => Some(Command::PipeBare),
+        [first, user, second, password]
+            if first.as_str() == "--user" && second.as_str() == "--password" => Some(
+            Command::Pipe {
+                user: user.as_str(),
+                password: password.as_str(),
+            },
+        ),
+        _ => None,
+    }
+}
+
+/// The configuration that a command asks for. Memory may be wanting only for a user and a password.
+fn config_for(alloc: Global, command: &Command<'_>) -> Result<Config, Memory>
+    ensures config { IfOk result (λ config. config ≡ config_of command.now) }
+    ensures memory { IfErr result (λ _. (config_of command.now).entry ≡ Login) }
+{
+    match *command {
+        Command::Pipe { user, password } => Ok(Config {
+            user: units_of_str(alloc, user)?,
+            password: units_of_str(alloc, password)?,
+            entry: Entry::Login,
+        }),
+        Command::PipeBare => Ok(Config {
+            user: Units::new(alloc),
+            password: Units::new(alloc),
+            entry: Entry::Bare,
+        }),
+    }
+}
+
+/// Serves one connection of session 1 over an engine of its own, and gives the status at its end.
+fn pipe<S: Source, K: Sink>(alloc: Global, config: &Config, input: &mut S, output: &mut K) -> u8
+    ensures conversation { Piped config.now (Takes S.left S.given input.old input.new) (S.left input.new)
+        (K.written output.old) (K.written output.new) result }
+    ensures read_fault { result ≡ 3 → HasRisen (S.faults input.old) (S.faults input.new) }
+    ensures write_fault { result ≡ 4 → HasRisen (K.faults output.old) (K.faults output.new) }
+    ensures no_read_fault { result ≢ 3 → S.faults input.new ≡ S.faults input.old }
+    ensures no_write_fault { result ≢ 4 → K.faults output.new ≡ K.faults output.old }
+    ensures counted { (S.faults input.old ≤ S.faults input.new) × (K.faults output.old ≤ K.faults output.new) }
+    ensures complete { result ≢ 3 → result ≢ 4 → EndsWell config.now (S.left input.old) result }
+{
     let mut port = SoloPort::new(alloc, SESSION);
-    let end = serve_on_port(alloc, SESSION, &mut port, &config, input, output);
+    let end = serve_on_port(alloc, SESSION, &mut port, config, input, output);
     status_of(end, port.tells())
 }
 
@@ -73,15 +157,5 @@ fn status_of(end: End, tells: bool) -> u8
         End::Closed => 0,
         End::Memory => NO_MEMORY,
         _ => 5,
-    }
-}
-
-/// Whether the words are `pipe --bare`.
-fn is_pipe_bare(words: &[String]) -> bool
-    ensures { IsTrue result ↔ IsPipeBare (map string_bytes words.now) }
-{
-    match words {
-        [command, flag] => command.as_str() == "pipe" && flag.as_str() == "--bare",
-        _ => false,
     }
 }

@@ -1,16 +1,32 @@
-use Rattle.std.proofs.Common.{ap, ◌∙◌}
+use Rattle.std.proofs.Common.{inl, inr, map, string_bytes, refl, sym, ap, subst, ◌∙◌}
 use Rattle.outside_io.specs.Bytes.{Takes}
-use Rattle.tsqld.specs.Program.{status_of}
-use Rattle.tsqld.proofs.Pipes.{piped, ends_well, read_status, write_status}
+use Rattle.tds_login.specs.declared.config.Config.{Config}
+use Rattle.tsqld.specs.Command.{config_of}
+use Rattle.tsqld.specs.Program.{Piped, EndsWell}
+use Rattle.tsqld.proofs.Words.{one_config}
 use Rattle.tsqld.proofs.program.run_program.Goals as goal
 
-pub returns-clause-conversation : goal.returns-clause-conversation
-returns-clause-conversation g c = λ words.
-    piped (Takes g.S.Source.left g.S.Source.given c.args.input.now c.serve_on_port-end.new.source) (g.S.Source.left c.serve_on_port-end.new.source) (g.K.Sink.written c.args.output.now) (g.K.Sink.written c.serve_on_port-end.new.sink)
-    c.new-port.result c.serve_on_port-end.new.port c.serve_on_port-end.result c.status_of.result c.new-port.ensures c.serve_on_port-end.ensures.conversation c.serve_on_port-end.ensures.session c.serve_on_port-end.ensures.ended
-    (c.status_of.ensures ∙ ap (λ tells. status_of tells c.serve_on_port-end.result) c.tells.ensures.tells)
+pub returns-in-Ok-clause-conversation : goal.returns-in-Ok-clause-conversation
+returns-in-Ok-clause-conversation g c = λ config words.
+    let same = c.in-Ok.ensures.config ∙ one_config (map string_bytes c.args.words.now) (config_of c.in-Some.command) config c.in-Some.ensures.command words in
+    inl (subst (λ (asked : Config). Piped asked (Takes g.S.Source.left g.S.Source.given c.args.input.now c.pipe.new.input) (g.S.Source.left c.pipe.new.input) (g.K.Sink.written c.args.output.now) (g.K.Sink.written c.pipe.new.output) c.pipe.result)
+    same c.pipe.ensures.conversation)
 
-pub returns-clause-complete : goal.returns-clause-complete
-returns-clause-complete g c = λ words reads writes.
-    ends_well (g.S.Source.left c.args.input.now) c.tells.result c.serve_on_port-end.result c.status_of.result c.status_of.ensures
-    (c.serve_on_port-end.ensures.complete (read_status c.tells.result c.serve_on_port-end.result c.status_of.result c.status_of.ensures reads) (write_status c.tells.result c.serve_on_port-end.result c.status_of.result c.status_of.ensures writes))
+pub returns-in-Ok-clause-refused : goal.returns-in-Ok-clause-refused
+returns-in-Ok-clause-refused g c = λ none. absurd (none (config_of c.in-Some.command) c.in-Some.ensures.command)
+
+pub returns-in-Ok-clause-complete : goal.returns-in-Ok-clause-complete
+returns-in-Ok-clause-complete g c = λ config words reads writes.
+    let same = c.in-Ok.ensures.config ∙ one_config (map string_bytes c.args.words.now) (config_of c.in-Some.command) config c.in-Some.ensures.command words in
+    subst (λ (asked : Config). EndsWell asked (g.S.Source.left c.args.input.now) c.pipe.result) same (c.pipe.ensures.complete reads writes)
+
+pub returns-in-Err-clause-conversation : goal.returns-in-Err-clause-conversation
+returns-in-Err-clause-conversation g c = λ config words.
+    let same = one_config (map string_bytes c.args.words.now) (config_of c.in-Some.command) config c.in-Some.ensures.command words in
+    inr (ap (λ asked. asked.entry) (sym same) ∙ c.in-Err.ensures.memory, refl, refl, refl)
+
+pub returns-in-None-clause-conversation : goal.returns-in-None-clause-conversation
+returns-in-None-clause-conversation g c = λ config words. absurd (c.in-None.ensures.none refl config words)
+
+pub returns-in-None-clause-complete : goal.returns-in-None-clause-complete
+returns-in-None-clause-complete g c = λ config words. absurd (c.in-None.ensures.none refl config words)
