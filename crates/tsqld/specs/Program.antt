@@ -1,6 +1,6 @@
 -- Own: the words of the program, its statuses, and what `pipe` does. It is said of the whole run; the
 -- code calls the connection, and asks the port whether it tells.
-use Rattle.std.specs.Prelude.{◌≡◌, ℕ, ◌<◌, ◌≤◌, ◌⊎◌, Bool, true, false, List, [], ◌∷◌, length, map, Option, None, Some, is_some, IfSome, codes}
+use Rattle.std.specs.Prelude.{◌≡◌, ℕ, ◌<◌, ◌≤◌, ◌⊎◌, Bool, true, false, List, [], ◌∷◌, length, map, Option, Some, is_some, IfSome, codes}
 use Rattle.std.specs.List.{All}
 use Rattle.value_types.specs.Units.{utf16_of}
 use Rattle.tds_login.specs.declared.config.Config.{Config}
