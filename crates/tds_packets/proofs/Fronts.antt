@@ -5,8 +5,8 @@ use Rattle.std.proofs.lemmas.Bool.{and_parts, and_from, ltb-false}
 use Rattle.std.proofs.lemmas.List.{get_or_append_left}
 use Rattle.tds_packets.specs.Header.{kind_of, is_known_type, ends_message, length_of}
 use Rattle.tds_packets.specs.Stream.{payload_limit, goes_on, header_fault, fault_or, tail_end}
-use Rattle.tds_packets.specs.declared.reader.MessageFault.{MessageFault}
-use Rattle.tds_packets.specs.declared.reader.MessageFault.TheVariants.{Closed, Cut, BadHeader, TooLong}
+use Rattle.tds_packets.specs.declared.fault.MessageFault.{MessageFault}
+use Rattle.tds_packets.specs.declared.fault.MessageFault.TheVariants.{Closed, Cut, BadHeader, TooLong}
 
 -- a header without a fault
 pub record IsRight (begun : Option ℕ) (size : ℕ) (header : List ℕ) : Type 0 where

@@ -6,8 +6,8 @@ use Rattle.std.specs.Io.KnownBytes.{Appends}
 use Rattle.std.proofs.KnownBytes.{Appends-trans, starts_with_rest}
 use Rattle.outside_io.specs.Bytes.{AppendsOrHides}
 use Rattle.tds_packets.specs.Packets.{IsPartSent}
-use Rattle.tds_packets.specs.declared.sending.SendFault.{SendFault}
-use Rattle.tds_packets.specs.declared.sending.SendFault.TheVariants.{WriteFault, Memory}
+use Rattle.tds_packets.specs.declared.fault.SendFault.{SendFault}
+use Rattle.tds_packets.specs.declared.fault.SendFault.TheVariants.{WriteFault, Memory}
 
 -- the bytes are split one write further
 pub split_further : (bytes front rest : List ℕ) (n : ℕ) → bytes ≡ front ++ rest → bytes ≡ (front ++ take n rest) ++ take (length rest - n) (drop n rest)
