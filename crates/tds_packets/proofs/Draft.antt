@@ -129,7 +129,7 @@ module _ (earlier : List (List ℕ)) (begun : Option ℕ) (payload : List ℕ) (
   by_fault (TooLong place) told =
       let here = header_place (type_of earlier) (length (data_of earlier)) (at + length (bytes_of earlier)) place tail (TooLong place) (inr refl) told.0 in
       (stops (TooLong place) here.1 told.0, omega (arith, here.0, told.1, length-append (bytes_of earlier) tail))
-  by_fault ReadFault told = unrefused told
+  by_fault ReadFault told = (unrefused told.0, omega (arith, told.1, length-append (bytes_of earlier) tail))
   by_fault Memory told = (unrefused told.0, omega (arith, told.1, length-append (bytes_of earlier) tail))
   by_fault Spent told = (unrefused told.0, omega (arith, told.1, length-append (bytes_of earlier) tail))
 
