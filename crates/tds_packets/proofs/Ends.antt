@@ -30,7 +30,7 @@ StopsBy-partial at bytes Closed stops = (Closed, stops.0)
 StopsBy-partial at bytes (Cut place) stops = (Cut place, stops.0)
 StopsBy-partial at bytes (BadHeader place) stops = (BadHeader place, stops.0)
 StopsBy-partial at bytes (TooLong place) stops = (TooLong place, stops.0)
-StopsBy-partial at bytes ReadFault stops = (stops.0, stops.1)
+StopsBy-partial at bytes ReadFault stops = (stops.0.0, stops.0.1)
 StopsBy-partial at bytes Memory stops = (stops.0.0, stops.0.1)
 StopsBy-partial at bytes Spent stops = (stops.0.0, stops.0.1)
 

@@ -2,9 +2,8 @@
 -- the code goes over the payload with one buffer.
 use Rattle.std.specs.Prelude.{ℕ, suc, zero, ◌+◌, ◌-◌, ◌*◌, ◌/◌, ◌%◌, ◌≤◌, nat_lt, if◌then◌else◌, List, [], ◌∷◌, ◌++◌, length, take, drop, Option}
 use Rattle.std.specs.List.{flat_map}
-use Rattle.std.specs.Io.{StartsWith}
 use Rattle.std.specs.Io.KnownBytes.{Appends}
-use Rattle.outside_io.specs.Bytes.{AppendsOrHides}
+use Rattle.outside_io.specs.Bytes.{IsProperFront, AppendsOrHides}
 use Rattle.tds_packets.specs.declared.fault.SendFault.{SendFault}
 use Rattle.tds_packets.specs.declared.fault.SendFault.TheVariants.{WriteFault, Memory}
 use Rattle.tds_packets.specs.Header.{header, header_length, eom}
@@ -52,8 +51,8 @@ packet_at kind spid size payload k =
 abbrev pub Packets : ℕ → ℕ → ℕ → List ℕ → List ℕ
 Packets kind spid size payload = flat_map (packet_at kind spid size payload) (count_up (packet_count (size - header_length) (length payload)))
 
--- What a sink that told `old` and tells `new` has of the bytes: some front of them. After a fault
--- of its own it may tell its bytes no longer.
+-- What a sink that told `old` and tells `new` has of the bytes: a front of them, and not all. After a
+-- fault of its own it may tell its bytes no longer.
 abbrev pub IsPartSent : Option (List ℕ) → Option (List ℕ) → List ℕ → SendFault → Type 0
-IsPartSent old new bytes WriteFault = (part : List ℕ) × StartsWith bytes part × AppendsOrHides old new part
-IsPartSent old new bytes Memory = (part : List ℕ) × StartsWith bytes part × Appends old new part
+IsPartSent old new bytes WriteFault = (part : List ℕ) × IsProperFront bytes part × AppendsOrHides old new part
+IsPartSent old new bytes Memory = (part : List ℕ) × IsProperFront bytes part × Appends old new part

@@ -9,6 +9,7 @@ use byteorder::{ByteOrder, LittleEndian};
 use std::alloc::{AllocError, AllocFailed, Global};
 use std::cmp::Ordering;
 use std::marker::Model;
+use thiserror::Error;
 
 /// A text as a list of 16-bit units. The units need not be well-formed UTF-16.
 #[derive(Debug, Drop)]
@@ -166,11 +167,13 @@ impl Ord for Units {
 }
 
 /// Why bytes are no text.
-#[derive(Clone, Copy, Debug, PartialEq, Eq)]
+#[derive(Clone, Copy, Debug, PartialEq, Eq, Error)]
 pub enum UnitsFault {
     /// A unit has two bytes, and the bytes are odd in number.
+    #[error("the bytes of a text are odd in number")]
     OddLength,
     /// Memory was wanting.
+    #[error("memory was wanting")]
     Memory,
 }
 
