@@ -6,3 +6,4 @@ pub mod Comments
 pub mod Lexemes
 pub mod Parts
 pub mod Reading
+pub mod Answer

@@ -1,7 +1,7 @@
 -- Own: reading a text from left to right, which finds the parts that `Lexes` speaks of. At each unit it either
 -- goes on with the part that stands there, or looks which part begins; the code goes from part to part, with
 -- places in the whole text, and may run out of memory.
-use Rattle.std.specs.Prelude.{ℕ, suc, zero, ◌+◌, ◌-◌, ◌==◌, ◌&&◌, nat_lt, nat_le, if◌then◌else◌, pos, List, [], ◌∷◌, take, drop, slice_index, Option, None, Some}
+use Rattle.std.specs.Prelude.{ℕ, ℤ, ◌≤◌, suc, zero, ◌+◌, ◌-◌, ◌==◌, ◌&&◌, nat_lt, nat_le, if◌then◌else◌, pos, List, [], ◌∷◌, take, drop, slice_index, Option, None, Some}
 use Rattle.std.specs.List.{prefix_len}
 use Rattle.tsql_lexer.specs.declared.lexeme.Lexeme.{Lexeme}
 use Rattle.tsql_lexer.specs.declared.lexeme.Lexeme.TheVariants as lexemes
@@ -70,22 +70,31 @@ single_sign unit =
 abbrev pub token_of : (List ℕ → Lexeme) → ℕ → List ℕ → Piece
 token_of make size text = Token (make (take size text)) size
 
+-- a word, as long as its units go
+abbrev pub word_piece : List ℕ → Piece
+word_piece text = token_of lexemes.Word (prefix_len is_word_unit text) text
+
 -- a name of word units, at least so many with those that open it
 unfoldable pub at_name_piece : (List ℕ → Lexeme) → ℕ → List ℕ → Piece
 at_name_piece make least text =
     let size = prefix_len is_word_unit text in
     if nat_lt size least then Failure BadUnit else token_of make size text
 
+-- the number that digits spell, if it is not too big
+unfoldable pub number_of : List ℕ → Option ℤ
+number_of digits = if nat_le (number_value digits) number_limit then Some (pos (number_value digits)) else None
+
+abbrev pub number_by : Option ℤ → ℕ → Piece
+number_by None size = Failure NumberTooBig
+number_by (Some value) size = Token (lexemes.Number value) size
+
 unfoldable pub number_piece : List ℕ → Piece
-number_piece text =
-    let size = prefix_len is_digit text in
-    let value = number_value (take size text) in
-    if nat_le value number_limit then Token (lexemes.Number (pos value)) size else Failure NumberTooBig
+number_piece text = number_by (number_of (take (prefix_len is_digit text) text)) (prefix_len is_digit text)
 
 -- what stands between a name's quotes, and its size with the closing one
 abbrev pub name_by : Option (List ℕ × ℕ) → Piece
 name_by None = Failure OpenName
-name_by (Some name) = if is_name name.0 then Token (lexemes.Quoted name.0) (1 + name.1) else Failure OpenName
+name_by (Some name) = if is_name name.0 then Token (lexemes.Quoted name.0) (name.1 + 1) else Failure OpenName
 
 unfoldable pub name_piece : ℕ → List ℕ → Piece
 name_piece close text = name_by (enclosed close (drop 1 text))
@@ -118,7 +127,7 @@ unfoldable pub piece_by : Opening → List ℕ → Piece
 piece_by opens.Blank text = Gap (prefix_len is_blank text)
 piece_by opens.LineComment text = Gap (prefix_len stays_in_line text)
 piece_by opens.Comment text = comment_piece text
-piece_by opens.Word text = token_of lexemes.Word (prefix_len is_word_unit text) text
+piece_by opens.Word text = word_piece text
 piece_by opens.Number text = number_piece text
 piece_by opens.Bracket text = name_piece 0x5D text
 piece_by opens.DoubleQuote text = name_piece 0x22 text
@@ -131,6 +140,12 @@ piece_by opens.Sign text = sign_piece (slice_index text 0) (slice_index text 1)
 -- what begins a text of at least one unit
 unfoldable pub piece_of : List ℕ → Piece
 piece_of text = piece_by (opening_of (slice_index text 0) (slice_index text 1)) text
+
+-- the piece, if there is one, has at least one unit and at most so many
+abbrev pub IsWithin : ℕ → Piece → Type 0
+IsWithin most (Gap size) = (1 ≤ size) × (size ≤ most)
+IsWithin most (Token lexeme size) = (1 ≤ size) × (size ≤ most)
+IsWithin most (Failure kind) = Unit {0}
 
 -- ---- the pieces of a text, one after another
 
