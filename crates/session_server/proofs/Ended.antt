@@ -8,10 +8,10 @@ use Rattle.tds_login.specs.declared.config.Config.{Config}
 use Rattle.tds_packets.proofs.Sent.{AppendsOrHides-after}
 use Rattle.tds_packets.proofs.Ends.{Stops-nil}
 use Rattle.tds_packets.specs.declared.message.Message.{Message}
-use Rattle.tds_packets.specs.declared.reader.MessageFault.{MessageFault}
-use Rattle.tds_packets.specs.declared.reader.MessageFault.TheVariants as reading
-use Rattle.tds_packets.specs.declared.sending.SendFault.{SendFault}
-use Rattle.tds_packets.specs.declared.sending.SendFault.TheVariants as sending
+use Rattle.tds_packets.specs.declared.fault.MessageFault.{MessageFault}
+use Rattle.tds_packets.specs.declared.fault.MessageFault.TheVariants as reading
+use Rattle.tds_packets.specs.declared.fault.SendFault.{SendFault}
+use Rattle.tds_packets.specs.declared.fault.SendFault.TheVariants as sending
 use Rattle.tds_packets.specs.Stream.{IsMessage}
 use Rattle.tds_packets.specs.Reading.{StopsBy, IsUnrefused, IsEnd}
 use Rattle.tds_packets.specs.Packets.{IsPartSent}

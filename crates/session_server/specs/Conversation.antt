@@ -7,7 +7,7 @@ use Rattle.std.specs.Io.KnownBytes.{Appends, IsAtEnd}
 use Rattle.outside_io.specs.Bytes.{AppendsOrHides}
 use Rattle.tds_login.specs.declared.config.Config.{Config}
 use Rattle.tds_packets.specs.declared.message.Message.{Message}
-use Rattle.tds_packets.specs.declared.reader.MessageFault.TheVariants as faults
+use Rattle.tds_packets.specs.declared.fault.MessageFault.TheVariants as faults
 use Rattle.tds_packets.specs.Stream.{Splits}
 use Rattle.tds_packets.specs.Reading.{StopsBy, IsUnrefused, byte_limit}
 use Rattle.step_model.specs.Exchange.{PortPast}

@@ -1,7 +1,7 @@
 //! PRELOGIN ([MS-TDS] 2.2.6.5).
 
 ghost use Rattle.std.specs.Prelude.{◌≡◌, ◌+◌, ◌*◌, ◌^◌, ◌<◌, ◌≤◌, length, slice_index, IfOk};
-ghost use Rattle.tds_login.specs.Prelogin.{prelogin_of, prelogin_answer};
+ghost use Rattle.tds_login.specs.Prelogin.{prelogin_of, prelogin_reply};
 ghost use Rattle.tds_login.specs.Walk.{option_at, judged_after, seen_after};
 
 use byteorder::{BigEndian, ByteOrder};
@@ -70,7 +70,7 @@ pub fn read_prelogin(payload: &[u8]) -> Result<Prelogin, PreloginFault>
 
 /// The payload of the answer to every PRELOGIN.
 pub fn prelogin_reply(alloc: Global) -> Result<Vec<u8>, Memory>
-    ensures { IfOk result (λ bytes. bytes.items ≡ prelogin_answer) }
+    ensures { IfOk result (λ bytes. bytes.items ≡ prelogin_reply) }
 {
     Ok(Vec::from_slice(alloc, &ANSWER)?)
 }

@@ -6,8 +6,8 @@ use Rattle.tds_packets.specs.Stream.{payload_limit, IsPacket, AreOpen, bytes_of,
 use Rattle.tds_packets.specs.Reading.{StopsBy, IsUnrefused}
 use Rattle.tds_packets.specs.Parts.{IsHeader, TailStopsBy, IsOpenTail}
 use Rattle.tds_packets.specs.declared.header.PacketHeader.{PacketHeader}
-use Rattle.tds_packets.specs.declared.reader.MessageFault.{MessageFault}
-use Rattle.tds_packets.specs.declared.reader.MessageFault.TheVariants.{Closed, Cut, BadHeader, TooLong, ReadFault, Memory, Spent}
+use Rattle.tds_packets.specs.declared.fault.MessageFault.{MessageFault}
+use Rattle.tds_packets.specs.declared.fault.MessageFault.TheVariants.{Closed, Cut, BadHeader, TooLong, ReadFault, Memory, Spent}
 use Rattle.tds_packets.proofs.Fronts.{IsRight, right_header, header_fault-right, which_fault, how_ended}
 use Rattle.tds_packets.proofs.Open.{bytes_of-append, data_of-append, AreOpen-append, AreOpen-kind, type_of-more}
 

@@ -4,8 +4,8 @@ use Rattle.std.specs.Prelude.{None}
 use Rattle.tds_packets.specs.Stream.{payload_limit, IsMessage, Joins, Stops, IsPartial, AreOpen, bytes_of, data_of, type_of, header_fault, tail_end}
 use Rattle.tds_packets.specs.Reading.{StopsBy, OnCut, IsNoRefusal}
 use Rattle.tds_packets.specs.declared.message.Message.{Message}
-use Rattle.tds_packets.specs.declared.reader.MessageFault.{MessageFault}
-use Rattle.tds_packets.specs.declared.reader.MessageFault.TheVariants.{Closed, Cut, BadHeader, TooLong, ReadFault, Memory, Spent}
+use Rattle.tds_packets.specs.declared.fault.MessageFault.{MessageFault}
+use Rattle.tds_packets.specs.declared.fault.MessageFault.TheVariants.{Closed, Cut, BadHeader, TooLong, ReadFault, Memory, Spent}
 use Rattle.tds_packets.proofs.Fronts.{IsRight, header_fault-right, right_front, right_back, how_ended}
 use Rattle.tds_packets.proofs.Open.{data_of-append, AreOpen-front, AreOpen-back, comparable, right_packet, no_tail, follows}
 use Rattle.tds_packets.proofs.Joined.{not_stopped, left_whole}

@@ -8,8 +8,8 @@ use Rattle.std.proofs.lemmas.List.{take_min, length-drop, take_all}
 use Rattle.std.proofs.lemmas.Grind.{flat_map-append}
 use Rattle.std.proofs.Math.Nat.{mod-add-mod}
 use Rattle.std.specs.Io.KnownBytes.{Appends}
-use Rattle.tds_packets.specs.declared.sending.SendFault.{SendFault}
-use Rattle.tds_packets.specs.declared.sending.SendFault.TheVariants.{Memory}
+use Rattle.tds_packets.specs.declared.fault.SendFault.{SendFault}
+use Rattle.tds_packets.specs.declared.fault.SendFault.TheVariants.{Memory}
 use Rattle.tds_packets.proofs.Sent.{starts_with_front, IsPartSent-after}
 use Rattle.tds_packets.specs.Header.{header}
 use Rattle.tds_packets.specs.Packets.{count_up, packet_count, body_at, status_at, packet_at, IsPartSent}

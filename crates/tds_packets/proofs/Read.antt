@@ -6,8 +6,8 @@ use Rattle.tds_packets.specs.Stream.{header_fault, tail_end, IsTail}
 use Rattle.tds_packets.specs.Reading.{Awaits}
 use Rattle.tds_packets.specs.Parts.{IsOpenTail, IsHeader, TailStopsBy, GivesHeader, Fills}
 use Rattle.tds_packets.specs.declared.header.PacketHeader.{PacketHeader}
-use Rattle.tds_packets.specs.declared.reader.MessageFault.{MessageFault}
-use Rattle.tds_packets.specs.declared.reader.MessageFault.TheVariants.{Closed, Cut, BadHeader, TooLong, ReadFault, Memory, Spent}
+use Rattle.tds_packets.specs.declared.fault.MessageFault.{MessageFault}
+use Rattle.tds_packets.specs.declared.fault.MessageFault.TheVariants.{Closed, Cut, BadHeader, TooLong, ReadFault, Memory, Spent}
 use Rattle.tds_packets.proofs.Fronts.{IsRight, right_header, header_fault-right, which_fault, right_front, kind_of-front, ends_message-front, length_of-front, tail_end-fault, tail_end-cut}
 
 -- a header that was refused

@@ -2,8 +2,8 @@
 -- bytes that it took alone, as they lie behind the packets before; the code has these in its payload.
 use Rattle.std.specs.Prelude.{◌≡◌, ℕ, ◌+◌, ◌≤◌, ◌<◌, List, ◌++◌, length, drop, Option, None, Result, Ok, Err}
 use Rattle.tds_packets.specs.declared.header.PacketHeader.{PacketHeader}
-use Rattle.tds_packets.specs.declared.reader.MessageFault.{MessageFault}
-use Rattle.tds_packets.specs.declared.reader.MessageFault.TheVariants.{Cut, BadHeader, TooLong, ReadFault, Memory, Spent}
+use Rattle.tds_packets.specs.declared.fault.MessageFault.{MessageFault}
+use Rattle.tds_packets.specs.declared.fault.MessageFault.TheVariants.{Cut, BadHeader, TooLong, ReadFault, Memory, Spent}
 use Rattle.tds_packets.specs.Header.{kind_of, ends_message, length_of}
 use Rattle.tds_packets.specs.Stream.{IsTail, header_fault, tail_end}
 use Rattle.tds_packets.specs.Reading.{Awaits, byte_limit}

@@ -1,10 +1,36 @@
-//! Laws of the streams of messages. Each is a function with no effect, whose contract is the law.
+//! Laws of packets and of the streams of messages. Each is a function with no effect, whose
+//! contract is the law.
 
 ghost use Rattle.std.specs.Prelude.{◌≡◌, ℕ, ◌+◌, ◌-◌, List, [], ◌∷◌, ◌++◌, length};
+ghost use Rattle.tds_packets.specs.Header.{sql_batch, rpc, tabular_result, attention, transaction_manager, login7, prelogin};
+ghost use Rattle.tds_packets.specs.Packets.{least_size, most_size, default_size};
 ghost use Rattle.tds_packets.specs.Stream.{IsMessage, Joins, Splits, Stops};
 ghost use Rattle.tds_packets.specs.Reading.{StopsBy, OnCut, IsNoRefusal};
 ghost use Rattle.tds_packets.specs.declared.message.Message.{Message};
-ghost use Rattle.tds_packets.specs.declared.reader.MessageFault.{MessageFault};
+ghost use Rattle.tds_packets.specs.declared.fault.MessageFault.{MessageFault};
+
+use crate::{
+    ATTENTION, DEFAULT_SIZE, LEAST_SIZE, LOGIN7, MOST_SIZE, PRELOGIN, RPC, SQL_BATCH,
+    TABULAR_RESULT, TRANSACTION_MANAGER,
+};
+
+/// The constants for the types of packets are the types of their names.
+pub fn law_packet_types()
+    ensures sql_batch { SQL_BATCH ≡ sql_batch }
+    ensures rpc { RPC ≡ rpc }
+    ensures tabular_result { TABULAR_RESULT ≡ tabular_result }
+    ensures attention { ATTENTION ≡ attention }
+    ensures transaction_manager { TRANSACTION_MANAGER ≡ transaction_manager }
+    ensures login7 { LOGIN7 ≡ login7 }
+    ensures prelogin { PRELOGIN ≡ prelogin }
+{}
+
+/// And those for sizes are the sizes.
+pub fn law_packet_sizes()
+    ensures least { LEAST_SIZE ≡ least_size }
+    ensures most { MOST_SIZE ≡ most_size }
+    ensures default { DEFAULT_SIZE ≡ default_size }
+{}
 
 /// A stream has one list of messages and one rest.
 pub fn law_one_split()

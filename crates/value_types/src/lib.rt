@@ -12,8 +12,6 @@ mod order;
 mod row;
 mod sql_type;
 mod table_name;
-#[cfg(test)]
-mod tests;
 mod units;
 mod value;
 
