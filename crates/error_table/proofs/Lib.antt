@@ -1,3 +1,3 @@
 mod Texts
-mod Places
+mod Placeholders
 mod Rows

@@ -16,10 +16,10 @@ each_line : map (λ line. row_of line.number) error_lines ≡ map Some error_lin
 unfolding error_lines row_of
 each_line = refl
 
--- no text has two places
-one_place : list_all (λ line. nat_le (count_by is_open line.text) 1) error_lines ≡ true
+-- no text has two placeholders
+one_placeholder : list_all (λ line. nat_le (count_by is_open line.text) 1) error_lines ≡ true
 unfolding error_lines
-one_place = refl
+one_placeholder = refl
 
 first_line : row_of (pos 102) ≡ Some (line 102 15 Batch LevelUp (codes "Incorrect syntax near '{near}'."))
 unfolding error_lines row_of
@@ -112,11 +112,11 @@ throw_abort_try = refl
 
 -- ---- texts
 
-name_in_place : text_with (codes "Invalid object name '{name}'.") (codes "t") ≡ codes "Invalid object name 't'."
-name_in_place = refl
+name_filled_in : text_with (codes "Invalid object name '{name}'.") (codes "t") ≡ codes "Invalid object name 't'."
+name_filled_in = refl
 
-lexeme_in_place : text_with (codes "Incorrect syntax near '{near}'.") (codes "{1}") ≡ codes "Incorrect syntax near '{1}'."
-lexeme_in_place = refl
+lexeme_filled_in : text_with (codes "Incorrect syntax near '{near}'.") (codes "{1}") ≡ codes "Incorrect syntax near '{1}'."
+lexeme_filled_in = refl
 
-no_place : text_with (codes "Divide by zero error encountered.") (codes "t") ≡ codes "Divide by zero error encountered."
-no_place = refl
+no_placeholder : text_with (codes "Divide by zero error encountered.") (codes "t") ≡ codes "Divide by zero error encountered."
+no_placeholder = refl

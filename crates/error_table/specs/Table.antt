@@ -9,7 +9,7 @@ use Rattle.error_table.specs.declared.action.Caught.{Caught}
 use Rattle.error_table.specs.declared.action.Caught.TheVariants.{Yes as Y, LevelUp as L, No as N}
 use Rattle.error_table.specs.declared.row.ErrorRow.{ErrorRow}
 
--- a line of the table; a text is in ASCII, with {name} or {near} in the place of a name or lexeme
+-- a line of the table; a text is in ASCII, with {name} or {near} as the placeholder of a name or lexeme
 pub record ErrorLine : Type 0 where
   pub number : ℤ
   pub class : ℕ

@@ -1,7 +1,7 @@
 //! The table of errors: number, class, action, catching and text of each, and what an error ends.
 //!
 //! Read `specs/Table.antt` first, the table in lines; then `specs/Act.antt`, what an error ends by
-//! who raised it, XACT_ABORT and TRY, and `specs/Text.antt`, a text with the name in its place. The
+//! who raised it, XACT_ABORT and TRY, and `specs/Text.antt`, a text with a name for its placeholder. The
 //! layers above rely on [`row_of`] giving the row of the table, and `None` exactly where there is
 //! none; on [`action_of`] following those rules at every number; and on [`parts_of`] giving what the
 //! name goes between. [`action_of`] asks its caller to say what stands around. Nothing here takes

@@ -17,7 +17,7 @@ pub struct ErrorRow {
     pub action: Action,
     /// Which TRY catches it.
     pub caught: Caught,
-    /// Its text, with `{name}` or `{near}` in the place of the name or lexeme in question.
+    /// Its text, with `{name}` or `{near}` as the placeholder of a name or lexeme.
     pub text: &'static str,
 }
 
