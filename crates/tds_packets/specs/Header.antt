@@ -1,8 +1,9 @@
 -- [MS-TDS] 2.2.3.1: the header of a packet, eight bytes before its data. Each field is said of the
 -- whole packet's bytes, by its place; the code reads the eight bytes before the packet's data came.
-use Rattle.std.specs.Prelude.{ℕ, ◌+◌, ◌*◌, ◌%◌, ◌==◌, Bool, List, [], ◌∷◌, ◌++◌, slice_index}
+use Rattle.std.specs.Prelude.{ℕ, ◌%◌, ◌==◌, Bool, List, [], ◌∷◌, ◌++◌, slice_index}
 use Rattle.std.specs.List.{list_any}
 use Rattle.std.specs.Int.{w16, to_be_bytes}
+use Rattle.byteorder.specs.Endian.{big_from}
 
 -- how many bytes a header has
 abbrev pub header_length : ℕ
@@ -62,9 +63,9 @@ ends_message packet = slice_index packet 1 % 2 == eom
 
 -- ---- Length, and the rest
 
--- Length, the higher byte first (2.2.3.1.3): the header's eight bytes and the data
+-- Length, two bytes, the higher first (2.2.3.1.3): how many bytes the header and the data have
 abbrev pub length_of : List ℕ → ℕ
-length_of packet = slice_index packet 2 * 256 + slice_index packet 3
+length_of packet = big_from 2 2 packet
 
 -- a header: Type, Status, Length, SPID, PacketID and Window
 abbrev pub header : ℕ → ℕ → ℕ → ℕ → ℕ → List ℕ

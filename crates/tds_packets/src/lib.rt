@@ -37,7 +37,8 @@ pub use header::{
     ATTENTION, LOGIN7, PRELOGIN, RPC, SQL_BATCH, TABULAR_RESULT, TRANSACTION_MANAGER,
 };
 pub use laws::{
-    law_complete, law_front, law_join, law_no_message, law_one_end, law_one_split, law_packet_sizes, law_packet_types, law_packets, law_refused,
+    law_complete, law_front, law_join, law_no_message, law_one_end, law_one_split,
+    law_packet_sizes, law_packet_types, law_packets, law_refused,
 };
 pub use message::{Message, Payload};
 pub use reader::Reader;
