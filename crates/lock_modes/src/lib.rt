@@ -11,8 +11,6 @@ ghost use Rattle.lock_modes.specs.Agreement.{range_parts_agree, key_parts_agree,
 ghost use Rattle.lock_modes.specs.Join.{join_ranges, join_keys, join_pairs};
 
 mod laws;
-#[cfg(test)]
-mod tests;
 
 pub use laws::{
     law_agree_join, law_agree_symmetric, law_join_associative, law_join_commutative,

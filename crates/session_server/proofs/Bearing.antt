@@ -2,8 +2,8 @@
 use Rattle.std.proofs.Common.{◌≡◌, ℕ, ℤ, List, [], Result, Ok, Err, IfOk, refl, ap, ap₂, ◌∙◌}
 use Rattle.tds_login.specs.declared.prelogin.Prelogin.{Prelogin}
 use Rattle.tds_login.specs.declared.prelogin.PreloginFault.{PreloginFault}
-use Rattle.tds_login.specs.Prelogin.{prelogin_answer}
-use Rattle.tds_login.specs.Verdict.{default_size}
+use Rattle.tds_login.specs.Prelogin.{prelogin_reply}
+use Rattle.tds_packets.specs.Packets.{default_size}
 use Rattle.tds_packets.specs.Packets.{Packets}
 use Rattle.tds_tokens.specs.declared.token.Token.{Token}
 use Rattle.tds_tokens.specs.Spelling.{TokenBytes}
@@ -43,7 +43,7 @@ refused_tokens spid number tokens (Ok prepared) are carries = (bears_tokens spid
 refused_tokens spid number tokens (Err end) are carries = tt
 
 -- the options that answer a PRELOGIN
-pub given_options : (spid : ℕ) (prelogin : Result Prelogin PreloginFault) (said : Prelogin) (prepared : PreparedResponse) → prelogin ≡ Ok said → prepared.spid ≡ 51 → prepared.packet_size ≡ 4096 → prepared.payload.items ≡ prelogin_answer → prepared.next ≡ Ok LoginReady
+pub given_options : (spid : ℕ) (prelogin : Result Prelogin PreloginFault) (said : Prelogin) (prepared : PreparedResponse) → prelogin ≡ Ok said → prepared.spid ≡ 51 → prepared.packet_size ≡ 4096 → prepared.payload.items ≡ prelogin_reply → prepared.next ≡ Ok LoginReady
     → IsGiven spid (answer_to_prelogin prelogin) prepared
 given_options spid prelogin said prepared is by sized carries next =
     rw is (options, refl, ap₂ (λ (s z : ℕ). Packets 0x04 s z prepared.payload.items) by sized ∙ ap (Packets 0x04 51 4096) carries, next)

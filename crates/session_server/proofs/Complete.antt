@@ -4,8 +4,8 @@ use Rattle.std.specs.Prelude.{◌⊎◌}
 use Rattle.std.specs.Io.KnownBytes.{Consumes, IsAtEnd}
 use Rattle.tds_login.specs.declared.config.Config.{Config}
 use Rattle.tds_packets.specs.declared.message.Message.{Message}
-use Rattle.tds_packets.specs.declared.reader.MessageFault.{MessageFault}
-use Rattle.tds_packets.specs.declared.reader.MessageFault.TheVariants as reading
+use Rattle.tds_packets.specs.declared.fault.MessageFault.{MessageFault}
+use Rattle.tds_packets.specs.declared.fault.MessageFault.TheVariants as reading
 use Rattle.tds_packets.specs.Stream.{Joins}
 use Rattle.tds_packets.specs.Reading.{StopsBy, IsEnd, OnCut, byte_limit}
 use Rattle.tds_packets.proofs.Joined.{left_whole}

@@ -9,8 +9,8 @@ use Rattle.tds_packets.proofs.Taken.{Takes-nil, Takes-trans}
 use Rattle.tds_packets.proofs.Joined.{message_length, Joins-append, Joins-message}
 use Rattle.tds_packets.proofs.Ends.{Stops-nil, StopsBy-partial}
 use Rattle.tds_packets.specs.declared.message.Message.{Message}
-use Rattle.tds_packets.specs.declared.reader.MessageFault.{MessageFault}
-use Rattle.tds_packets.specs.declared.reader.MessageFault.TheVariants as reading
+use Rattle.tds_packets.specs.declared.fault.MessageFault.{MessageFault}
+use Rattle.tds_packets.specs.declared.fault.MessageFault.TheVariants as reading
 use Rattle.tds_packets.specs.Stream.{IsMessage, IsPartial, Joins, Splits}
 use Rattle.tds_packets.specs.Reading.{StopsBy}
 use Rattle.step_model.specs.Exchange.{PortPast, GoesOn}

@@ -6,7 +6,7 @@ use Rattle.tds_login.specs.declared.config.Config.{Config}
 use Rattle.tds_login.specs.declared.config.Entry.{Entry}
 use Rattle.tds_login.specs.declared.config.Entry.TheVariants as entries
 use Rattle.tds_login.specs.declared.login.Login.{Login}
-use Rattle.tds_login.specs.Verdict.{verdict, has_credentials, is_known, size_for}
+use Rattle.tds_login.specs.Verdict.{judge_login, has_credentials, is_known, size_for}
 use Rattle.session_server.specs.declared.end.End.{End}
 use Rattle.session_server.specs.declared.place.Place.{Place}
 use Rattle.session_server.specs.Parts.{IsSize, IsSized}
@@ -21,8 +21,8 @@ size_for_is asked = by_test (nat_le 512 asked) (nat_le asked 32767) refl refl
     by_test true false least most = (omega arith, omega arith)
     by_test false most least none = (omega arith, omega arith)
 
-pub verdict_size : (login : Login) (config : Config) (size : ℕ) → verdict login config ≡ Ok size → IsSize size
-unfolding verdict
+pub verdict_size : (login : Login) (config : Config) (size : ℕ) → judge_login login config ≡ Ok size → IsSize size
+unfolding judge_login
 verdict_size login config size is = by_test (has_credentials login config) (is_known login.database) is
   where
     by_test : (granted known : Bool) → (if granted then if known then Ok (size_for login.packet_size) else Err (pos 49011) else Err (pos 18456)) ≡ Ok size → IsSize size

@@ -1,6 +1,5 @@
 -- The ways in which a message is handled: what holds of each holds of every message at its place.
 use Rattle.std.proofs.Common.{ℕ, ℤ, pos, ◌==◌, Bool, true, false, if◌then◌else◌, List, [], Option, None, Some, Result, Ok, Err}
-use Rattle.std.specs.Fmt.{decimal}
 use Rattle.tds_login.specs.declared.config.Config.{Config}
 use Rattle.tds_login.specs.declared.login.Login.{Login}
 use Rattle.tds_login.specs.declared.login.LoginFault.{LoginFault}
@@ -8,7 +7,8 @@ use Rattle.tds_login.specs.declared.prelogin.Prelogin.{Prelogin}
 use Rattle.tds_login.specs.declared.prelogin.PreloginFault.{PreloginFault}
 use Rattle.tds_login.specs.Login.{login_of}
 use Rattle.tds_login.specs.Prelogin.{prelogin_of}
-use Rattle.tds_login.specs.Verdict.{default_size, verdict, login_answer}
+use Rattle.tds_packets.specs.Packets.{default_size}
+use Rattle.tds_login.specs.Verdict.{judge_login, login_reply}
 use Rattle.tds_packets.specs.declared.message.Message.{Message}
 use Rattle.session_server.specs.declared.end.BatchFault.{BatchFault}
 use Rattle.session_server.specs.declared.end.End.TheVariants.{OutOfPlace, BadPrelogin, BadBatch}
@@ -23,7 +23,7 @@ use Rattle.session_server.specs.Text.{statement_of}
 pub record EachWay (P : Handling → Type 0) : Type 0 where
   pub prelogin : P (responds (done options) LoginReady)
   pub bad_prelogin : (fault : PreloginFault) → P (ends (BadPrelogin fault))
-  pub granted : (size : ℕ) → P (responds (done (tabular default_size (login_answer (decimal size)) [])) (LoggedIn size))
+  pub granted : (size : ℕ) → P (responds (done (tabular default_size (login_reply size) [])) (LoggedIn size))
   pub refused : (number : ℤ) → P (refusal number)
   pub batch : (size : ℕ) (text : List ℕ) → P (responds (answer_statement size (statement_of text)) (LoggedIn size))
   pub bad_batch : (fault : BatchFault) → P (ends (BadBatch fault))
@@ -40,7 +40,7 @@ module _ (P : Handling → Type 0) (each : EachWay P) where
   of_verdict (Err number) = each.refused number
 
   of_login : (config : Config) (read : Result Login LoginFault) → P (answer_to_login config read)
-  of_login config (Ok login) = of_verdict (verdict login config)
+  of_login config (Ok login) = of_verdict (judge_login login config)
   of_login config (Err fault) = each.refused (pos 49010)
 
   of_batch : (size : ℕ) (payload : List ℕ) (fault : Option BatchFault) → P (answer_to_batch size payload fault)

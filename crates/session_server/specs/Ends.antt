@@ -2,10 +2,10 @@
 -- fault that reading or sending has answered.
 use Rattle.session_server.specs.declared.end.End.{End}
 use Rattle.session_server.specs.declared.end.End.TheVariants.{Closed, Cut, BadHeader, TooLong, Spent, ReadFault, WriteFault, Memory}
-use Rattle.tds_packets.specs.declared.reader.MessageFault.{MessageFault}
-use Rattle.tds_packets.specs.declared.reader.MessageFault.TheVariants as reading
-use Rattle.tds_packets.specs.declared.sending.SendFault.{SendFault}
-use Rattle.tds_packets.specs.declared.sending.SendFault.TheVariants as sending
+use Rattle.tds_packets.specs.declared.fault.MessageFault.{MessageFault}
+use Rattle.tds_packets.specs.declared.fault.MessageFault.TheVariants as reading
+use Rattle.tds_packets.specs.declared.fault.SendFault.{SendFault}
+use Rattle.tds_packets.specs.declared.fault.SendFault.TheVariants as sending
 
 -- no message comes
 abbrev pub end_of_message : MessageFault → End

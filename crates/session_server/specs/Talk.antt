@@ -2,13 +2,12 @@
 -- until one ends the connection, and the bytes of these. Responses depend on what the port answers, so the
 -- talk is a tree of questions; the code handles one message after another.
 use Rattle.std.specs.Prelude.{ℕ, ℤ, pos, ◌-◌, ◌%◌, ◌==◌, ◌||◌, nat_lt, if◌then◌else◌, List, [], ◌∷◌, length, drop, Option, None, Some, Result, Ok, Err, codes}
-use Rattle.std.specs.Fmt.{decimal}
 use Rattle.std.specs.List.{flat_map}
 use Rattle.std.specs.Ordering.{int_eq}
 use Rattle.byteorder.specs.Endian.{little_number}
 use Rattle.value_types.specs.Units.{units_of}
 use Rattle.tds_packets.specs.declared.message.Message.{Message}
-use Rattle.tds_packets.specs.Packets.{Packets}
+use Rattle.tds_packets.specs.Packets.{Packets, default_size}
 use Rattle.tds_tokens.specs.declared.token.DoneKind.TheVariants.{Done}
 use Rattle.tds_tokens.specs.declared.token.Token.{Token}
 use Rattle.tds_tokens.specs.declared.token.Token.TheVariants.{Finished}
@@ -20,9 +19,9 @@ use Rattle.tds_login.specs.declared.login.Login.{Login as LoginRecord}
 use Rattle.tds_login.specs.declared.login.LoginFault.{LoginFault}
 use Rattle.tds_login.specs.declared.prelogin.Prelogin.{Prelogin}
 use Rattle.tds_login.specs.declared.prelogin.PreloginFault.{PreloginFault}
-use Rattle.tds_login.specs.Prelogin.{prelogin_of, prelogin_answer}
+use Rattle.tds_login.specs.Prelogin.{prelogin_of, prelogin_reply}
 use Rattle.tds_login.specs.Login.{login_of}
-use Rattle.tds_login.specs.Verdict.{default_size, verdict, login_answer}
+use Rattle.tds_login.specs.Verdict.{judge_login, login_reply}
 use Rattle.step_model.specs.declared.change.Change.{Change}
 use Rattle.session_server.specs.declared.end.BatchFault.{BatchFault}
 use Rattle.session_server.specs.declared.end.BatchFault.TheVariants.{HeadersShort, HeadersTotal, OddText}
@@ -78,12 +77,12 @@ refusal number = refuses (tabular default_size (refusal_tokens number) []) numbe
 
 -- a login is granted with a packet size, which counts from the next message on
 abbrev pub answer_to_verdict : Result ℕ ℤ → Handling
-answer_to_verdict (Ok size) = responds (done (tabular default_size (login_answer (decimal size)) [])) (LoggedIn size)
+answer_to_verdict (Ok size) = responds (done (tabular default_size (login_reply size) [])) (LoggedIn size)
 answer_to_verdict (Err number) = refusal number
 
 -- 49010 where a LOGIN7 can't be read
 abbrev pub answer_to_login : Config → Result LoginRecord LoginFault → Handling
-answer_to_login config (Ok login) = answer_to_verdict (verdict login config)
+answer_to_login config (Ok login) = answer_to_verdict (judge_login login config)
 answer_to_login config (Err fault) = refusal (pos 49010)
 
 -- ---- batches and attentions
@@ -164,7 +163,7 @@ prelogin_spid = 51
 
 -- the bytes of a response to a session of this SPID: packets of type 0x04, tabular result
 abbrev pub response_bytes : ℕ → Response → List ℕ
-response_bytes spid options = Packets 0x04 prelogin_spid default_size prelogin_answer
+response_bytes spid options = Packets 0x04 prelogin_spid default_size prelogin_reply
 response_bytes spid (tabular size tokens commits) = Packets 0x04 spid size (TokenBytes tokens)
 
 -- the bytes of all responses

@@ -20,11 +20,10 @@
 mod config;
 mod login;
 mod prelogin;
-#[cfg(test)]
-mod tests;
 mod verdict;
 
 pub use config::{Config, Entry};
 pub use login::{Login, LoginFault, law_login_length, read_login};
 pub use prelogin::{Prelogin, PreloginFault, prelogin_reply, read_prelogin};
-pub use verdict::{DEFAULT_SIZE, LOGIN_FAILED, UNKNOWN_DATABASE, judge_login, login_reply};
+pub use tds_packets::DEFAULT_SIZE;
+pub use verdict::{LOGIN_FAILED, UNKNOWN_DATABASE, judge_login, login_reply};

@@ -1,11 +1,12 @@
 //! PRELOGIN ([MS-TDS] 2.2.6.5).
 
 ghost use Rattle.std.specs.Prelude.{◌≡◌, ◌+◌, ◌*◌, ◌^◌, ◌<◌, ◌≤◌, length, slice_index, IfOk};
-ghost use Rattle.tds_login.specs.Prelogin.{prelogin_of, prelogin_answer};
+ghost use Rattle.tds_login.specs.Prelogin.{prelogin_of, prelogin_reply};
 ghost use Rattle.tds_login.specs.Walk.{option_at, judged_after, seen_after};
 
 use byteorder::{BigEndian, ByteOrder};
 use std::alloc::Global;
+use thiserror::Error;
 use value_types::Memory;
 
 /// The token that ends the list of options.
@@ -34,11 +35,13 @@ pub struct Prelogin {
 }
 
 /// Why a payload is no PRELOGIN.
-#[derive(Clone, Copy, Debug, PartialEq, Eq)]
+#[derive(Clone, Copy, Debug, PartialEq, Eq, Error)]
 pub enum PreloginFault {
     /// The list of options is not ended.
+    #[error("the options of the PRELOGIN are not ended")]
     NoEnd,
     /// The value of an option passes the payload.
+    #[error("option {option} passes the PRELOGIN")]
     Range {
         /// The option's token.
         option: u8,
@@ -70,7 +73,7 @@ pub fn read_prelogin(payload: &[u8]) -> Result<Prelogin, PreloginFault>
 
 /// The payload of the answer to every PRELOGIN.
 pub fn prelogin_reply(alloc: Global) -> Result<Vec<u8>, Memory>
-    ensures { IfOk result (λ bytes. bytes.items ≡ prelogin_answer) }
+    ensures { IfOk result (λ bytes. bytes.items ≡ prelogin_reply) }
 {
     Ok(Vec::from_slice(alloc, &ANSWER)?)
 }

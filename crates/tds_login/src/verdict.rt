@@ -1,18 +1,23 @@
 //! Who may log in, and what is answered.
 
-ghost use Rattle.std.specs.Prelude.{◌≡◌, [], IfOk, codes};
+ghost use Rattle.std.specs.Prelude.{◌≡◌, [], IfOk};
 ghost use Rattle.std.specs.Fmt.{decimal};
+ghost use Rattle.tds_packets.specs.Packets.{default_size};
+ghost use Rattle.tds_tokens.specs.Numbers.{env_database, env_packet_size, env_collation};
 ghost use Rattle.tds_tokens.specs.Fit.{FitTokens};
 ghost use Rattle.tds_tokens.specs.Spelling.{collation, server_name};
 ghost use Rattle.tds_tokens.specs.declared.token.Token.TheVariants.{EnvText, EnvBytes, LoginAck};
-ghost use Rattle.value_types.specs.Units.{same_units};
 ghost use Rattle.tds_login.specs.Login.{served_version};
-ghost use Rattle.tds_login.specs.Verdict.{verdict, size_for, has_credentials, is_known, release, login_answer};
+ghost use Rattle.tds_login.specs.Verdict.{judge_login, size_for, has_credentials, is_known, main_database, release, login_reply};
 
 use crate::config::Config;
 use crate::login::{Login, TDS_7_4};
 use std::alloc::Global;
-use tds_tokens::{Bytes, COLLATION, DONE_FINAL, DoneKind, Token};
+use tds_packets::{DEFAULT_SIZE, LEAST_SIZE, MOST_SIZE};
+use tds_tokens::{
+    Bytes, COLLATION, COMMAND_NONE, DONE_FINAL, DoneKind, ENV_COLLATION, ENV_DATABASE,
+    ENV_PACKET_SIZE, Token,
+};
 use value_types::{Memory, Units};
 
 /// The number of the error where user or password is another.
@@ -21,32 +26,20 @@ pub const LOGIN_FAILED: i32 = 18456;
 /// The number of the error where there is no such database.
 pub const UNKNOWN_DATABASE: i32 = 49011;
 
-/// The kind of an environment change of the database ([MS-TDS] 2.2.7.9).
-const ENV_DATABASE: u8 = 1;
-
-/// The kind of an environment change of the packet size.
-const ENV_PACKET_SIZE: u8 = 4;
-
-/// The kind of an environment change of the collation.
-const ENV_COLLATION: u8 = 7;
-
 /// The release of the server, 15.0.0.0.
 const RELEASE: u32 = 0x0F00_0000;
 
-/// A name of the one database, `main`.
-const MAIN: [u16; 4] = [0x6D, 0x61, 0x69, 0x6E];
+/// The name of the one database.
+const MAIN: &str = "main";
 
-/// Its other name, `master`.
-const MASTER: [u16; 6] = [0x6D, 0x61, 0x73, 0x74, 0x65, 0x72];
-
-/// The packet size before a login, and where the client asks for none that is served, in bytes.
-pub const DEFAULT_SIZE: u16 = 4096;
+/// Its other name.
+const MASTER: &str = "master";
 
 /// Judges a login: the size of the packets from then on, in bytes, or the number of the error that refuses
 /// it, [`LOGIN_FAILED`] where user or password is another, else [`UNKNOWN_DATABASE`].
-#[tactic(auto, unfolding(crate::specs::Verdict::verdict))]
+#[tactic(auto, unfolding(crate::specs::Verdict::judge_login))]
 pub fn judge_login(login: &Login, config: &Config) -> Result<u16, i32>
-    ensures { result ≡ verdict login.now config.now }
+    ensures { result ≡ judge_login login.now config.now }
 {
     if !has_credentials(login, config) {
         return Err(LOGIN_FAILED);
@@ -59,15 +52,15 @@ pub fn judge_login(login: &Login, config: &Config) -> Result<u16, i32>
 
 /// The tokens that grant a login with packets of this many bytes: ENVCHANGE of database, collation and
 /// packet size, LOGINACK and DONE ([MS-TDS] 2.2.7.9, 2.2.7.14, 2.2.7.6). They have a spelling.
-#[tactic(auto, using(crate::proofs::Granted::login_answer_fits))]
+#[tactic(auto, using(crate::proofs::Granted::login_reply_fits))]
 pub fn login_reply(alloc: Global, size: u16) -> Result<Vec<Token>, Memory>
-    ensures tokens { IfOk result (λ tokens. tokens.items ≡ login_answer (decimal size)) }
+    ensures tokens { IfOk result (λ tokens. tokens.items ≡ login_reply size) }
     ensures fit { IfOk result (λ tokens. FitTokens [] tokens.items) }
 {
     let end = Token::Finished {
         kind: DoneKind::Done,
         status: DONE_FINAL,
-        command: 0,
+        command: COMMAND_NONE,
         rows: 0,
     };
     Ok(vec![in alloc;
@@ -81,18 +74,18 @@ pub fn login_reply(alloc: Global, size: u16) -> Result<Vec<Token>, Memory>
 
 /// The database, where there was none before.
 fn database(alloc: Global) -> Result<Token, Memory>
-    ensures { IfOk result (λ token. token ≡ EnvText 1 (codes "main") []) }
+    ensures { IfOk result (λ token. token ≡ EnvText env_database main_database []) }
 {
     Ok(Token::EnvText {
         kind: ENV_DATABASE,
-        fresh: Units::of_ascii(alloc, b"main")?,
+        fresh: Units::of_ascii(alloc, MAIN.as_bytes())?,
         former: Units::new(alloc),
     })
 }
 
 /// The collation, where there was none before.
 fn collation(alloc: Global) -> Result<Token, Memory>
-    ensures { IfOk result (λ token. token ≡ EnvBytes 7 collation []) }
+    ensures { IfOk result (λ token. token ≡ EnvBytes env_collation collation []) }
 {
     Ok(Token::EnvBytes {
         kind: ENV_COLLATION,
@@ -112,14 +105,14 @@ fn acknowledgement(alloc: Global) -> Result<Token, Memory>
     })
 }
 
-/// The packet size, where it was 4096 before.
+/// The packet size, where it was the default before.
 fn packet_size(alloc: Global, size: u16) -> Result<Token, Memory>
-    ensures { IfOk result (λ token. token ≡ EnvText 4 (decimal size) (codes "4096")) }
+    ensures { IfOk result (λ token. token ≡ EnvText env_packet_size (decimal size) (decimal default_size)) }
 {
     Ok(Token::EnvText {
         kind: ENV_PACKET_SIZE,
         fresh: digits_of(alloc, size)?,
-        former: Units::of_ascii(alloc, b"4096")?,
+        former: digits_of(alloc, DEFAULT_SIZE)?,
     })
 }
 
@@ -142,22 +135,14 @@ fn has_credentials(login: &Login, config: &Config) -> bool
 fn is_known(database: &Units) -> bool
     ensures { result ≡ is_known database.now }
 {
-    let database = database.as_slice();
-    is_text(database, &[]) || is_text(database, &MAIN) || is_text(database, &MASTER)
-}
-
-/// Two texts of the same units.
-fn is_text(text: &[u16], other: &[u16]) -> bool
-    ensures { result ≡ same_units text.now other.now }
-{
-    text == other
+    database.is("") || database.is(MAIN) || database.is(MASTER)
 }
 
 /// The packet size that is served where this one is asked for.
 fn size_for(asked: u32) -> u16
     ensures { result ≡ size_for asked }
 {
-    if 512 <= asked && asked <= 32767 {
+    if u32::from(LEAST_SIZE) <= asked && asked <= u32::from(MOST_SIZE) {
         asked as u16
     } else {
         DEFAULT_SIZE

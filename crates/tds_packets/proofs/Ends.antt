@@ -4,8 +4,8 @@ use Rattle.std.specs.Prelude.{None}
 use Rattle.tds_packets.specs.Stream.{payload_limit, IsMessage, Joins, Stops, IsPartial, AreOpen, bytes_of, data_of, type_of, header_fault, tail_end}
 use Rattle.tds_packets.specs.Reading.{StopsBy, OnCut, IsNoRefusal}
 use Rattle.tds_packets.specs.declared.message.Message.{Message}
-use Rattle.tds_packets.specs.declared.reader.MessageFault.{MessageFault}
-use Rattle.tds_packets.specs.declared.reader.MessageFault.TheVariants.{Closed, Cut, BadHeader, TooLong, ReadFault, Memory, Spent}
+use Rattle.tds_packets.specs.declared.fault.MessageFault.{MessageFault}
+use Rattle.tds_packets.specs.declared.fault.MessageFault.TheVariants.{Closed, Cut, BadHeader, TooLong, ReadFault, Memory, Spent}
 use Rattle.tds_packets.proofs.Fronts.{IsRight, header_fault-right, right_front, right_back, how_ended}
 use Rattle.tds_packets.proofs.Open.{data_of-append, AreOpen-front, AreOpen-back, comparable, right_packet, no_tail, follows}
 use Rattle.tds_packets.proofs.Joined.{not_stopped, left_whole}
@@ -30,7 +30,7 @@ StopsBy-partial at bytes Closed stops = (Closed, stops.0)
 StopsBy-partial at bytes (Cut place) stops = (Cut place, stops.0)
 StopsBy-partial at bytes (BadHeader place) stops = (BadHeader place, stops.0)
 StopsBy-partial at bytes (TooLong place) stops = (TooLong place, stops.0)
-StopsBy-partial at bytes ReadFault stops = (stops.0, stops.1)
+StopsBy-partial at bytes ReadFault stops = (stops.0.0, stops.0.1)
 StopsBy-partial at bytes Memory stops = (stops.0.0, stops.0.1)
 StopsBy-partial at bytes Spent stops = (stops.0.0, stops.0.1)
 

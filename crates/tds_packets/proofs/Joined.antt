@@ -4,7 +4,7 @@ use Rattle.std.proofs.lemmas.Bool.{both_ways}
 use Rattle.tds_packets.specs.Header.{kind_of, ends_message}
 use Rattle.tds_packets.specs.Stream.{IsMessage, Joins, Stops, IsPartial, AreOpen, bytes_of, data_of, type_of}
 use Rattle.tds_packets.specs.declared.message.Message.{Message}
-use Rattle.tds_packets.specs.declared.reader.MessageFault.{MessageFault}
+use Rattle.tds_packets.specs.declared.fault.MessageFault.{MessageFault}
 use Rattle.tds_packets.proofs.Open.{one_packet, aligned, AreOpen-back, no_tail, follows}
 
 -- a message has bytes

@@ -7,4 +7,5 @@ pub mod Open
 pub mod Joined
 pub mod Ends
 pub mod Draft
+pub mod PacketLaws
 pub mod Rows

@@ -1,5 +1,5 @@
 -- The packets of a payload, one after another.
-use Rattle.std.proofs.Common.{inl, inr, ◌≡◌, ℕ, zero, suc, ◌+◌, ◌-◌, ◌*◌, ◌/◌, ◌%◌, ◌<◌, ◌≤◌, min, List, [], ◌∷◌, ◌++◌, length, take, drop, Option, Result, Ok, Err, OnOk, is_ok, refl, sym, ap, ap₂, ◌∙◌, le_refl, append_assoc, append-nil, arith, add-one, div-lt_iff_lt-mul, le-leb, lt-ltb, le-ltb}
+use Rattle.std.proofs.Common.{inl, inr, ◌≡◌, ℕ, zero, suc, ◌+◌, ◌-◌, ◌*◌, ◌/◌, ◌%◌, ◌<◌, ◌≤◌, min, List, [], ◌∷◌, ◌++◌, length, take, drop, Option, Result, Ok, Err, OnOk, is_ok, refl, sym, ap, ap₂, ◌∙◌, le_refl, append_assoc, append-nil, arith, length-append, add-one, div-lt_iff_lt-mul, le-leb, lt-ltb, le-ltb}
 use Rattle.std.specs.Prelude.{if◌then◌else◌, nat_lt, nat_le}
 use Rattle.std.specs.List.{flat_map}
 use Rattle.std.proofs.lemmas.Bool.{cases_lt, lt-leb}
@@ -8,11 +8,11 @@ use Rattle.std.proofs.lemmas.List.{take_min, length-drop, take_all}
 use Rattle.std.proofs.lemmas.Grind.{flat_map-append}
 use Rattle.std.proofs.Math.Nat.{mod-add-mod}
 use Rattle.std.specs.Io.KnownBytes.{Appends}
-use Rattle.tds_packets.specs.declared.sending.SendFault.{SendFault}
-use Rattle.tds_packets.specs.declared.sending.SendFault.TheVariants.{Memory}
-use Rattle.tds_packets.proofs.Sent.{starts_with_front, IsPartSent-after}
+use Rattle.tds_packets.specs.declared.fault.SendFault.{SendFault}
+use Rattle.tds_packets.specs.declared.fault.SendFault.TheVariants.{Memory}
+use Rattle.tds_packets.proofs.Sent.{proper_front, IsPartSent-after}
 use Rattle.tds_packets.specs.Header.{header}
-use Rattle.tds_packets.specs.Packets.{count_up, packet_count, body_at, status_at, packet_at, IsPartSent}
+use Rattle.tds_packets.specs.Packets.{count_up, packet_count, body_at, status_at, packet_at, Packets, IsPartSent}
 
 -- one packet more
 pub packets-suc : (f : ℕ → List ℕ) (k : ℕ) → flat_map f (count_up (k + 1)) ≡ flat_map f (count_up k) ++ f k
@@ -69,11 +69,24 @@ module _ (kind spid room k : ℕ) (payload : List ℕ) (some : 0 < room) (within
       ∙ ap₂ (packet_by kind spid (body_at room payload k)) status (mod-add-mod k 256 1)
       ∙ ap (λ (m : ℕ). packet_by kind spid (body_at m payload k) (status_at m payload k) ((k + 1) % 256)) size
 
--- a failure before packet k leaves the packets before it
-pub front_sent : (f : ℕ → List ℕ) (k n : ℕ) (old new : Option (List ℕ)) → k ≤ n → Appends old new (flat_map f (count_up k)) → IsPartSent old new (flat_map f (count_up n)) Memory
-front_sent f k n old new within sent =
-    let front = packets_front f k n within in
-    (flat_map f (count_up k), starts_with_front (flat_map f (count_up n)) (flat_map f (count_up k)) front.0 front.1, sent)
+-- a packet has its header
+pub packet_length : (kind spid size : ℕ) (payload : List ℕ) (k : ℕ) → 8 ≤ length (packet_at kind spid size payload k)
+packet_length kind spid size payload k = omega arith
+
+-- and so have the packets of a payload
+pub Packets_length : (kind spid size : ℕ) (payload : List ℕ) → 8 ≤ length (Packets kind spid size payload)
+Packets_length kind spid size payload =
+    let f = packet_at kind spid size payload in
+    let k = (length payload - 1) / (size - 8) in
+    omega (arith, ap length (packets-suc f k), length-append (flat_map f (count_up k)) (f k), packet_length kind spid size payload k)
+
+-- a failure before packet k, which has bytes, leaves the packets before it
+pub front_sent : (f : ℕ → List ℕ) (k n : ℕ) (old new : Option (List ℕ)) → k < n → 8 ≤ length (f k) → Appends old new (flat_map f (count_up k)) → IsPartSent old new (flat_map f (count_up n)) Memory
+front_sent f k n old new within some sent =
+    let front = packets_front f (k + 1) n (omega arith) in
+    let rest : List ℕ = f k ++ front.0 in
+    let all : flat_map f (count_up n) ≡ flat_map f (count_up k) ++ rest = front.1 ∙ ap (λ (s : List ℕ). s ++ front.0) (packets-suc f k) ∙ append_assoc (flat_map f (count_up k)) (f k) front.0 in
+    (flat_map f (count_up k), proper_front (flat_map f (count_up n)) (flat_map f (count_up k)) rest all (omega (arith, some, length-append (f k) front.0)), sent)
 
 -- a failure within packet k leaves the packets before it and a part of it
 pub part_sent : (f : ℕ → List ℕ) (k n : ℕ) (old mid new : Option (List ℕ)) (fault : SendFault) → k < n → Appends old mid (flat_map f (count_up k)) → IsPartSent mid new (f k) fault

@@ -6,8 +6,8 @@ use Rattle.tds_packets.specs.Stream.{header_fault, tail_end, IsTail}
 use Rattle.tds_packets.specs.Reading.{Awaits}
 use Rattle.tds_packets.specs.Parts.{IsOpenTail, IsHeader, TailStopsBy, GivesHeader, Fills}
 use Rattle.tds_packets.specs.declared.header.PacketHeader.{PacketHeader}
-use Rattle.tds_packets.specs.declared.reader.MessageFault.{MessageFault}
-use Rattle.tds_packets.specs.declared.reader.MessageFault.TheVariants.{Closed, Cut, BadHeader, TooLong, ReadFault, Memory, Spent}
+use Rattle.tds_packets.specs.declared.fault.MessageFault.{MessageFault}
+use Rattle.tds_packets.specs.declared.fault.MessageFault.TheVariants.{Closed, Cut, BadHeader, TooLong, ReadFault, Memory, Spent}
 use Rattle.tds_packets.proofs.Fronts.{IsRight, right_header, header_fault-right, which_fault, right_front, kind_of-front, ends_message-front, length_of-front, tail_end-fault, tail_end-cut}
 
 -- a header that was refused
@@ -57,7 +57,7 @@ module _ (begun : Option ℕ) (size at : ℕ) (front body : List ℕ) (header : 
 
   pub body_cut : (taken : ℕ) (buffer : List ℕ) (fault : MessageFault) → length buffer ≡ header.body_len → taken ≡ at + length (front ++ body) → Fills taken buffer body (Err fault)
       → TailStopsBy begun size at (front ++ body) fault
-  body_cut taken buffer ReadFault room told filled = open_tail (omega (arith, filled))
+  body_cut taken buffer ReadFault room told filled = (open_tail (omega (arith, filled.0)), omega (arith, told, filled.1))
   body_cut taken buffer Spent room told filled = (open_tail (omega (arith, filled.0)), sym told ∙ filled.1)
   body_cut taken buffer (Cut place) room told filled =
       (partial (omega (arith, filled.0)), cut ∙ ap (λ (n : ℕ). Cut n) (sym told ∙ sym filled.1), omega (arith, told, filled.2))

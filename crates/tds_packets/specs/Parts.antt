@@ -2,8 +2,8 @@
 -- bytes that it took alone, as they lie behind the packets before; the code has these in its payload.
 use Rattle.std.specs.Prelude.{◌≡◌, ℕ, ◌+◌, ◌≤◌, ◌<◌, List, ◌++◌, length, drop, Option, None, Result, Ok, Err}
 use Rattle.tds_packets.specs.declared.header.PacketHeader.{PacketHeader}
-use Rattle.tds_packets.specs.declared.reader.MessageFault.{MessageFault}
-use Rattle.tds_packets.specs.declared.reader.MessageFault.TheVariants.{Cut, BadHeader, TooLong, ReadFault, Memory, Spent}
+use Rattle.tds_packets.specs.declared.fault.MessageFault.{MessageFault}
+use Rattle.tds_packets.specs.declared.fault.MessageFault.TheVariants.{Cut, BadHeader, TooLong, ReadFault, Memory, Spent}
 use Rattle.tds_packets.specs.Header.{kind_of, ends_message, length_of}
 use Rattle.tds_packets.specs.Stream.{IsTail, header_fault, tail_end}
 use Rattle.tds_packets.specs.Reading.{Awaits, byte_limit}
@@ -22,7 +22,7 @@ IsOpenTail begun size at tail = IsTail begun size tail × Awaits (tail_end begun
 
 -- why no packet came, where these bytes were taken for it from offset `at` on
 abbrev pub TailStopsBy : Option ℕ → ℕ → ℕ → List ℕ → MessageFault → Type 0
-TailStopsBy begun size at bytes ReadFault = IsOpenTail begun size at bytes
+TailStopsBy begun size at bytes ReadFault = IsOpenTail begun size at bytes × (at + length bytes < byte_limit)
 TailStopsBy begun size at bytes Memory = IsOpenTail begun size at bytes × (8 ≤ length bytes)
 TailStopsBy begun size at bytes Spent = IsOpenTail begun size at bytes × (at + length bytes ≡ byte_limit)
 TailStopsBy begun size at bytes (BadHeader place) = (tail_end begun size at bytes ≡ BadHeader place) × (length bytes ≡ 8)
@@ -44,6 +44,6 @@ GivesPacket begun at bytes old new (Err fault) = TailStopsBy begun (length old) 
 abbrev pub Fills : ℕ → List ℕ → List ℕ → Result (Unit {0}) MessageFault → Type 0
 Fills taken buffer bytes (Ok _) = bytes ≡ buffer
 Fills taken buffer bytes (Err (Cut place)) = (length bytes < length buffer) × (place ≡ taken) × (taken < byte_limit)
-Fills taken buffer bytes (Err ReadFault) = length bytes < length buffer
+Fills taken buffer bytes (Err ReadFault) = (length bytes < length buffer) × (taken < byte_limit)
 Fills taken buffer bytes (Err Spent) = (length bytes < length buffer) × (taken ≡ byte_limit)
 Fills taken buffer bytes (Err _) = ⊥

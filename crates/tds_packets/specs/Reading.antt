@@ -2,8 +2,8 @@
 -- took for the message; the code takes them header by header and stops at the first that is refused.
 use Rattle.std.specs.Prelude.{◌≡◌, ℕ, ◌+◌, ◌^◌, ◌≤◌, ◌<◌, List, length, Result, Ok, Err}
 use Rattle.tds_packets.specs.declared.message.Message.{Message}
-use Rattle.tds_packets.specs.declared.reader.MessageFault.{MessageFault}
-use Rattle.tds_packets.specs.declared.reader.MessageFault.TheVariants.{Closed, Cut, BadHeader, TooLong, ReadFault, Memory, Spent}
+use Rattle.tds_packets.specs.declared.fault.MessageFault.{MessageFault}
+use Rattle.tds_packets.specs.declared.fault.MessageFault.TheVariants.{Closed, Cut, BadHeader, TooLong, ReadFault, Memory, Spent}
 use Rattle.tds_packets.specs.Stream.{IsMessage, Stops}
 
 -- how many bytes a reader takes at most (own)
@@ -22,14 +22,14 @@ IsUnrefused at rest = (fault : MessageFault) × Stops at rest fault × Awaits fa
 
 -- Why no message came, where these bytes were taken from offset `at` on. Closed, Cut, BadHeader and
 -- TooLong are the stream's end; behind a header that is refused nothing is taken. Memory is wanted
--- only behind a whole header. Spent: a byte is wanted where 2^40 are taken, also where the source has
--- ended there.
+-- only behind a whole header. The source is asked, and ends or fails, only where fewer than 2^40 bytes
+-- are taken. Spent: a byte is wanted where 2^40 are taken, also where the source has ended there.
 abbrev pub StopsBy : ℕ → List ℕ → MessageFault → Type 0
 StopsBy at bytes Closed = Stops at bytes Closed × (at + length bytes < byte_limit)
 StopsBy at bytes (Cut place) = Stops at bytes (Cut place) × (at + length bytes < byte_limit)
 StopsBy at bytes (BadHeader place) = Stops at bytes (BadHeader place) × (at + length bytes ≡ place + 8)
 StopsBy at bytes (TooLong place) = Stops at bytes (TooLong place) × (at + length bytes ≡ place + 8)
-StopsBy at bytes ReadFault = IsUnrefused at bytes
+StopsBy at bytes ReadFault = IsUnrefused at bytes × (at + length bytes < byte_limit)
 StopsBy at bytes Memory = IsUnrefused at bytes × (8 ≤ length bytes)
 StopsBy at bytes Spent = IsUnrefused at bytes × (at + length bytes ≡ byte_limit)
 

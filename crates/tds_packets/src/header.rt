@@ -5,7 +5,7 @@ ghost use Rattle.tds_packets.specs.Header.{header as header_bytes, is_known_type
 ghost use Rattle.tds_packets.specs.Stream.{goes_on, header_fault, payload_limit};
 ghost use Rattle.tds_packets.specs.Parts.{IsHeader};
 
-use crate::reader::MessageFault;
+use crate::fault::MessageFault;
 use byteorder::{BigEndian, ByteOrder};
 
 /// How many bytes a header has.

@@ -25,16 +25,20 @@
 //! ```
 #![tactic(auto)]
 
+mod fault;
 mod header;
 mod laws;
 mod message;
 mod reader;
 mod sending;
 
+pub use fault::{MessageFault, SendFault};
 pub use header::{
     ATTENTION, LOGIN7, PRELOGIN, RPC, SQL_BATCH, TABULAR_RESULT, TRANSACTION_MANAGER,
 };
-pub use laws::{law_complete, law_front, law_join, law_one_end, law_one_split};
+pub use laws::{
+    law_complete, law_front, law_join, law_no_message, law_one_end, law_one_split, law_packet_sizes, law_packet_types, law_packets, law_refused,
+};
 pub use message::{Message, Payload};
-pub use reader::{MessageFault, Reader};
-pub use sending::{SendFault, send_message};
+pub use reader::Reader;
+pub use sending::{DEFAULT_SIZE, LEAST_SIZE, MOST_SIZE, send_message};

@@ -6,50 +6,13 @@ ghost use Rattle.outside_io.specs.Bytes.{Takes, HasRisen};
 ghost use Rattle.tds_packets.specs.Reading.{Gives, IsEnd, byte_limit};
 ghost use Rattle.tds_packets.specs.Parts.{GivesPacket, GivesHeader, Fills};
 ghost use Rattle.tds_packets.specs.Stream.{payload_limit};
-ghost use Rattle.tds_packets.specs.declared.reader.MessageFault.TheVariants.{Memory as NoMemory};
 
+use crate::fault::MessageFault;
 use crate::header::{HEADER_LEN, PacketHeader, read_header};
 use crate::message::{Message, Payload};
 use outside_io::{Failed, Source};
-use std::alloc::{AllocError, Global};
+use std::alloc::Global;
 use std::marker::Model;
-
-/// Why no message came. After each of them the reader is not used again.
-#[derive(Clone, Copy, Debug, PartialEq, Eq)]
-pub enum MessageFault {
-    /// The source ended between two messages.
-    Closed,
-    /// The source ended within a message, after `at` bytes in all.
-    Cut {
-        /// How many bytes were read in all.
-        at: u64,
-    },
-    /// The header of a packet has an unknown type, a type other than its message's first, or a
-    /// Length below 8.
-    BadHeader {
-        /// Where the packet begins, in bytes from 0.
-        at: u64,
-    },
-    /// The data of a packet would take its message past 1,048,576 bytes.
-    TooLong {
-        /// Where the packet begins, in bytes from 0.
-        at: u64,
-    },
-    /// The source failed.
-    ReadFault,
-    /// Memory was wanting.
-    Memory,
-    /// A byte was wanted after 2^40 bytes were read.
-    Spent,
-}
-
-impl From<AllocError> for MessageFault {
-    ghost from_gives = { λ _ fault. fault ≡ NoMemory };
-
-    fn from(_e: AllocError) -> MessageFault {
-        MessageFault::Memory
-    }
-}
 
 /// How many bytes a reader takes at most.
 const BYTE_LIMIT: u64 = 1 << 40;

@@ -2,30 +2,22 @@
 
 ghost use Rattle.std.specs.Prelude.{◌≡◌, ◌≢◌, ◌+◌, ◌*◌, ◌^◌, ◌<◌, ◌≤◌, ◌++◌, length, OnOk, IfErr};
 ghost use Rattle.std.specs.Io.KnownBytes.{Appends};
-ghost use Rattle.outside_io.specs.Bytes.{HasRisen};
-ghost use Rattle.tds_packets.specs.Packets.{Packets, packet_at, IsPartSent};
-ghost use Rattle.tds_packets.specs.declared.sending.SendFault.TheVariants.{Memory as NoMemory};
+ghost use Rattle.outside_io.specs.Bytes.{HasRisen, StaysHidden};
+ghost use Rattle.tds_packets.specs.Packets.{Packets, packet_at, IsPartSent, least_size, most_size};
 
+use crate::fault::SendFault;
 use crate::header::{HEADER_LEN, header_of};
 use outside_io::{Sink, SinkFault};
 use std::alloc::{AllocError, Global};
 
-/// Why a message was not sent whole.
-#[derive(Clone, Copy, Debug, PartialEq, Eq)]
-pub enum SendFault {
-    /// The sink failed, or took no byte.
-    WriteFault,
-    /// Memory was wanting.
-    Memory,
-}
+/// The least size that packets may have, in bytes ([MS-TDS] 2.2.3.1.3).
+pub const LEAST_SIZE: u16 = 512;
 
-impl From<AllocError> for SendFault {
-    ghost from_gives = { λ _ fault. fault ≡ NoMemory };
+/// The most that they may have.
+pub const MOST_SIZE: u16 = 32767;
 
-    fn from(_e: AllocError) -> SendFault {
-        SendFault::Memory
-    }
-}
+/// The size of packets before a login, and where a client asks for none that is served.
+pub const DEFAULT_SIZE: u16 = 4096;
 
 /// Writes a payload in packets of `size` bytes, the last of which may be shorter, with one call of
 /// the sink a packet where the sink takes what it is given. After an error some front of the
@@ -38,13 +30,14 @@ pub fn send_message<K: Sink>(
     size: u16,
     payload: &[u8],
 ) -> Result<(), SendFault>
-    requires least { 512 ≤ size }
-    requires most { size ≤ 32767 }
+    requires least { least_size ≤ size }
+    requires most { size ≤ most_size }
     ensures sent { OnOk result (Appends (K.written sink.old) (K.written sink.new) (Packets kind spid size payload.now)) }
     ensures part { IfErr result (IsPartSent (K.written sink.old) (K.written sink.new) (Packets kind spid size payload.now)) }
     ensures write_fault { result ≡ Err SendFault.WriteFault → HasRisen (K.faults sink.old) (K.faults sink.new) }
     ensures no_fault { result ≢ Err SendFault.WriteFault → K.faults sink.new ≡ K.faults sink.old }
     ensures counted { K.faults sink.old ≤ K.faults sink.new }
+    ensures quiet { StaysHidden (K.faults sink.old) (K.written sink.old) (K.written sink.new) }
 {
     let room = usize::from(size) - HEADER_LEN;
     let count = payload.len().saturating_sub(1) / room + 1;
@@ -88,6 +81,7 @@ fn write_whole<K: Sink>(sink: &mut K, bytes: &[u8]) -> Result<(), SendFault>
     ensures write_fault { result ≡ Err SendFault.WriteFault → HasRisen (K.faults sink.old) (K.faults sink.new) }
     ensures no_fault { result ≢ Err SendFault.WriteFault → K.faults sink.new ≡ K.faults sink.old }
     ensures counted { K.faults sink.old ≤ K.faults sink.new }
+    ensures quiet { StaysHidden (K.faults sink.old) (K.written sink.old) (K.written sink.new) }
 {
     let mut rest = bytes;
     while !rest.is_empty() {

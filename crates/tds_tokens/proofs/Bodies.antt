@@ -10,7 +10,8 @@ use Rattle.tds_tokens.specs.declared.notice.Notice.{Notice}
 use Rattle.tds_tokens.specs.declared.token.DoneKind.{DoneKind}
 use Rattle.tds_tokens.specs.declared.token.Token.{Token}
 use Rattle.tds_tokens.specs.declared.token.Token.TheVariants.{LoginAck, EnvText, EnvBytes, Finished}
-use Rattle.tds_tokens.specs.Spelling.{with_length, server_name, sql_tsql, done_tag, b_varchar, b_varbyte, us_varchar, login_ack_bytes, notice_bytes, token_bytes}
+use Rattle.tds_tokens.specs.Numbers.{done_tag}
+use Rattle.tds_tokens.specs.Spelling.{with_length, server_name, sql_tsql, b_varchar, b_varbyte, us_varchar, login_ack_bytes, notice_bytes, token_bytes}
 use Rattle.tds_tokens.specs.Fit.{FitsNotice}
 use Rattle.tds_tokens.specs.Ranges.{AreUnits, AreOctets, IsNotice, IsToken}
 use Rattle.tds_tokens.specs.Reading.{made, both, framed, byte_at, number_at, b_varchar_at, b_varbyte_at, login_ack_at, said_at, notice_at, env_of, env_at, finished_at}

@@ -9,10 +9,10 @@ use Rattle.tds_tokens.specs.declared.reading.tag.Tag.TheVariants as kinds
 use Rattle.tds_tokens.specs.declared.token.DoneKind.TheVariants.{Done, Proc, InProc}
 use Rattle.tds_tokens.specs.declared.token.Token.{Token}
 use Rattle.tds_tokens.specs.declared.token.Token.TheVariants.{LoginAck, Error, Info, EnvText, EnvBytes, Columns, Row, ReturnStatus, Finished}
-use Rattle.tds_tokens.specs.Spelling.{tag_byte, token_bytes}
+use Rattle.tds_tokens.specs.Spelling.{token_bytes}
 use Rattle.tds_tokens.specs.Fit.{FitsKind}
 use Rattle.tds_tokens.specs.Ranges.{AreUnits, IsToken}
-use Rattle.tds_tokens.specs.Reading.{◌>>=◌, byte_at, tags, look_up, tag_at, tagged_at, token_at}
+use Rattle.tds_tokens.specs.Reading.{tag_byte, ◌>>=◌, byte_at, tags, look_up, tag_at, tagged_at, token_at}
 use Rattle.tds_tokens.proofs.Readers.{IsBytes, IsBytes-rest, bind_some, made_takes, made_again}
 use Rattle.tds_tokens.proofs.Numbers.{Reads-byte, Reads-signed32}
 use Rattle.tds_tokens.proofs.ColumnLaws.{IsColumn, Reads-columns}

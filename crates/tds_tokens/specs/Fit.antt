@@ -11,6 +11,7 @@ use Rattle.tds_tokens.specs.declared.notice.Notice.{Notice}
 use Rattle.tds_tokens.specs.declared.columns.ColumnInfo.{ColumnInfo}
 use Rattle.tds_tokens.specs.declared.token.Token.{Token}
 use Rattle.tds_tokens.specs.declared.token.Token.TheVariants.{LoginAck, Error, Info, EnvText, EnvBytes, Columns, Row, ReturnStatus, Finished}
+use Rattle.tds_tokens.specs.Numbers.{env_database, env_packet_size, env_collation, env_rollback}
 use Rattle.tds_tokens.specs.Spelling.{notice_bytes, columns_after}
 
 -- the value is of the type, and the size of a text in bytes fits its field
@@ -47,8 +48,8 @@ abbrev pub FitsToken : List ColumnInfo → Token → Type 0
 FitsToken columns (LoginAck version program release) = length program < 2 ^ 8
 FitsToken columns (Error notice) = FitsNotice notice
 FitsToken columns (Info notice) = FitsNotice notice
-FitsToken columns (EnvText kind fresh former) = ((kind ≡ 1) ⊎ (kind ≡ 4)) × (length fresh < 2 ^ 8) × (length former < 2 ^ 8)
-FitsToken columns (EnvBytes kind fresh former) = (7 ≤ kind) × (kind ≤ 10) × (length fresh < 2 ^ 8) × (length former < 2 ^ 8)
+FitsToken columns (EnvText kind fresh former) = ((kind ≡ env_database) ⊎ (kind ≡ env_packet_size)) × (length fresh < 2 ^ 8) × (length former < 2 ^ 8)
+FitsToken columns (EnvBytes kind fresh former) = (env_collation ≤ kind) × (kind ≤ env_rollback) × (length fresh < 2 ^ 8) × (length former < 2 ^ 8)
 FitsToken columns (ReturnStatus status) = Unit {0}
 FitsToken columns (Columns described) = (length described < 2 ^ 16) × All (λ column. FitsKind column.kind × (length column.name < 2 ^ 8)) described
 FitsToken columns (Row values) = FitsColumns columns values

@@ -19,7 +19,8 @@ use Rattle.tds_tokens.specs.declared.token.Token.{Token}
 use Rattle.tds_tokens.specs.declared.token.Token.TheVariants.{LoginAck, Error, Info, EnvText, EnvBytes, Columns, Row, ReturnStatus, Finished}
 use Rattle.tds_tokens.specs.declared.reading.tag.Tag.{Tag}
 use Rattle.tds_tokens.specs.declared.reading.tag.Tag.TheVariants as kinds
-use Rattle.tds_tokens.specs.Spelling.{b_varchar, server_name, collation, nvarchartype, type_info, value_bytes, column_start, sql_tsql, tag_byte, columns_after}
+use Rattle.tds_tokens.specs.Spelling.{b_varchar, server_name, collation, nvarchartype, type_info, value_bytes, column_start, sql_tsql, columns_after}
+use Rattle.tds_tokens.specs.Numbers.{returnstatus_tag, colmetadata_tag, error_tag, info_tag, loginack_tag, row_tag, envchange_tag, done_tag, env_database, env_packet_size, env_collation, env_rollback}
 
 -- what a function of the code returned, seen by view, is what reading gives, unless memory ran out
 abbrev pub Fails : {Y : Type 0} → ReadFault → Option Y → Type 0
@@ -193,8 +194,8 @@ notice_at bytes =
 -- an environment change behind its kind
 unfoldable pub env_of : ℕ → List ℕ → Option (Token × List ℕ)
 env_of kind bytes =
-    if kind == 1 || kind == 4 then made (λ p. EnvText kind p.0 p.1) (both b_varchar_at b_varchar_at) bytes
-    else if nat_le 7 kind && nat_le kind 10 then made (λ p. EnvBytes kind p.0 p.1) (both b_varbyte_at b_varbyte_at) bytes
+    if kind == env_database || kind == env_packet_size then made (λ p. EnvText kind p.0 p.1) (both b_varchar_at b_varchar_at) bytes
+    else if nat_le env_collation kind && nat_le kind env_rollback then made (λ p. EnvBytes kind p.0 p.1) (both b_varbyte_at b_varbyte_at) bytes
     else None
 
 unfoldable pub env_at : List ℕ → Option (Token × List ℕ)
@@ -217,6 +218,17 @@ tags =
     ∷ kinds.Finished Proc
     ∷ kinds.Finished InProc
     ∷ []
+
+-- the byte with which a token of the kind begins
+abbrev pub tag_byte : Tag → ℕ
+tag_byte kinds.ReturnStatus = returnstatus_tag
+tag_byte kinds.Columns = colmetadata_tag
+tag_byte kinds.Error = error_tag
+tag_byte kinds.Info = info_tag
+tag_byte kinds.LoginAck = loginack_tag
+tag_byte kinds.Row = row_tag
+tag_byte kinds.Env = envchange_tag
+tag_byte (kinds.Finished kind) = done_tag kind
 
 -- the first of them that the byte begins
 abbrev pub look_up : ℕ → List Tag → Option Tag

@@ -10,12 +10,9 @@ use Rattle.value_types.specs.declared.value.Value.TheVariants.{Null, Whole, Bit,
 use Rattle.value_types.specs.Units.{le_bytes_of}
 use Rattle.tds_tokens.specs.declared.notice.Notice.{Notice}
 use Rattle.tds_tokens.specs.declared.columns.ColumnInfo.{ColumnInfo}
-use Rattle.tds_tokens.specs.declared.token.DoneKind.{DoneKind}
-use Rattle.tds_tokens.specs.declared.token.DoneKind.TheVariants.{Done, Proc, InProc}
 use Rattle.tds_tokens.specs.declared.token.Token.{Token}
 use Rattle.tds_tokens.specs.declared.token.Token.TheVariants.{LoginAck, Error, Info, EnvText, EnvBytes, Columns, Row, ReturnStatus, Finished}
-use Rattle.tds_tokens.specs.declared.reading.tag.Tag.{Tag}
-use Rattle.tds_tokens.specs.declared.reading.tag.Tag.TheVariants as kinds
+use Rattle.tds_tokens.specs.Numbers.{returnstatus_tag, colmetadata_tag, error_tag, info_tag, loginack_tag, row_tag, envchange_tag, done_tag}
 
 -- B_VARCHAR (2.2.5.2.2): a count of units in one byte, and the units
 abbrev pub b_varchar : List ℕ → List ℕ
@@ -104,35 +101,18 @@ login_ack_bytes version program release = sql_tsql ∷ to_be_bytes w32 version +
 abbrev pub b_varbyte : List ℕ → List ℕ
 b_varbyte bytes = length bytes ∷ bytes
 
--- DONE, DONEPROC and DONEINPROC (2.2.7.6 to 2.2.7.8)
-abbrev pub done_tag : DoneKind → ℕ
-done_tag Done = 0xFD
-done_tag Proc = 0xFE
-done_tag InProc = 0xFF
-
--- the first byte of each token (2.2.7)
-abbrev pub tag_byte : Tag → ℕ
-tag_byte kinds.ReturnStatus = 0x79
-tag_byte kinds.Columns = 0x81
-tag_byte kinds.Error = 0xAA
-tag_byte kinds.Info = 0xAB
-tag_byte kinds.LoginAck = 0xAD
-tag_byte kinds.Row = 0xD1
-tag_byte kinds.Env = 0xE3
-tag_byte (kinds.Finished kind) = done_tag kind
-
 -- a token, where the latest COLMETADATA before it described these columns
 abbrev pub token_bytes : List ColumnInfo → Token → List ℕ
-token_bytes columns (LoginAck version program release) = tag_byte kinds.LoginAck ∷ with_length (login_ack_bytes version program release)
-token_bytes columns (Error notice) = tag_byte kinds.Error ∷ with_length (notice_bytes notice)
-token_bytes columns (Info notice) = tag_byte kinds.Info ∷ with_length (notice_bytes notice)
-token_bytes columns (EnvText kind fresh former) = tag_byte kinds.Env ∷ with_length (kind ∷ b_varchar fresh ++ b_varchar former)
-token_bytes columns (EnvBytes kind fresh former) = tag_byte kinds.Env ∷ with_length (kind ∷ b_varbyte fresh ++ b_varbyte former)
-token_bytes columns (Columns described) = tag_byte kinds.Columns ∷ to_le_bytes w16 (length described) ++ flat_map column_bytes described
-token_bytes columns (Row values) = tag_byte kinds.Row ∷ row_bytes columns values
-token_bytes columns (ReturnStatus status) = tag_byte kinds.ReturnStatus ∷ to_le_bytes w32 (cast_unsigned w32 status)
+token_bytes columns (LoginAck version program release) = loginack_tag ∷ with_length (login_ack_bytes version program release)
+token_bytes columns (Error notice) = error_tag ∷ with_length (notice_bytes notice)
+token_bytes columns (Info notice) = info_tag ∷ with_length (notice_bytes notice)
+token_bytes columns (EnvText kind fresh former) = envchange_tag ∷ with_length (kind ∷ b_varchar fresh ++ b_varchar former)
+token_bytes columns (EnvBytes kind fresh former) = envchange_tag ∷ with_length (kind ∷ b_varbyte fresh ++ b_varbyte former)
+token_bytes columns (Columns described) = colmetadata_tag ∷ to_le_bytes w16 (length described) ++ flat_map column_bytes described
+token_bytes columns (Row values) = row_tag ∷ row_bytes columns values
+token_bytes columns (ReturnStatus status) = returnstatus_tag ∷ to_le_bytes w32 (cast_unsigned w32 status)
 token_bytes columns (Finished kind status command rows) =
-    tag_byte (kinds.Finished kind) ∷ to_le_bytes w16 status ++ to_le_bytes w16 command ++ to_le_bytes w64 rows
+    done_tag kind ∷ to_le_bytes w16 status ++ to_le_bytes w16 command ++ to_le_bytes w64 rows
 
 -- the columns that rows have after a token
 abbrev pub columns_after : List ColumnInfo → Token → List ColumnInfo

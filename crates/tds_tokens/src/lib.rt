@@ -10,7 +10,7 @@
 //! let text = Units::of_ascii(alloc, b"Divide by zero error encountered.")?;
 //! let reply = vec![in alloc;
 //!     Token::Error(Notice::new(8134, 1, 16, text, Units::new(alloc), 1)),
-//!     Token::Finished { kind: DoneKind::Done, status: DONE_ERROR, command: 0xC1, rows: 0 },
+//!     Token::Finished { kind: DoneKind::Done, status: DONE_ERROR, command: COMMAND_SELECT, rows: 0 },
 //! ]?;
 //! let mut out = Vec::new(alloc);
 //! write_tokens(&reply, &mut out)?;
@@ -21,6 +21,7 @@
 mod bytes;
 mod columns;
 mod done;
+mod env;
 mod fault;
 mod notice;
 mod reading;
@@ -33,13 +34,17 @@ mod writing;
 
 pub use bytes::Bytes;
 pub use columns::{ColumnInfo, ColumnList};
-pub use done::{DONE_ATTN, DONE_COUNT, DONE_ERROR, DONE_FINAL, DONE_MORE};
+pub use done::{
+    COMMAND_DELETE, COMMAND_INSERT, COMMAND_NONE, COMMAND_SELECT, COMMAND_UPDATE, DONE_ATTN,
+    DONE_COUNT, DONE_ERROR, DONE_FINAL, DONE_MORE, law_done_command, law_done_status,
+};
+pub use env::{
+    ENV_BEGIN, ENV_COLLATION, ENV_COMMIT, ENV_DATABASE, ENV_PACKET_SIZE, ENV_ROLLBACK,
+    law_env_kinds,
+};
 pub use fault::TokenFault;
 pub use notice::{Notice, TEXT_LIMIT};
 pub use reading::{law_tokens, read_tokens};
 pub use token::{DoneKind, Token};
 pub use wire::COLLATION;
 pub use writing::{bytes_of_tokens, write_tokens};
-
-#[cfg(test)]
-mod tests;

@@ -20,7 +20,7 @@ pub enum DoneKind {
 }
 
 /// A token ([MS-TDS] 2.2.7).
-#[derive(Debug, Drop)]
+#[derive(Debug, Drop, PartialEq, Eq)]
 pub enum Token {
     /// LOGINACK (2.2.7.14): the login is granted.
     LoginAck {
@@ -37,7 +37,7 @@ pub enum Token {
     Info(Notice),
     /// ENVCHANGE (2.2.7.9) of a setting that is a text.
     EnvText {
-        /// 1 for the database, 4 for the packet size.
+        /// `ENV_DATABASE` or `ENV_PACKET_SIZE`.
         kind: u8,
         /// The setting from now on.
         fresh: Units,
@@ -46,7 +46,7 @@ pub enum Token {
     },
     /// ENVCHANGE (2.2.7.9) of a setting that is bytes.
     EnvBytes {
-        /// 7 for the collation, 8 to 10 where a transaction begins, is committed or is rolled back.
+        /// `ENV_COLLATION`, or `ENV_BEGIN`, `ENV_COMMIT` or `ENV_ROLLBACK` of a transaction.
         kind: u8,
         /// The setting from now on.
         fresh: Bytes,
@@ -66,7 +66,8 @@ pub enum Token {
         /// The status: `DONE_FINAL`, or those of the bits `DONE_MORE`, `DONE_ERROR`, `DONE_COUNT`
         /// and `DONE_ATTN` that hold.
         status: u16,
-        /// The kind of statement: 0xC1 SELECT, 0xC3 INSERT, 0xC4 DELETE, 0xC5 UPDATE, else 0.
+        /// The kind of statement: `COMMAND_SELECT`, `COMMAND_INSERT`, `COMMAND_DELETE`,
+        /// `COMMAND_UPDATE`, else `COMMAND_NONE`.
         command: u16,
         /// How many rows there were.
         rows: u64,

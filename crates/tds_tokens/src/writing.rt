@@ -3,7 +3,8 @@
 ghost use Rattle.std.specs.Prelude.{◌≡◌, ◌+◌, ◌*◌, ◌-◌, ◌^◌, ◌<◌, ◌≤◌, ◌++◌, [], ◌∷◌, length, min, All, OnOk, OnErr, IsOk, vec_len, vec_capacity};
 ghost use Rattle.std.specs.List.{flat_map};
 ghost use Rattle.std.specs.Int.{w16, w32, w64, to_le_bytes, cast_unsigned};
-ghost use Rattle.tds_tokens.specs.Spelling.{TokenBytes, token_bytes, login_ack_bytes, notice_bytes, column_bytes, row_bytes, b_varchar, b_varbyte, done_tag, with_length};
+ghost use Rattle.tds_tokens.specs.Numbers.{done_tag};
+ghost use Rattle.tds_tokens.specs.Spelling.{TokenBytes, token_bytes, login_ack_bytes, notice_bytes, column_bytes, row_bytes, b_varchar, b_varbyte, with_length};
 ghost use Rattle.tds_tokens.specs.Fit.{FitTokens, FitsToken, FitsNotice, FitsColumns, FitsKind};
 
 use crate::bytes::Bytes;

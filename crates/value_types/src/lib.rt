@@ -12,13 +12,11 @@ mod order;
 mod row;
 mod sql_type;
 mod table_name;
-#[cfg(test)]
-mod tests;
 mod units;
 mod value;
 
 pub use characters::units_of_str;
-pub use key::{KEY_LIMIT, Key};
+pub use key::{KEY_LIMIT, Key, law_key_limit};
 pub use memory::Memory;
 pub use order::{compare, key_order, law_key_order, prefix_order};
 pub use row::Row;

@@ -1,7 +1,7 @@
 //! Texts of 16-bit units, as the protocol sends them.
 
 ghost use Rattle.std.specs.Prelude.{◌≡◌, ◌<◌, ◌%◌, ◌↔◌, [], length, take, All, IfOk};
-ghost use Rattle.value_types.specs.Units.{units_of, le_bytes_of};
+ghost use Rattle.value_types.specs.Units.{units_of, le_bytes_of, same_units};
 ghost use Rattle.value_types.specs.declared.units.UnitsFault.TheVariants.{Memory as NoMemory};
 
 use crate::Memory;
@@ -9,6 +9,7 @@ use byteorder::{ByteOrder, LittleEndian};
 use std::alloc::{AllocError, AllocFailed, Global};
 use std::cmp::Ordering;
 use std::marker::Model;
+use thiserror::Error;
 
 /// A text as a list of 16-bit units. The units need not be well-formed UTF-16.
 #[derive(Debug, Drop)]
@@ -54,6 +55,15 @@ impl Units {
         Ok(Units { units })
     }
 
+    /// Whether it is this ASCII text, unit by unit.
+    pub fn is(&self, text: &str) -> bool
+        requires { All (λ byte. byte < 128) text.now }
+        ensures { result ≡ same_units self.now text.now }
+    {
+        let text = text.as_bytes();
+        self.units.len() == text.len() && is_word(&self.units, text)
+    }
+
     /// The units in order.
     pub fn as_slice(&self) -> &[u16]
         ensures { result.now ≡ self.now }
@@ -90,6 +100,17 @@ impl Units {
             units: Vec::from_slice(alloc, self.units.as_slice())?,
         })
     }
+}
+
+/// Whether as many units as an ASCII text has are that text.
+fn is_word(units: &[u16], text: &[u8]) -> bool
+    requires { length units.now ≡ length text.now }
+    ensures { result ≡ same_units units.now text.now }
+{
+    units
+        .iter()
+        .zip(text)
+        .all(|(unit, byte)| *unit == u16::from(*byte))
 }
 
 // Texts are compared exactly, unit by unit. The comparison of SQL, which pads, is `compare`.
@@ -146,11 +167,13 @@ impl Ord for Units {
 }
 
 /// Why bytes are no text.
-#[derive(Clone, Copy, Debug, PartialEq, Eq)]
+#[derive(Clone, Copy, Debug, PartialEq, Eq, Error)]
 pub enum UnitsFault {
     /// A unit has two bytes, and the bytes are odd in number.
+    #[error("the bytes of a text are odd in number")]
     OddLength,
     /// Memory was wanting.
+    #[error("memory was wanting")]
     Memory,
 }
 

@@ -4,6 +4,7 @@ ghost use Rattle.std.specs.Prelude.{◌≡◌};
 ghost use Rattle.tds_tokens.specs.Spelling.{b_varchar, server_name};
 ghost use Rattle.tds_tokens.specs.Reading.{Gives, strip, at_end, framed, login_ack_at, notice_at, said_at, env_at, env_of, finished_at};
 
+use crate::env::{ENV_COLLATION, ENV_DATABASE, ENV_PACKET_SIZE, ENV_ROLLBACK};
 use crate::fault::ReadFault;
 use crate::notice::Notice;
 use crate::reading::fields::{
@@ -123,7 +124,7 @@ fn env_of(alloc: Global, kind: u8, bytes: &[u8]) -> Result<(Token, &[u8]), ReadF
     ensures { Gives (λ x. (x.0, x.1.now)) result (env_of kind bytes.now) }
 {
     match kind {
-        1 | 4 => {
+        ENV_DATABASE | ENV_PACKET_SIZE => {
             let (fresh, rest) = b_varchar(alloc, bytes)?;
             let (former, rest) = b_varchar(alloc, rest)?;
             let token = Token::EnvText {
@@ -133,7 +134,7 @@ fn env_of(alloc: Global, kind: u8, bytes: &[u8]) -> Result<(Token, &[u8]), ReadF
             };
             Ok((token, rest))
         }
-        7..=10 => {
+        ENV_COLLATION..=ENV_ROLLBACK => {
             let (fresh, rest) = b_varbyte(alloc, bytes)?;
             let (former, rest) = b_varbyte(alloc, rest)?;
             let token = Token::EnvBytes {

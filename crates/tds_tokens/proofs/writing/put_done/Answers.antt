@@ -1,6 +1,6 @@
 use Rattle.std.proofs.Common.{◌∷◌, [], ◌++◌, refl, ap, ◌∙◌}
 use Rattle.std.specs.Int.{w16, w64, to_le_bytes}
-use Rattle.tds_tokens.specs.Spelling.{done_tag}
+use Rattle.tds_tokens.specs.Numbers.{done_tag}
 use Rattle.tds_tokens.proofs.Joins.{and_then}
 use Rattle.tds_tokens.proofs.writing.put_done.Goals as goal
 

@@ -1,7 +1,7 @@
 use Rattle.std.proofs.Common.{◌≡◌, ◌++◌, ◌<◌, ℕ, length, take, arith, ap, ◌∙◌, sym, subst, length-append}
 use Rattle.std.proofs.lemmas.Result.{err_from_is_err_and}
 use Rattle.tds_packets.specs.Parts.{TailStopsBy, IsHeader}
-use Rattle.tds_packets.specs.declared.reader.MessageFault.TheVariants.{Memory}
+use Rattle.tds_packets.specs.declared.fault.MessageFault.TheVariants.{Memory}
 use Rattle.tds_packets.proofs.Taken.{took_both}
 use Rattle.tds_packets.proofs.Read.{header_memory, header_before, body_cut, data_behind}
 use Rattle.tds_packets.proofs.reader.Reader.next_packet.Goals as goal

@@ -1,0 +1,10 @@
+pub mod Booleans
+pub mod Joined
+pub mod Begins
+pub mod Choice
+pub mod Alive
+pub mod Expected
+pub mod DescentComplete
+pub mod DescentStable
+pub mod Cuts
+pub mod KindTests

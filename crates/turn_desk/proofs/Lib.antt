@@ -1,0 +1,6 @@
+mod Totals
+mod Lists
+mod Standing
+mod Turning
+mod Seating
+mod Closing
