@@ -107,7 +107,7 @@ impl Pair {
 pub fn agree(a: Pair, b: Pair) -> bool
     ensures { result ≡ pairs_agree a b }
 {
-    ranges_agree(a.range, b.range) && keys_agree(a.key, b.key)
+    range_parts_agree(a.range, b.range) && key_parts_agree(a.key, b.key)
 }
 
 /// The mode of a transaction that holds one of these modes on a key and takes the other: the
@@ -116,12 +116,13 @@ pub fn join(a: Pair, b: Pair) -> Pair
     ensures { result ≡ join_pairs a b }
 {
     Pair {
-        range: joined_range(a.range, b.range),
-        key: joined_key(a.key, b.key),
+        range: join_ranges(a.range, b.range),
+        key: join_keys(a.key, b.key),
     }
 }
 
-fn ranges_agree(a: RangePart, b: RangePart) -> bool
+/// Whether two transactions may hold these parts on one range at the same time.
+fn range_parts_agree(a: RangePart, b: RangePart) -> bool
     ensures { result ≡ range_parts_agree a b }
 {
     match a {
@@ -132,7 +133,8 @@ fn ranges_agree(a: RangePart, b: RangePart) -> bool
     }
 }
 
-fn keys_agree(a: KeyPart, b: KeyPart) -> bool
+/// Whether they may hold these parts on one row at the same time.
+fn key_parts_agree(a: KeyPart, b: KeyPart) -> bool
     ensures { result ≡ key_parts_agree a b }
 {
     match a {
@@ -143,8 +145,9 @@ fn keys_agree(a: KeyPart, b: KeyPart) -> bool
     }
 }
 
-// S and I bear no order: only X locks what both of them lock.
-fn joined_range(a: RangePart, b: RangePart) -> RangePart
+/// The range part that locks what either part locks. S and I bear no order: only X locks what both of
+/// them lock.
+fn join_ranges(a: RangePart, b: RangePart) -> RangePart
     ensures { result ≡ join_ranges a b }
 {
     match (a, b) {
@@ -155,8 +158,8 @@ fn joined_range(a: RangePart, b: RangePart) -> RangePart
     }
 }
 
-// Of key parts the stronger one is left.
-fn joined_key(a: KeyPart, b: KeyPart) -> KeyPart
+/// The key part that locks what either part locks: the stronger one.
+fn join_keys(a: KeyPart, b: KeyPart) -> KeyPart
     ensures { result ≡ join_keys a b }
 {
     match (a, b) {

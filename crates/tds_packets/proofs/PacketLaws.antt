@@ -7,7 +7,7 @@ use Rattle.tds_packets.specs.Header.{is_known_type, ends_message, length_of, hea
 use Rattle.tds_packets.specs.Stream.{payload_limit, IsPacket, AreOpen, IsMessage, bytes_of, data_of}
 use Rattle.tds_packets.specs.Packets.{least_size, most_size, count_up, packet_count, body_at, status_at, packet_at, Packets}
 use Rattle.tds_packets.proofs.Packed.{packets-suc}
-use Rattle.tds_packets.proofs.Open.{bytes_of-append, data_of-append, AreOpen-append}
+use Rattle.tds_packets.proofs.OpenPackets.{bytes_of-append, data_of-append, AreOpen-append}
 
 -- the first packets, one by one
 abbrev packets_to : (ℕ → List ℕ) → ℕ → List (List ℕ)
