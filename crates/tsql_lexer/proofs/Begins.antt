@@ -175,7 +175,7 @@ begins_system_name units behind name stopped =
 
 -- ---- numbers
 
-digit_bounds : (unit : ℕ) → is_digit unit ≡ true → (0x30 ≤ unit) × (unit ≤ 0x39)
+pub digit_bounds : (unit : ℕ) → is_digit unit ≡ true → (0x30 ≤ unit) × (unit ≤ 0x39)
 digit_bounds unit digit = let parts = and_parts (nat_le 0x30 unit) (nat_le unit 0x39) digit in (leb-true 0x30 unit parts.0, leb-true unit 0x39 parts.1)
 
 digit_starts_no_word : (unit : ℕ) → is_digit unit ≡ true → is_word_start unit ≡ false

@@ -9,3 +9,5 @@ pub mod Passing
 pub mod Stops
 pub mod QuoteLaws
 pub mod Begins
+pub mod Found
+pub mod Whole

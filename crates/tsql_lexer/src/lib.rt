@@ -5,6 +5,7 @@
 mod classes;
 mod comments;
 mod fault;
+mod laws;
 mod lexeme;
 mod lexing;
 mod numbers;
@@ -14,5 +15,6 @@ mod quotes;
 mod signs;
 
 pub use fault::{Flaw, LexFault, LexKind};
+pub use laws::{law_lexing, law_longest};
 pub use lexeme::{Lexeme, Sign, Spanned};
 pub use lexing::{Lexing, lex, lexing_of};
