@@ -26,6 +26,7 @@ use Rattle.tsql_lexer.specs.Reading.{opening_of, double_sign, single_sign, at_na
 use Rattle.tsql_lexer.proofs.Runs.{run_passes}
 use Rattle.tsql_lexer.proofs.Stops.{run_stopped, is_run}
 use Rattle.tsql_lexer.proofs.Begins.{digit_bounds}
+use Rattle.tsql_lexer.proofs.CommentLaws.{closing_take}
 use Rattle.tsql_lexer.proofs.Openings.{Says, says, IsOther}
 use Rattle.tsql_lexer.proofs.Sizes.{SizeWithin, and_false, closing_within, run_begins, double_second}
 use Rattle.tsql_lexer.proofs.QuoteLaws.{Spelled, enclosed_spells}
@@ -89,8 +90,7 @@ found_comment units = by (closing_size units 1) refl (closing_within units 1)
       behind = drop size units;
       joined = ap (λ (l : List ℕ). 0x2F ∷ 0x2A ∷ l) (sym (take-append-drop size units));
       size_is = omega (arith, length-take-le size units within.1);
-      is = inr (inr (take size units, refl,
-        ap (λ (l : List ℕ). more 2 (closing_size l 1)) (take-append-drop size units) ∙ ap (more 2) is ∙ ap (λ (n : ℕ). Some n) (omega (arith, length-take-le size units within.1))));
+      is = inr (inr (take size units, refl, ap (more 2) (closing_take units 1 size is) ∙ ap (λ (n : ℕ). Some n) (omega (arith, length-take-le size units within.1))));
     }
 
 -- ---- numbers
@@ -102,23 +102,32 @@ starts_other unit other units rest differs = rw (ne_eqb other unit (λ same. tru
 digit_kind : (unit : ℕ) (units : List ℕ) → is_digit unit ≡ true → NumberTooBig ≡ kind_at (unit ∷ units)
 digit_kind unit units digit =
     let bounds = digit_bounds unit digit in
-    rw (starts_other unit 0x2F units (codes "*") (ne_eqb unit 0x2F (omega (arith, bounds.0))), starts_other unit 0x27 units [] (ne_eqb unit 0x27 (omega (arith, bounds.0))), starts_other unit 0x4E units (codes "'") (ne_eqb unit 0x4E (omega (arith, bounds.1))),
-      starts_other unit 0x5B units [] (ne_eqb unit 0x5B (omega (arith, bounds.1))), starts_other unit 0x22 units [] (ne_eqb unit 0x22 (omega (arith, bounds.0))), digit) refl
+    rw (
+      starts_other unit 0x2F units (codes "*") (ne_eqb unit 0x2F (omega (arith, bounds.0))),
+      starts_other unit 0x27 units [] (ne_eqb unit 0x27 (omega (arith, bounds.0))),
+      starts_other unit 0x4E units (codes "'") (ne_eqb unit 0x4E (omega (arith, bounds.1))),
+      starts_other unit 0x5B units [] (ne_eqb unit 0x5B (omega (arith, bounds.1))),
+      starts_other unit 0x22 units [] (ne_eqb unit 0x22 (omega (arith, bounds.0))),
+      digit,
+    ) refl
 
 found_number : (unit : ℕ) (units : List ℕ) → is_digit unit ≡ true → Found (unit ∷ units) (number_piece (unit ∷ units))
 unfolding number_piece number_of
 found_number unit units digit = by (nat_le (number_value (take (prefix_len is_digit (unit ∷ units)) (unit ∷ units))) number_limit) refl
   where
     by : (fits : Bool) → nat_le (number_value (take (prefix_len is_digit (unit ∷ units)) (unit ∷ units))) number_limit ≡ fits
-      → Found (unit ∷ units) (number_by (cond fits (Some (pos (number_value (take (prefix_len is_digit (unit ∷ units)) (unit ∷ units))))) None) (prefix_len is_digit (unit ∷ units)))
+        → Found (unit ∷ units) (number_by (cond fits (Some (pos (number_value (take (prefix_len is_digit (unit ∷ units)) (unit ∷ units))))) None) (prefix_len is_digit (unit ∷ units)))
     by true is = record {
       units = take (prefix_len is_digit (unit ∷ units)) (unit ∷ units);
       behind = drop (prefix_len is_digit (unit ∷ units)) (unit ∷ units);
       joined = sym (take-append-drop (prefix_len is_digit (unit ∷ units)) (unit ∷ units));
       size_is = sym (run_length is_digit (unit ∷ units));
       is = record {
-        spelled = (is_run is_digit (take (prefix_len is_digit (unit ∷ units)) (unit ∷ units)) (omega (arith, run_length is_digit (unit ∷ units), run_begins is_digit (unit ∷ units) (omega arith) digit)) (run_passes is_digit (unit ∷ units)),
-          leb-true _ _ is, refl);
+        spelled = (
+          is_run is_digit (take (prefix_len is_digit (unit ∷ units)) (unit ∷ units)) (omega (arith, run_length is_digit (unit ∷ units), run_begins is_digit (unit ∷ units) (omega arith) digit)) (run_passes is_digit (unit ∷ units)),
+          leb-true _ _ is,
+          refl,
+        );
         ended = run_stopped is_digit (unit ∷ units);
       };
     }
@@ -210,9 +219,9 @@ found_variable (unit ∷ units) other = by (is_word_unit unit) refl
     by true is =
         let enough : nat_lt (1 + (1 + prefix_len is_word_unit units)) 2 ≡ false = grind (arith, nat_tests) in
         rw enough (found_name Variable (1 + (1 + prefix_len is_word_unit units)) (0x40 ∷ unit ∷ units) (0x40 ∷ unit ∷ take (prefix_len is_word_unit units) units) (drop (prefix_len is_word_unit units) units)
-          (ap (λ (l : List ℕ). 0x40 ∷ unit ∷ l) (sym (take-append-drop (prefix_len is_word_unit units) units)))
-          (omega (arith, run_length is_word_unit units))
-          (record { spelled = (refl, (unit, take (prefix_len is_word_unit units) units, refl, (is, run_passes is_word_unit units), rw other refl)); ended = run_stopped is_word_unit units }))
+        (ap (λ (l : List ℕ). 0x40 ∷ unit ∷ l) (sym (take-append-drop (prefix_len is_word_unit units) units)))
+        (omega (arith, run_length is_word_unit units))
+        (record { spelled = (refl, (unit, take (prefix_len is_word_unit units) units, refl, (is, run_passes is_word_unit units), rw other refl)); ended = run_stopped is_word_unit units }))
 
 found_system_name : (units : List ℕ) → Found (0x40 ∷ 0x40 ∷ units) (at_name_piece SystemName 3 (0x40 ∷ 0x40 ∷ units))
 unfolding at_name_piece
@@ -224,9 +233,9 @@ found_system_name (unit ∷ units) = by (is_word_unit unit) refl
     by true is =
         let enough : nat_lt (1 + (1 + (1 + prefix_len is_word_unit units))) 3 ≡ false = grind (arith, nat_tests) in
         rw enough (found_name SystemName (1 + (1 + (1 + prefix_len is_word_unit units))) (0x40 ∷ 0x40 ∷ unit ∷ units) (0x40 ∷ 0x40 ∷ unit ∷ take (prefix_len is_word_unit units) units) (drop (prefix_len is_word_unit units) units)
-          (ap (λ (l : List ℕ). 0x40 ∷ 0x40 ∷ unit ∷ l) (sym (take-append-drop (prefix_len is_word_unit units) units)))
-          (omega (arith, run_length is_word_unit units))
-          (record { spelled = (refl, (unit ∷ take (prefix_len is_word_unit units) units, refl, (is, run_passes is_word_unit units))); ended = run_stopped is_word_unit units }))
+        (ap (λ (l : List ℕ). 0x40 ∷ 0x40 ∷ unit ∷ l) (sym (take-append-drop (prefix_len is_word_unit units) units)))
+        (omega (arith, run_length is_word_unit units))
+        (record { spelled = (refl, (unit ∷ take (prefix_len is_word_unit units) units, refl, (is, run_passes is_word_unit units))); ended = run_stopped is_word_unit units }))
 
 -- what stops a test stops it beside one that nothing passes
 stops_both : (first second : ℕ → Bool) (behind : List ℕ) → stops first behind ≡ true → ((n : ℕ) → second n ≡ false) → stops (λ n. first n || second n) behind ≡ true
@@ -253,21 +262,21 @@ word_ended unit [] other = refl
 word_ended unit (next ∷ units) other = by (is_word_unit next) refl
   where
     by : (b : Bool) → is_word_unit next ≡ b
-      → stops (λ n. is_word_unit n || (same_units (unit ∷ take (cond b (1 + prefix_len is_word_unit units) 0) (next ∷ units)) (codes "N") && n == 0x27)) (drop (cond b (1 + prefix_len is_word_unit units) 0) (next ∷ units)) ≡ true
+        → stops (λ n. is_word_unit n || (same_units (unit ∷ take (cond b (1 + prefix_len is_word_unit units) 0) (next ∷ units)) (codes "N") && n == 0x27)) (drop (cond b (1 + prefix_len is_word_unit units) 0) (next ∷ units)) ≡ true
     by false is = no_more (is_word_unit next) (eqb unit 0x4E) (eqb next 0x27) is other
     by true is =
         let one : suc (prefix_len is_word_unit units) ≡ 1 + prefix_len is_word_unit units = omega arith in
         subst (λ (size : ℕ). stops (λ n. is_word_unit n || (same_units (unit ∷ take size (next ∷ units)) (codes "N") && n == 0x27)) (drop size (next ∷ units)) ≡ true) one
-          (stops_both is_word_unit (λ n. (eqb unit 0x4E && false) && n == 0x27) (drop (prefix_len is_word_unit units) units) (run_stopped is_word_unit units) (λ n. and_false_and (eqb unit 0x4E) (eqb n 0x27)))
+        (stops_both is_word_unit (λ n. (eqb unit 0x4E && false) && n == 0x27) (drop (prefix_len is_word_unit units) units) (run_stopped is_word_unit units) (λ n. and_false_and (eqb unit 0x4E) (eqb n 0x27)))
 
 found_word : (unit : ℕ) (units : List ℕ) → is_word_start unit ≡ true → (eqb unit 0x4E && eqb (slice_index (unit ∷ units) 1) 0x27) ≡ false → Found (unit ∷ units) (word_piece (unit ∷ units))
 found_word unit units starts other =
     let passes : is_word_unit unit ≡ true = rw starts refl in
     let size : prefix_len is_word_unit (unit ∷ units) ≡ length (unit ∷ take (prefix_len is_word_unit units) units) = rw passes (omega (arith, run_length is_word_unit units)) in
     found_name Word (prefix_len is_word_unit (unit ∷ units)) (unit ∷ units) (unit ∷ take (prefix_len is_word_unit units) units) (drop (prefix_len is_word_unit units) units)
-      (ap (λ (l : List ℕ). unit ∷ l) (sym (take-append-drop (prefix_len is_word_unit units) units)))
-      size
-      (record { spelled = (refl, (starts, run_passes is_word_unit units)); ended = word_ended unit units other })
+    (ap (λ (l : List ℕ). unit ∷ l) (sym (take-append-drop (prefix_len is_word_unit units) units)))
+    size
+    (record { spelled = (refl, (starts, run_passes is_word_unit units)); ended = word_ended unit units other })
 
 -- ---- signs
 
@@ -368,6 +377,7 @@ found_sign first second units other = by (double_sign first second) (single_sign
     ended_by : (sign : SignKind) (behind : List ℕ) → ((next : ℕ) → goes_on (Sign sign) (first ∷ second ∷ []) next ≡ false) → stops (goes_on (Sign sign) (first ∷ second ∷ [])) behind ≡ true
     ended_by sign [] never = refl
     ended_by sign (next ∷ behind) never = ap not (never next)
+
     by : (double single : Option SignKind) → DoubleSays first second double → SingleSays first single → Found (first ∷ second ∷ units) (sign_by double single)
     by (Some sign) single double_is single_is = record { units = first ∷ second ∷ []; behind = units; joined = refl; size_is = refl; is = record { spelled = double_is.0; ended = ended_by sign units double_is.1 } }
     by None (Some sign) double_is single_is = record { units = first ∷ []; behind = second ∷ units; joined = refl; size_is = refl; is = record { spelled = single_is; ended = rw (as_text _ _ double_is.unequal, as_text _ _ double_is.less, as_text _ _ double_is.greater, as_text _ _ other.dashes, as_text _ _ other.comment) refl } }

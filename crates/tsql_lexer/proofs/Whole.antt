@@ -79,7 +79,7 @@ part_more lexeme before units behind is rest =
       right = (subst (Is lexeme units) rest.joined is, rest.right);
       spans = ap (λ (r : List Spanned × Option Flaw). r.0) read ∙ ap (λ (l : List Spanned). span_behind before units lexeme ++ l) rest.spans;
       end = subst (λ (l : List ℕ). Ends l rest.tail (read_on (units ++ behind) 0 (length before) (line_behind before)).1) (append_assoc before units (units_of rest.parts))
-        (subst (Ends ((before ++ units) ++ units_of rest.parts) rest.tail) (sym (ap (λ (r : List Spanned × Option Flaw). r.1) read)) rest.end);
+          (subst (Ends ((before ++ units) ++ units_of rest.parts) rest.tail) (sym (ap (λ (r : List Spanned × Option Flaw). r.1) read)) rest.end);
     }
 
 -- the same at a text that begins with the part
@@ -101,9 +101,10 @@ parted (suc most) before (unit ∷ units) few = by (piece_of (unit ∷ units)) r
   where
     text : List ℕ
     text = unit ∷ units
+
     by : (piece : Piece) → piece_of (unit ∷ units) ≡ piece → Found (unit ∷ units) piece
-      → ((b t : List ℕ) → length t ≤ most → Parted b t (read_on t 0 (length b) (line_behind b)))
-      → Parted before (unit ∷ units) (read_on (unit ∷ units) 0 (length before) (line_behind before))
+        → ((b t : List ℕ) → length t ≤ most → Parted b t (read_on t 0 (length b) (line_behind b)))
+        → Parted before (unit ∷ units) (read_on (unit ∷ units) 0 (length before) (line_behind before))
     by (Gap size) is stands rest = part_found None size before (unit ∷ units) stands (rest (before ++ stands.units) stands.behind (omega (arith, shorter None size (unit ∷ units) stands)))
     by (Token lexeme size) is stands rest = part_found (Some lexeme) size before (unit ∷ units) stands (rest (before ++ stands.units) stands.behind (omega (arith, shorter (Some lexeme) size (unit ∷ units) stands)))
     by (Failure kind) is named rest =
@@ -114,7 +115,7 @@ parted (suc most) before (unit ∷ units) few = by (piece_of (unit ∷ units)) r
           right = tt;
           spans = refl;
           end = subst (λ (l : List ℕ). Ends l (unit ∷ units) (Some (record { at = length before; line = line_behind before; kind = kind }))) (sym (append-nil before))
-            (no_part (unit ∷ units) kind is, ap (λ (k : LexKind). Some (record { at = length before; line = line_behind before; kind = k })) named);
+              (no_part (unit ∷ units) kind is, ap (λ (k : LexKind). Some (record { at = length before; line = line_behind before; kind = k })) named);
         })
 
 -- a text has the lexemes that are read of it, and the flaw
@@ -150,7 +151,7 @@ parts_read before (part ∷ parts) tail flaw right end =
     ap (λ (l : List ℕ). read_on l 0 (length before) (line_behind before)) (append_assoc part.units (units_of parts) tail)
     ∙ part_read part.lexeme before part.units (units_of parts ++ tail) (begins part.lexeme part.units (units_of parts ++ tail) right.0)
     ∙ ap (spanned before part.units part.lexeme) (parts_read (before ++ part.units) parts tail flaw right.1
-        (subst (λ (l : List ℕ). Ends l tail flaw) (sym (append_assoc before part.units (units_of parts))) end))
+    (subst (λ (l : List ℕ). Ends l tail flaw) (sym (append_assoc before part.units (units_of parts))) end))
 
 -- what a text lexes as is what is read of it
 pub lexes_once : (text : List ℕ) (lexemes : List Spanned) (flaw : Option Flaw) → Lexes text lexemes flaw → lexing_of text ≡ (lexemes, flaw)
