@@ -9,10 +9,14 @@
 //! every rule and every kind of lexeme (`proofs/RuleTests.antt`).
 #![tactic(auto)]
 
+mod choice;
+mod first;
 mod kind;
 mod laws;
 mod noted;
+mod place;
 mod rule;
+mod symbol;
 mod words;
 
 pub use kind::{Function, Kind, Reserved, Word};
