@@ -20,8 +20,6 @@
 mod config;
 mod login;
 mod prelogin;
-#[cfg(test)]
-mod tests;
 mod verdict;
 
 pub use config::{Config, Entry};

@@ -40,6 +40,3 @@ pub use reading::{law_tokens, read_tokens};
 pub use token::{DoneKind, Token};
 pub use wire::COLLATION;
 pub use writing::{bytes_of_tokens, write_tokens};
-
-#[cfg(test)]
-mod tests;
