@@ -28,6 +28,13 @@ solo_open solo = is_open solo.session solo.engine.active
 abbrev pub solo_marks : Solo → List ℕ
 solo_marks solo = marks_of solo.session solo.engine.active
 
--- what is behind the port: what it tells, and the runs of its session alone that lead to its engine
+-- what is behind the port: its session and what that has open, what it tells, and the runs of its session
+-- alone that lead to its engine
 abbrev pub solo_past : Solo → PortPast
-solo_past solo = record { told = solo.told; led_by = λ exchanges. Run opening (asked_by solo.session exchanges) solo.engine }
+solo_past solo = record {
+  session = solo.session;
+  is_open = solo_open solo;
+  marks = solo_marks solo;
+  told = solo.told;
+  led_by = λ exchanges. Run opening (asked_by solo.session exchanges) solo.engine;
+}

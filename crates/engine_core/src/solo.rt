@@ -2,7 +2,7 @@
 
 ghost use Rattle.std.specs.Prelude.{◌≡◌, [], Some, is_some, IfSome, IfOk, OnErr, ◌++◌, ◌∷◌, All};
 ghost use Rattle.std.specs.Option.{option_map};
-ghost use Rattle.step_model.specs.Exchange.{TellsAll, GoesOn, IsSession, MayAsk, CanReply, in_transaction_after, marks_after};
+ghost use Rattle.step_model.specs.Exchange.{TellsAll, GoesOn, IsSession, MayAsk, CanReply};
 ghost use Rattle.step_model.specs.Fits.{Fits};
 ghost use Rattle.step_model.specs.Step.{Step, opening};
 ghost use Rattle.engine_core.specs.Solo.{IsRunOf, solo_open, solo_marks, solo_past};
@@ -88,7 +88,6 @@ impl SoloPort {
         requires { MayAsk (solo_open self.old) (solo_marks self.old) op.now manner }
         ensures step { Step self.old.engine self.old.session op.now manner result self.new.engine }
         ensures past { GoesOn (solo_past self.old) (solo_past self.new) (record { op = op.now; manner = manner; reply = result } ∷ []) }
-        ensures session { self.new.session ≡ self.old.session }
     {
         let reply = self.engine.attempt(self.session, op, manner);
         tell(&mut self.told, self.alloc, op, manner, &reply);
@@ -97,15 +96,9 @@ impl SoloPort {
 }
 
 impl Port for SoloPort {
-    ghost use Rattle.engine_core.specs.Solo.{solo_open, solo_marks, solo_past};
+    ghost use Rattle.engine_core.specs.Solo.{solo_past};
 
     ghost past = { solo_past };
-
-    ghost session = { λ port. port.session };
-
-    ghost in_transaction = { solo_open };
-
-    ghost marks = { solo_marks };
 
     // Beside what the trait promises, each asking is a step of its engine.
     fn ask(&mut self, op: &Op, manner: Manner) -> Reply
@@ -113,8 +106,6 @@ impl Port for SoloPort {
         ensures past { GoesOn (solo_past self.old) (solo_past self.new) (record { op = op.now; manner = manner; reply = result } ∷ []) }
         ensures session { self.new.session ≡ self.old.session }
         ensures reply { CanReply op.now result }
-        ensures in_transaction { solo_open self.new ≡ in_transaction_after (solo_open self.old) op.now result }
-        ensures marks { solo_marks self.new ≡ marks_after (solo_marks self.old) op.now result }
         ensures step { Step self.old.engine self.old.session op.now manner result self.new.engine }
     {
         self.ask_engine(op, manner)

@@ -1,81 +1,196 @@
 -- What a tree does, from what its parts do.
-use Rattle.std.proofs.Common.{◌≡◌, true, false, List, [], ◌++◌, Option, None, Some, Result, Ok, Err, refl, sym, ap, ◌∙◌, append_assoc, append-nil, ◌∷◌, subst}
+use Rattle.std.proofs.Common.{◌≡◌, ℕ, Bool, true, false, if◌then◌else◌, inl, inr, List, [], ◌∷◌, ◌++◌, Result, Ok, Err, refl, sym, subst, append_assoc}
+use Rattle.step_model.proofs.Pasts.{goes_nowhere, goes_further}
 use Rattle.std.specs.Result.{IsErr, IsErrAnd}
-use Rattle.step_model.specs.declared.manner.Manner.{Manner}
-use Rattle.step_model.specs.Exchange.{Exchange, PortPast, TellsAll, GoesOn}
-use Rattle.session_server.specs.declared.effect.Failure.{Failure}
-use Rattle.session_server.specs.Asking.{Question, Answer, Asking, done, ask, asked, ◌then◌, Asks, Does}
-use Rattle.session_server.specs.Meaning.{◌>>=◌}
-use Rattle.session_server.proofs.Trees.{asks_then, asks_bind, asks_bind_err}
+use Rattle.value_types.specs.declared.memory.Memory.{Memory}
+use Rattle.step_model.specs.declared.op.Op.{Op}
+use Rattle.step_model.specs.declared.reply.Reply.{Reply}
+use Rattle.step_model.specs.Exchange.{Exchange, PortPast}
+use Rattle.session_server.specs.Progress.{Progress, Step, made, asked}
+use Rattle.session_server.specs.Doing.{Doing, over, reads, makes, asks, room, never, ◌then◌, Held, Left, Came, Does, Asked, Leads}
+use Rattle.session_server.specs.Meaning.{on_ok, ◌>>=◌, acted_by, acted}
+use Rattle.std.specs.Prelude.{pos}
+use Rattle.error_table.specs.declared.action.Action.{Action}
+use Rattle.error_table.specs.declared.action.RaisedBy.TheVariants.{Engine}
+use Rattle.error_table.specs.Act.{action_of}
+use Rattle.session_server.specs.declared.effect.Exit.{Exit}
+use Rattle.session_server.specs.declared.form.Form.{Form}
 
--- ---- what is behind the port
+-- ---- fronts
 
-tells_none : (told : Option (List Exchange)) → TellsAll told told []
-tells_none None = tt
-tells_none (Some told) = sym (append-nil told)
+pub left_nothing : {A : Type 0} (tree : Doing A) (p : Progress) → Left tree p [] p
+unfolding Left
+left_nothing (over a) p = (refl, refl)
+left_nothing (reads look) p = left_nothing (look p) p
+left_nothing (makes step next) p = inl (refl, refl)
+left_nothing (asks op go) p = refl
+left_nothing (room go) p = (false, left_nothing (go false) p)
+left_nothing never p = (refl, refl)
 
-tells_more : (before mid after : Option (List Exchange)) (first second : List Exchange) → TellsAll before mid first → TellsAll mid after second → TellsAll before after (first ++ second)
-tells_more None None None first second told more = tt
-tells_more None None (Some after) first second told more = absurd more
-tells_more None (Some mid) after first second told more = absurd told
-tells_more (Some before) None after [] second told more = absurd told
-tells_more (Some before) None None (exchange ∷ first) second told more = tt
-tells_more (Some before) None (Some after) (exchange ∷ first) second told more = absurd more
-tells_more (Some before) (Some mid) None first [] told more = absurd more
-tells_more (Some before) (Some mid) None [] (exchange ∷ second) told more = tt
-tells_more (Some before) (Some mid) None (x ∷ first) (exchange ∷ second) told more = tt
-tells_more (Some before) (Some mid) (Some after) first second told more = more ∙ ap (λ (s : List Exchange). s ++ second) told ∙ append_assoc before first second
+-- ---- one tree behind another
 
--- nothing was asked
-pub goes_nowhere : (past : PortPast) → GoesOn past past []
-goes_nowhere past = record { told = tells_none past.told; led = λ earlier led. subst past.led_by (sym (append-nil earlier)) led }
+pub held_then : {A B : Type 0} (tree : Doing A) (go : A → Doing B) (p mid new : Progress) (first second : List Exchange) (a : A) (b : B)
+    → Held tree p first a mid → Held (go a) mid second b new → Held (tree then go) p (first ++ second) b new
+unfolding Held ◌then◌
+held_then (over c) go p mid new first second a b held more = rw (held.0) (subst (λ q. Held (go c) q second b new) held.2 (subst (λ x. Held (go x) mid second b new) held.1 more))
+held_then (reads look) go p mid new first second a b held more = held_then (look p) go p mid new first second a b held more
+held_then (makes step next) go p mid new first second a b held more = held_then next go (made step p) mid new first second a b held more
+held_then (asks op next) go p mid new [] second a b held more = absurd held
+held_then (asks op next) go p mid new (x ∷ first) second a b held more = (held.0, held.1, held.2, held_then (next x.reply) go (asked op x.reply p) mid new first second a b held.3 more)
+held_then (room next) go p mid new first second a b held more = (held.0, held_then (next held.0) go p mid new first second a b held.1 more)
+held_then never go p mid new first second a b held more = absurd held
 
-pub goes_further : (before mid after : PortPast) (first second : List Exchange) → GoesOn before mid first → GoesOn mid after second → GoesOn before after (first ++ second)
-goes_further before mid after first second went more = record {
-  told = tells_more before.told mid.told after.told first second went.told more.told;
-  led = λ earlier led. subst after.led_by (append_assoc earlier first second) (more.led (earlier ++ first) (went.led earlier led));
+pub held_left : {A B : Type 0} (tree : Doing A) (go : A → Doing B) (p mid new : Progress) (first second : List Exchange) (a : A)
+    → Held tree p first a mid → Left (go a) mid second new → Left (tree then go) p (first ++ second) new
+unfolding Held Left ◌then◌
+held_left (over c) go p mid new first second a held more = rw (held.0) (subst (λ q. Left (go c) q second new) held.2 (subst (λ x. Left (go x) mid second new) held.1 more))
+held_left (reads look) go p mid new first second a held more = held_left (look p) go p mid new first second a held more
+held_left (makes step next) go p mid new first second a held more = inr (held_left next go (made step p) mid new first second a held more)
+held_left (asks op next) go p mid new [] second a held more = absurd held
+held_left (asks op next) go p mid new (x ∷ first) second a held more = (held.0, held.1, held.2, held_left (next x.reply) go (asked op x.reply p) mid new first second a held.3 more)
+held_left (room next) go p mid new first second a held more = (held.0, held_left (next held.0) go p mid new first second a held.1 more)
+held_left never go p mid new first second a held more = absurd held
+
+pub left_then : {A B : Type 0} (tree : Doing A) (go : A → Doing B) (p new : Progress) (exchanges : List Exchange) → Left tree p exchanges new → Left (tree then go) p exchanges new
+unfolding Left ◌then◌
+left_then (over c) go p new exchanges left = rw (left.0, left.1) (left_nothing (go c) p)
+left_then (reads look) go p new exchanges left = left_then (look p) go p new exchanges left
+left_then (makes step next) go p new exchanges (inl here) = inl here
+left_then (makes step next) go p new exchanges (inr later) = inr (left_then next go (made step p) new exchanges later)
+left_then (asks op next) go p new [] left = left
+left_then (asks op next) go p new (x ∷ later) left = (left.0, left.1, left.2, left_then (next x.reply) go (asked op x.reply p) new later left.3)
+left_then (room next) go p new exchanges left = (left.0, left_then (next left.0) go p new exchanges left.1)
+left_then never go p new exchanges left = left
+
+-- what comes behind a tree that came to a value
+pub came_then : {A B : Type 0} (tree : Doing A) (go : A → Doing B) (p mid new : Progress) (first second : List Exchange) (a : A) (result : Result B Memory)
+    → Held tree p first a mid → Came (go a) mid second result new → Came (tree then go) p (first ++ second) result new
+came_then tree go p mid new first second a (Ok b) held came = held_then tree go p mid new first second a b held came
+came_then tree go p mid new first second a (Err memory) held came = held_left tree go p mid new first second a held came
+
+-- ---- between two pasts of the port
+
+pub does_over : {before : PortPast} {A : Type 0} {a : A} {p new : Progress} → new ≡ p → Does before before (over a) p (Ok a) new
+unfolding Held
+does_over {before = before} same = record { exchanges = []; past = goes_nowhere before; came = (refl, refl, same) }
+
+pub does_reads : {before after : PortPast} {A : Type 0} {look : Progress → Doing A} {p new : Progress} {result : Result A Memory} → Does before after (look p) p result new → Does before after (reads look) p result new
+unfolding Held Left
+does_reads {A = A} {look = look} {p = p} {new = new} {result = Ok a} does = record { exchanges = does.exchanges; past = does.past; came = does.came }
+does_reads {A = A} {look = look} {p = p} {new = new} {result = Err m} does = record { exchanges = does.exchanges; past = does.past; came = does.came }
+
+pub does_makes : {before after : PortPast} {A : Type 0} {step : Step} {next : Doing A} {p q new : Progress} {result : Result A Memory} → q ≡ made step p → Does before after next q result new → Does before after (makes step next) p result new
+unfolding Held Left
+does_makes {A = A} {step = step} {next = next} {p = p} {q = q} {new = new} {result = Ok a} same does = record { exchanges = does.exchanges; past = does.past; came = subst (λ (x : Progress). Held next x does.exchanges a new) same does.came }
+does_makes {A = A} {step = step} {next = next} {p = p} {q = q} {new = new} {result = Err m} same does = record { exchanges = does.exchanges; past = does.past; came = inr (subst (λ (x : Progress). Left next x does.exchanges new) same does.came) }
+
+pub does_room : {before after : PortPast} {A : Type 0} {go : Bool → Doing A} {p new : Progress} {result : Result A Memory} (enough : Bool) → Does before after (go enough) p result new → Does before after (room go) p result new
+unfolding Held Left
+does_room {A = A} {go = go} {p = p} {new = new} {result = Ok a} enough does = record { exchanges = does.exchanges; past = does.past; came = (enough, does.came) }
+does_room {A = A} {go = go} {p = p} {new = new} {result = Err m} enough does = record { exchanges = does.exchanges; past = does.past; came = (enough, does.came) }
+
+-- one operation, and what its reply leads to
+pub does_asks : {before mid after : PortPast} {A : Type 0} {op : Op} {go : Reply → Doing A} {p q new : Progress} {reply : Reply} {result : Result A Memory}
+    → Asked before mid op p reply q → Does mid after (go reply) q result new → Does before after (asks op go) p result new
+unfolding Held Left
+does_asks {before = before} {mid = mid} {after = after} {A = A} {op = op} {go = go} {p = p} {q = q} {new = new} {reply = reply} {result = Ok a} first does = record {
+  exchanges = record { op = op; manner = p.manner; reply = reply } ∷ does.exchanges;
+  past = goes_further before mid after (record { op = op; manner = p.manner; reply = reply } ∷ []) does.exchanges first.past does.past;
+  came = (refl, refl, first.can, subst (λ (x : Progress). Held (go reply) x does.exchanges a new) first.same does.came);
+}
+does_asks {before = before} {mid = mid} {after = after} {A = A} {op = op} {go = go} {p = p} {q = q} {new = new} {reply = reply} {result = Err m} first does = record {
+  exchanges = record { op = op; manner = p.manner; reply = reply } ∷ does.exchanges;
+  past = goes_further before mid after (record { op = op; manner = p.manner; reply = reply } ∷ []) does.exchanges first.past does.past;
+  came = (refl, refl, first.can, subst (λ (x : Progress). Left (go reply) x does.exchanges new) first.same does.came);
 }
 
--- a result that fails so
-pub err_of : {X E : Type 0} (r : Result X E) (e : E) → IsErr r → IsErrAnd r (λ x. x ≡ e) → r ≡ Err e
-err_of (Ok x) e err same = absurd (let no : false ≡ true = err in cc)
-err_of (Err x) e err same = ap Err same
+pub does_then : {before mid after : PortPast} {A B : Type 0} (tree : Doing A) (go : A → Doing B) {p q new : Progress} {a : A} {result : Result B Memory}
+    → Does before mid tree p (Ok a) q → Does mid after (go a) q result new → Does before after (tree then go) p result new
+does_then {before = before} {mid = mid} {after = after} {A = A} {B = B} tree go {p = p} {q = q} {new = new} {a = a} {result = result} first second = record {
+  exchanges = first.exchanges ++ second.exchanges;
+  past = goes_further before mid after first.exchanges second.exchanges first.past second.past;
+  came = came_then tree go p q new first.exchanges second.exchanges a result first.came second.came;
+}
 
--- ---- what is done between two states of the port
+-- a test, where it holds and where it does not
+pub does_yes : {before after : PortPast} {A : Type 0} (test : Bool) (first other : Doing A) {p new : Progress} {result : Result A Memory} → test ≡ true → Does before after first p result new → Does before after (if test then first else other) p result new
+does_yes test first other holds does = rw holds does
 
-module _ (before mid after : PortPast) where
-  -- nothing is asked
-  pub does_nothing : {A : Type 0} (a : A) → Does before before (done a) a
-  unfolding Asks
-  does_nothing a = record { exchanges = []; past = goes_nowhere before; asks = (refl, refl) }
+pub does_no : {before after : PortPast} {A : Type 0} (test : Bool) (first other : Doing A) {p new : Progress} {result : Result A Memory} → test ≡ false → Does before after other p result new → Does before after (if test then first else other) p result new
+does_no test first other fails does = rw fails does
 
-  pub does_then : {A B : Type 0} (tree : Asking A) (go : A → Asking B) (a : A) (b : B) → Does before mid tree a → Does mid after (go a) b → Does before after (tree then go) b
-  does_then tree go a b first second = record {
-    exchanges = first.exchanges ++ second.exchanges;
-    past = goes_further before mid after first.exchanges second.exchanges first.past second.past;
-    asks = asks_then tree go first.exchanges second.exchanges a b first.asks second.asks;
-  }
+-- a way out by want of memory
+pub does_out : {before : PortPast} {A : Type 0} {tree : Doing A} {p new : Progress} (result : Result A Memory) → IsErr result → new ≡ p → Does before before tree p result new
+does_out (Ok a) err same = absurd (let no : false ≡ true = err in cc)
+does_out {before = before} {tree = tree} {p = p} (Err memory) err same = record { exchanges = []; past = goes_nowhere before; came = subst (λ (x : Progress). Left tree p [] x) (sym same) (left_nothing tree p) }
 
-  pub does_bind : {A B : Type 0} (tree : Asking (Result A Failure)) (go : A → Asking (Result B Failure)) (a : A) (b : Result B Failure) → Does before mid tree (Ok a) → Does mid after (go a) b → Does before after (tree >>= go) b
-  does_bind tree go a b first second = record {
-    exchanges = first.exchanges ++ second.exchanges;
-    past = goes_further before mid after first.exchanges second.exchanges first.past second.past;
-    asks = asks_bind tree go first.exchanges second.exchanges a b first.asks second.asks;
-  }
+-- behind a part that was left
+pub does_leave : {before after : PortPast} {A B : Type 0} (tree : Doing A) (go : A → Doing B) {p new : Progress} {memory : Memory} (result : Result B Memory) → IsErr result → Does before after tree p (Err memory) new → Does before after (tree then go) p result new
+does_leave tree go (Ok b) err first = absurd (let no : false ≡ true = err in cc)
+does_leave {A = A} {B = B} tree go {p = p} {new = new} (Err memory) err first = record { exchanges = first.exchanges; past = first.past; came = left_then tree go p new first.exchanges first.came }
 
-  pub does_bind_err : {A B : Type 0} (tree : Asking (Result A Failure)) (go : A → Asking (Result B Failure)) (failure : Failure) → Does before mid tree (Err failure) → Does before mid (tree >>= go) (Err failure)
-  does_bind_err tree go failure first = record { exchanges = first.exchanges; past = first.past; asks = asks_bind_err tree go first.exchanges failure first.asks }
+-- ---- what is left to do
 
-  -- a question, and what its answer leads to
-  pub does_ask : {B : Type 0} (how : Manner) (question : Question) (go : Answer question → Asking B) (answer : Answer question) (b : B) → Does before mid (asked how question) answer → Does mid after (go answer) b → Does before after (ask how question go) b
-  unfolding Asks ◌then◌
-  does_ask how question go answer b first second = record {
-    exchanges = first.exchanges ++ second.exchanges;
-    past = goes_further before mid after first.exchanges second.exchanges first.past second.past;
-    asks = asks_then (asked how question) go first.exchanges second.exchanges answer b first.asks second.asks;
-  }
+pub leads_here : {now : PortPast} {A : Type 0} {tree : Doing A} {p : Progress} → Leads now now tree p tree p
+leads_here {now = now} = record { front = []; past = goes_nowhere now; goes = λ later result new came. came }
 
-  -- a question, and what is made of its answer
-  pub does_made : {B : Type 0} (how : Manner) (question : Question) (make : Answer question → B) (answer : Answer question) → Does before mid (asked how question) answer → Does before mid (ask how question (λ x. done (make x))) (make answer)
-  unfolding Asks
-  does_made how question make answer first = record { exchanges = first.exchanges; past = first.past; asks = (first.asks.0, first.asks.1, first.asks.2, first.asks.3, first.asks.4, (first.asks.5.0, ap make first.asks.5.1)) }
+pub leads_to : {before now after : PortPast} {A : Type 0} {whole rest : Doing A} {old mid new : Progress} {result : Result A Memory} → Leads before now whole old rest mid → Does now after rest mid result new → Does before after whole old result new
+leads_to {before = before} {now = now} {after = after} {new = new} {result = result} leads does = record {
+  exchanges = leads.front ++ does.exchanges;
+  past = goes_further before now after leads.front does.exchanges leads.past does.past;
+  came = leads.goes does.exchanges result new does.came;
+}
+
+-- each way to go on, of a rest
+came_reads : {A : Type 0} (look : Progress → Doing A) (p : Progress) (later : List Exchange) (result : Result A Memory) (new : Progress) → Came (look p) p later result new → Came (reads look) p later result new
+unfolding Held Left
+came_reads look p later (Ok a) new came = came
+came_reads look p later (Err m) new came = came
+
+pub leads_reads : {before now : PortPast} {A : Type 0} {whole : Doing A} {look : Progress → Doing A} {old mid : Progress} → Leads before now whole old (reads look) mid → Leads before now whole old (look mid) mid
+leads_reads {look = look} {mid = mid} leads = record { front = leads.front; past = leads.past; goes = λ later result new came. leads.goes later result new (came_reads look mid later result new came) }
+
+came_makes : {A : Type 0} (step : Step) (next : Doing A) (p : Progress) (later : List Exchange) (result : Result A Memory) (new : Progress) → Came next (made step p) later result new → Came (makes step next) p later result new
+unfolding Held Left
+came_makes step next p later (Ok a) new came = came
+came_makes step next p later (Err m) new came = inr came
+
+pub leads_makes : {before now : PortPast} {A : Type 0} {whole next : Doing A} {step : Step} {old mid q : Progress} → q ≡ made step mid → Leads before now whole old (makes step next) mid → Leads before now whole old next q
+leads_makes {next = next} {step = step} {mid = mid} {q = q} same leads = record { front = leads.front; past = leads.past; goes = λ later result new came. leads.goes later result new (came_makes step next mid later result new (subst (λ (x : Progress). Came next x later result new) same came)) }
+
+pub leads_yes : {before now : PortPast} {A : Type 0} {whole : Doing A} (test : Bool) (first other : Doing A) {old mid : Progress} → test ≡ true → Leads before now whole old (if test then first else other) mid → Leads before now whole old first mid
+leads_yes test first other holds leads = rw holds at leads
+
+pub leads_no : {before now : PortPast} {A : Type 0} {whole : Doing A} (test : Bool) (first other : Doing A) {old mid : Progress} → test ≡ false → Leads before now whole old (if test then first else other) mid → Leads before now whole old other mid
+leads_no test first other fails leads = rw fails at leads
+
+pub leads_then : {before now after : PortPast} {A B : Type 0} {whole : Doing B} (tree : Doing A) (go : A → Doing B) {old mid q : Progress} {a : A} → Leads before now whole old (tree then go) mid → Does now after tree mid (Ok a) q → Leads before after whole old (go a) q
+leads_then {before = before} {now = now} {after = after} {whole = whole} tree go {old = old} {mid = mid} {q = q} {a = a} leads does = record {
+  front = leads.front ++ does.exchanges;
+  past = goes_further before now after leads.front does.exchanges leads.past does.past;
+  goes = λ later result new came. subst (λ (x : List Exchange). Came whole old x result new) (sym (append_assoc leads.front does.exchanges later))
+      (leads.goes (does.exchanges ++ later) result new (came_then tree go mid q new does.exchanges later a result does.came came));
+}
+
+-- where the rest comes to the same
+pub leads_same : {before now : PortPast} {A : Type 0} {whole rest other : Doing A} {old mid : Progress}
+    → ((later : List Exchange) (result : Result A Memory) (new : Progress) → Came other mid later result new → Came rest mid later result new) → Leads before now whole old rest mid → Leads before now whole old other mid
+leads_same same leads = record { front = leads.front; past = leads.past; goes = λ later result new came. leads.goes later result new (same later result new came) }
+
+-- ---- parts that may fail by an error's number
+
+-- behind a part that succeeded
+pub does_bind : {before mid after : PortPast} {A B : Type 0} (tree : Doing (Result A ℕ)) (go : A → Doing (Result B ℕ)) {p q new : Progress} {a : A} {result : Result (Result B ℕ) Memory}
+    → Does before mid tree p (Ok (Ok a)) q → Does mid after (go a) q result new → Does before after (tree >>= go) p result new
+does_bind tree go first second = does_then tree (on_ok go) first second
+
+-- behind one that failed
+pub does_fail : {before mid : PortPast} {A B : Type 0} (tree : Doing (Result A ℕ)) (go : A → Doing (Result B ℕ)) {p q : Progress} {number : ℕ} (result : Result B ℕ)
+    → IsErr result → IsErrAnd result (λ x. x ≡ number) → Does before mid tree p (Ok (Err number)) q → Does before mid (tree >>= go) p (Ok result) q
+does_fail tree go (Ok b) err same first = absurd (let no : false ≡ true = err in cc)
+does_fail {before = before} {mid = mid} {B = B} tree go {p = p} {q = q} (Err x) err same first = subst (λ (n : ℕ). Does {A = Result B ℕ} before mid (tree >>= go) p (Ok (Err n)) q) (sym same) (does_then tree (on_ok go) first (does_over refl))
+
+-- an error, by what it ends
+pub does_acted : {before after : PortPast} (statement : Form) (number : ℕ) {action : Action} {p new : Progress} {result : Result Exit Memory} → action ≡ action_of (pos number) Engine false false → Does before after (acted_by action statement number) p result new → Does before after (acted statement number) p result new
+unfolding acted
+does_acted {before = before} {after = after} statement number {p = p} {new = new} {result = result} is does = subst (λ (a : Action). Does before after (acted_by a statement number) p result new) is does

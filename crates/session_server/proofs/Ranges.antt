@@ -1,145 +1,125 @@
--- A range that is being read: what is done, and what is left, is the whole.
-use Rattle.std.proofs.Common.{◌≡◌, ℕ, ◌-◌, ◌<◌, Bool, true, false, List, [], ◌∷◌, ◌++◌, map, filter, Result, Ok, Err, refl, sym, ap, subst, ◌∙◌, append_assoc, append-nil, IfOk}
-use Rattle.std.specs.Result.{is_err}
-use Rattle.std.proofs.lemmas.List.{map-append}
-use Rattle.std.proofs.lemmas.List.Elements.{filter-append}
-use Rattle.lock_modes.specs.declared.KeyPart.{KeyPart}
-use Rattle.lock_modes.specs.declared.KeyPart.TheVariants.{S}
+-- A range that is read over a port, fetch by fetch.
+use Rattle.std.proofs.Common.{◌≡◌, ℕ, zero, suc, ◌-◌, ◌<◌, Bool, true, false, if◌then◌else◌, List, [], ◌∷◌, Result, Ok, Err, refl, sym, ap, ◌∙◌, subst, arith}
 use Rattle.value_types.specs.declared.table_name.TableName.{TableName}
 use Rattle.value_types.specs.declared.value.Value.{Value}
 use Rattle.step_model.specs.declared.manner.Manner.{Manner}
 use Rattle.step_model.specs.declared.op.Hold.{Hold}
 use Rattle.step_model.specs.declared.op.Op.{Op}
-use Rattle.step_model.specs.declared.op.Op.TheVariants.{Fetch}
 use Rattle.step_model.specs.declared.range.Start.{Start}
 use Rattle.step_model.specs.declared.range.Start.TheVariants.{First, Past}
-use Rattle.step_model.specs.declared.range.Stop.{Stop}
-use Rattle.step_model.specs.declared.range.Stop.TheVariants.{Last}
 use Rattle.step_model.specs.declared.reply.Reply.{Reply}
 use Rattle.step_model.specs.declared.reply.Reply.TheVariants as replies
-use Rattle.step_model.specs.Exchange.{Exchange, PortPast, in_transaction_after, GoesOn}
-use Rattle.session_server.specs.declared.asking.Refusal.{Refusal}
-use Rattle.session_server.specs.declared.asking.Refusal.TheVariants as refusals
-use Rattle.session_server.specs.Asking.{KeyedRows, Fetches, ReadsOn, with_row, range_limit, ReadAs, Asks}
-use Rattle.session_server.specs.Parts.{kept_rows, Reads, fetch_past}
-use Rattle.session_server.specs.Tables.{row_fits, table_rows_in}
-use Rattle.session_server.proofs.Composed.{goes_nowhere, goes_further}
+use Rattle.std.specs.Prelude.{IfOk}
+use Rattle.std.specs.Result.{is_err}
+use Rattle.step_model.specs.Exchange.{Exchange, PortPast, GoesOn, MayCome, CanReply, in_transaction_after}
+use Rattle.session_server.specs.Parts.{fetch_past}
+use Rattle.session_server.specs.Tables.{row_fits}
+use Rattle.step_model.specs.Dialog.{Dialog, over, Held, Leads, Asks}
+use Rattle.step_model.specs.Ranges.{Rows, Keeps, with_row, read_on, fetch_from, rows_from, range_limit, range_full, rows_of}
+use Rattle.step_model.proofs.Dialogs.{front_here, front_over, front_room, front_asks}
+use Rattle.session_server.specs.Progress.{Progress, asked, asked_all}
 
--- rows before those of an answer
-abbrev pub with_rows : KeyedRows → Result KeyedRows Refusal → Result KeyedRows Refusal
-with_rows front (Ok rows) = Ok (front ++ rows)
-with_rows front (Err refusal) = Err refusal
-
-with_no_rows : (answer : Result KeyedRows Refusal) → with_rows [] answer ≡ answer
-with_no_rows (Ok rows) = refl
-with_no_rows (Err refusal) = refl
-
-with_rows_row : (front : KeyedRows) (key row : List Value) (answer : Result KeyedRows Refusal) → with_rows front (with_row key row answer) ≡ with_rows (front ++ (key, row) ∷ []) answer
-with_rows_row front key row (Ok rows) = ap Ok (sym (append_assoc front ((key, row) ∷ []) rows))
-with_rows_row front key row (Err refusal) = refl
-
-pub rows_in_append : (front back : KeyedRows) → table_rows_in (front ++ back) ≡ table_rows_in front ++ table_rows_in back
-rows_in_append front back = ap (map {A = List Value × List Value} {B = List Value} (λ row. row.1)) (filter-append row_fits front back) ∙ map-append (λ row. row.1) (filter row_fits front) (filter row_fits back)
-
--- the whole range, where the rest of it gives this
-abbrev Whole : Manner → TableName → Hold → ℕ → Start → KeyedRows → List Exchange → Type 0
-Whole manner table hold left start front exchanges = (later : List Exchange) (answer : Result KeyedRows Refusal) → Fetches manner table Last hold S left start later answer
-    → Fetches manner table Last hold S range_limit First (exchanges ++ later) (with_rows front answer)
-
-pub record Reading (before now : PortPast) (manner : Manner) (table : TableName) (hold : Hold) (left : ℕ) (fetch : Op) (rows : List (List Value)) : Type 0 where
+-- these rows were read, and so many keys may still be looked at; what is left leads to the whole
+pub record Reading (before now : PortPast) (manner : Manner) (table : TableName) (hold : Hold) (left : ℕ) (fetch : Op) (rows : Rows) : Type 0 where
   pub start : Start
-  pub front : KeyedRows
-  pub exchanges : List Exchange
-  pub past : GoesOn before now exchanges
-  pub fetches : fetch ≡ Fetch table start Last hold S
-  pub kept : rows ≡ table_rows_in front
-  pub whole : Whole manner table hold left start front exchanges
+  pub fetches : fetch ≡ fetch_from table hold start
+  pub leads : Leads before now manner (rows_of row_fits table hold) (rows_from row_fits left table hold start rows)
 
-pub reading_begun : (told : PortPast) (manner : Manner) (table : TableName) (hold : Hold) → Reading told told manner table hold range_limit (Fetch table First Last hold S) []
-reading_begun told manner table hold = record {
-  start = First;
-  front = [];
-  exchanges = [];
-  past = goes_nowhere told;
-  fetches = refl;
-  kept = refl;
-  whole = λ later answer reads. subst (λ a. Fetches manner table Last hold S range_limit First later a) (sym (with_no_rows answer)) reads;
-}
+pub reading_begun : (now : PortPast) (manner : Manner) (table : TableName) (hold : Hold) → Reading now now manner table hold range_limit (fetch_from table hold First) []
+unfolding rows_of
+reading_begun now manner table hold = record { start = First; fetches = refl; leads = front_here }
 
--- a range that was read to its end
-reads_whole : (before after : PortPast) (manner : Manner) (table : TableName) (hold : Hold) (exchanges : List Exchange) (answer : Result KeyedRows Refusal) (result : Result (List (List Value)) Refusal) → GoesOn before after exchanges
-    → Fetches manner table Last hold S range_limit First exchanges answer → result ≡ kept_rows answer → Reads before after manner table hold result
-unfolding Asks ReadAs
-reads_whole before after manner table hold exchanges answer result told fetched kept = record {
-  answer = answer;
-  does = record { exchanges = exchanges; past = told; asks = (answer, exchanges, [], sym (append-nil exchanges), fetched, (refl, refl)) };
-  kept = kept;
-}
+module _ {before now : PortPast} {manner : Manner} {table : TableName} {hold : Hold} where
+  -- one fetch more
+  pub reading_next : {next : PortPast} (left : ℕ) {fetch : Op} {rows : Rows} {reply : Reply} → 0 < left → (reading : Reading before now manner table hold left fetch rows) → GoesOn now next (record { op = fetch; manner = manner; reply = reply } ∷ []) → CanReply fetch reply
+      → Leads before next manner (rows_of row_fits table hold) (read_on row_fits (λ key more. rows_from row_fits (left - 1) table hold (Past key) more) rows reply)
+  unfolding rows_from
+  reading_next zero some reading told can = absurd (omega arith)
+  reading_next {next = next} (suc left) {fetch = fetch} {rows = rows} {reply = reply} some reading told can =
+      let fewer : suc left - 1 ≡ left = omega arith in
+      subst (λ n. Leads before next manner (rows_of row_fits table hold) (read_on row_fits (λ key more. rows_from row_fits n table hold (Past key) more) rows reply)) (sym fewer)
+      (front_asks tt (read_on row_fits (λ key more. rows_from row_fits left table hold (Past key) more) rows) reply (subst (λ (op : Op). GoesOn now next (record { op = op; manner = manner; reply = reply } ∷ [])) reading.fetches told) (subst (λ op. CanReply op reply) reading.fetches can) reading.leads)
 
-module _ (before now next : PortPast) (manner : Manner) (table : TableName) (hold : Hold) (left : ℕ) (fetch : Op) (rows : List (List Value)) (reading : Reading before now manner table hold left fetch rows) (reply : Reply) (told : GoesOn now next (record { op = fetch; manner = manner; reply = reply } ∷ [])) (some : 0 < left) where
-  -- one exchange more
-  abbrev more : List Exchange
-  more = reading.exchanges ++ record { op = fetch; manner = manner; reply = reply } ∷ []
+  pub reading_row : (left : ℕ) {fetch : Op} (rows : Rows) (key row : List Value) (at : ℕ) {start : Start} → fetch ≡ fetch_from table hold start
+      → Leads before now manner (rows_of row_fits table hold) (read_on row_fits (λ k more. rows_from row_fits left table hold (Past k) more) rows (replies.Row key row at)) → Reading before now manner table hold left (fetch_past fetch key) (with_row row_fits rows key row)
+  reading_row left rows key row at is leads = record { start = Past key; fetches = ap (λ op. fetch_past op key) is; leads = front_room true _ leads }
 
-  more_told : GoesOn before next more
-  more_told = goes_further before now next reading.exchanges (record { op = fetch; manner = manner; reply = reply } ∷ []) reading.past told
+  pub reading_gone : (left : ℕ) {fetch : Op} (rows : Rows) (key : List Value) (at : ℕ) {start : Start} → fetch ≡ fetch_from table hold start
+      → Leads before now manner (rows_of row_fits table hold) (read_on row_fits (λ k more. rows_from row_fits left table hold (Past k) more) rows (replies.Gone key at)) → Reading before now manner table hold left (fetch_past fetch key) rows
+  reading_gone left rows key at is leads = record { start = Past key; fetches = ap (λ op. fetch_past op key) is; leads = leads }
 
-  -- what the exchange and those behind it give
-  onward : (later : List Exchange) (answer : Result KeyedRows Refusal) → ReadsOn (λ key rest. Fetches manner table Last hold S (left - 1) (Past key) later rest) reply later answer
-      → Fetches manner table Last hold S range_limit First (more ++ later) (with_rows reading.front answer)
-  onward later answer reads = subst (λ (s : List Exchange). Fetches manner table Last hold S range_limit First s (with_rows reading.front answer)) (sym (append_assoc reading.exchanges (record { op = fetch; manner = manner; reply = reply } ∷ []) later))
-      (reading.whole (record { op = fetch; manner = manner; reply = reply } ∷ later) answer (some, reading.fetches, refl, reads))
-
-  -- nothing is behind it
-  stopped : (answer : Result KeyedRows Refusal) (result : Result (List (List Value)) Refusal) → ReadsOn (λ key rest. Fetches manner table Last hold S (left - 1) (Past key) [] rest) reply [] answer → result ≡ kept_rows (with_rows reading.front answer) → Reads before next manner table hold result
-  stopped answer result reads kept = reads_whole before next manner table hold more (with_rows reading.front answer) result more_told (subst (λ (s : List Exchange). Fetches manner table Last hold S range_limit First s (with_rows reading.front answer)) (append-nil more) (onward [] answer reads)) kept
-
-  pub reading_row : (key row : List Value) (at : ℕ) → reply ≡ replies.Row key row at → Reading before next manner table hold (left - 1) (fetch_past fetch key) (rows ++ table_rows_in ((key, row) ∷ []))
-  reading_row key row at is = record {
-    start = Past key;
-    front = reading.front ++ (key, row) ∷ [];
-    exchanges = more;
-    past = more_told;
-    fetches = ap (λ op. fetch_past op key) reading.fetches;
-    kept = ap (λ (s : List (List Value)). s ++ table_rows_in ((key, row) ∷ [])) reading.kept ∙ sym (rows_in_append reading.front ((key, row) ∷ []));
-    whole = λ later answer reads. subst (λ (a : Result KeyedRows Refusal). Fetches manner table Last hold S range_limit First (more ++ later) a) (with_rows_row reading.front key row answer)
-        (onward later (with_row key row answer) (subst (λ r. ReadsOn (λ key rest. Fetches manner table Last hold S (left - 1) (Past key) later rest) r later (with_row key row answer)) (sym is) (answer, refl, reads)));
-  }
-
-  pub reading_gone : (key : List Value) (at : ℕ) → reply ≡ replies.Gone key at → Reading before next manner table hold (left - 1) (fetch_past fetch key) rows
-  reading_gone key at is = record {
-    start = Past key;
-    front = reading.front;
-    exchanges = more;
-    past = more_told;
-    fetches = ap (λ op. fetch_past op key) reading.fetches;
-    kept = reading.kept;
-    whole = λ later answer reads. onward later answer (subst (λ r. ReadsOn (λ key rest. Fetches manner table Last hold S (left - 1) (Past key) later rest) r later answer) (sym is) reads);
-  }
-
-  pub reading_ended : (at : ℕ) → reply ≡ replies.End at → Reads before next manner table hold (Ok rows)
-  reading_ended at is = stopped (Ok []) (Ok rows) (subst (λ r. ReadsOn (λ key rest. Fetches manner table Last hold S (left - 1) (Past key) [] rest) r [] (Ok [])) (sym is) (refl, refl)) (ap Ok (reading.kept ∙ ap table_rows_in (sym (append-nil reading.front))))
-
-  pub reading_refused : reply ≡ replies.Memory → Reads before next manner table hold (Err refusals.Memory)
-  reading_refused is = stopped (Err refusals.Memory) (Err refusals.Memory) (subst (λ r. ReadsOn (λ key rest. Fetches manner table Last hold S (left - 1) (Past key) [] rest) r [] (Err refusals.Memory)) (sym is) (refl, refl)) refl
-
-  -- there was no memory for the row
-  pub reading_lacks : (key row : List Value) (at : ℕ) → reply ≡ replies.Row key row at → Reads before next manner table hold (Err refusals.Memory)
-  reading_lacks key row at is = stopped (Err refusals.Memory) (Err refusals.Memory) (subst (λ r. ReadsOn (λ key rest. Fetches manner table Last hold S (left - 1) (Past key) [] rest) r [] (Err refusals.Memory)) (sym is) (Err refusals.Memory, refl, tt)) refl
-
--- the range has more keys than are looked at
-pub reading_limited : (before now : PortPast) (manner : Manner) (table : TableName) (hold : Hold) (left : ℕ) (fetch : Op) (rows : List (List Value)) → Reading before now manner table hold left fetch rows → left ≡ 0 → Reads before now manner table hold (Err refusals.Limit)
-reading_limited before now manner table hold left fetch rows reading none = reads_whole before now manner table hold reading.exchanges (Err refusals.Limit) (Err refusals.Limit) reading.past
-    (subst (λ (s : List Exchange). Fetches manner table Last hold S range_limit First s (Err refusals.Limit)) (append-nil reading.exchanges) (reading.whole [] (Err refusals.Limit) none)) refl
+  -- no key more is looked at
+  pub reading_limited : {left : ℕ} {fetch : Op} {rows : Rows} → Reading before now manner table hold left fetch rows → left ≡ 0 → Asks before now manner (rows_of row_fits table hold) (Err range_full)
+  unfolding rows_from
+  reading_limited {rows = rows} reading none = front_over _ (subst (λ n. Leads before now manner (rows_of row_fits table hold) (rows_from row_fits n table hold reading.start rows)) none reading.leads)
 
 -- a fetch neither begins nor ends a transaction
-pub fetch_stays : (b : Bool) (table : TableName) (start : Start) (stop : Stop) (hold : Hold) (part : KeyPart) (reply : Reply) → in_transaction_after b (Fetch table start stop hold part) reply ≡ b
-fetch_stays b table start stop hold part reply = refl
+pub fetch_stays : (b : Bool) {table : TableName} {start : Start} {hold : Hold} {fetch : Op} (reply : Reply) → fetch ≡ fetch_from table hold start → in_transaction_after b fetch reply ≡ b
+fetch_stays b reply is = ap (λ op. in_transaction_after b op reply) is
 
-pub reading_stays : (before now : PortPast) (manner : Manner) (table : TableName) (hold : Hold) (left : ℕ) (fetch : Op) (rows : List (List Value)) (b : Bool) (reply : Reply) → Reading before now manner table hold left fetch rows → in_transaction_after b fetch reply ≡ b
-reading_stays before now manner table hold left fetch rows b reply reading = ap (λ op. in_transaction_after b op reply) reading.fetches ∙ fetch_stays b table reading.start Last hold S reply
+pub may_fetch : (b : Bool) (marks : List ℕ) {table : TableName} {start : Start} {hold : Hold} {fetch : Op} → fetch ≡ fetch_from table hold start → b ≡ true → MayCome b marks fetch
+may_fetch b marks is begun = subst (λ op. MayCome b marks op) (sym is) (begun, tt)
+
+-- no other reply comes to a fetch
+pub no_other : {table : TableName} {start : Start} {hold : Hold} {fetch : Op} (reply : Reply) → fetch ≡ fetch_from table hold start → CanReply fetch reply → ((key row : List Value) (at : ℕ) → reply ≡ replies.Row key row at → ⊥)
+    → ((key : List Value) (at : ℕ) → reply ≡ replies.Gone key at → ⊥) → ((at : ℕ) → reply ≡ replies.End at → ⊥) → (reply ≡ replies.Memory → ⊥) → ⊥
+no_other {table = table} {start = start} {hold = hold} reply is can not-row not-gone not-end not-memory = cases reply (subst (λ op. CanReply op reply) is can) not-row not-gone not-end not-memory
+  where
+    cases : (reply : Reply) → CanReply (fetch_from table hold start) reply → ((key row : List Value) (at : ℕ) → reply ≡ replies.Row key row at → ⊥) → ((key : List Value) (at : ℕ) → reply ≡ replies.Gone key at → ⊥)
+        → ((at : ℕ) → reply ≡ replies.End at → ⊥) → (reply ≡ replies.Memory → ⊥) → ⊥
+    cases (replies.Row key row at) can not-row not-gone not-end not-memory = not-row key row at refl
+    cases (replies.Gone key at) can not-row not-gone not-end not-memory = not-gone key at refl
+    cases (replies.End at) can not-row not-gone not-end not-memory = not-end at refl
+    cases replies.Memory can not-row not-gone not-end not-memory = not-memory refl
+    cases reply can not-row not-gone not-end not-memory = absurd can
 
 -- what holds where a call answered Ok
 pub where_ok : {E : Type 0} (r : Result (Unit {0}) E) (P : Type 0) → is_err r ≡ false → IfOk r (λ _. P) → P
 where_ok (Ok _) P ok says = says
 where_ok (Err e) P ok says = absurd (let no : true ≡ false = ok in cc)
+
+-- ---- what was touched
+
+abbrev TouchedBy : Progress → List Exchange → Type 0
+TouchedBy p exchanges = asked_all exchanges (record p { touched = true }) ≡ record p { touched = true }
+
+touched_none : (p : Progress) (exchanges : List Exchange) → exchanges ≡ [] → TouchedBy p exchanges
+touched_none p exchanges none = ap (λ (l : List Exchange). asked_all l (record p { touched = true })) none
+
+module _ (keeps : Keeps) (manner : Manner) (table : TableName) (hold : Hold) (p : Progress) (result : Result Rows ℕ) where
+  -- behind a reply, where what goes on past a key touches it
+  reply_touches : (next : List Value → Rows → Dialog (Result Rows ℕ)) (rows : Rows) (reply : Reply) (later : List Exchange) → ((key : List Value) (more : Rows) → Held manner (next key more) later result → TouchedBy p later)
+      → Held manner (read_on keeps next rows reply) later result → TouchedBy p later
+  unfolding Held
+  reply_touches next rows (replies.Row key row at) later others held = by_room held.0 held.1
+    where
+      by_room : (enough : Bool) → Held manner (if enough then next key (with_row keeps rows key row) else over (Err 701)) later result → TouchedBy p later
+      by_room true held = others key (with_row keeps rows key row) held
+      by_room false held = touched_none p later held.0
+  reply_touches next rows (replies.Gone key at) later others held = others key rows held
+  reply_touches next rows (replies.End at) later others held = touched_none p later held.0
+  reply_touches next rows replies.Memory later others held = touched_none p later held.0
+  reply_touches next rows reply later others held = absurd held
+
+  rest_touches : (left : ℕ) (start : Start) (rows : Rows) (exchanges : List Exchange) → Held manner (rows_from keeps left table hold start rows) exchanges result → TouchedBy p exchanges
+  unfolding Held rows_from
+  rest_touches zero start rows exchanges held = touched_none p exchanges held.0
+  rest_touches (suc left) start rows [] held = absurd held
+  rest_touches (suc left) start rows (x ∷ later) held =
+      ap (λ (o : Op). asked_all later (asked o x.reply (record p { touched = true }))) held.0
+      ∙ reply_touches (λ key more. rows_from keeps left table hold (Past key) more) rows x.reply later (λ key more rest. rest_touches left (Past key) more later rest) held.3
+
+  -- a range is fetched at least once
+  first_touches : (left : ℕ) (start : Start) (rows : Rows) (exchanges : List Exchange) → Held manner (rows_from keeps (suc left) table hold start rows) exchanges result → asked_all exchanges p ≡ record p { touched = true }
+  unfolding Held rows_from
+  first_touches left start rows [] held = absurd held
+  first_touches left start rows (x ∷ later) held =
+      ap (λ (o : Op). asked_all later (asked o x.reply p)) held.0
+      ∙ reply_touches (λ key more. rows_from keeps left table hold (Past key) more) rows x.reply later (λ key more rest. rest_touches left (Past key) more later rest) held.3
+
+  pub range_touches : (exchanges : List Exchange) → Held manner (rows_of keeps table hold) exchanges result → asked_all exchanges p ≡ record p { touched = true }
+  unfolding rows_of
+  range_touches exchanges held = first_touches 9999999 First [] exchanges held
+
+pub asks_touched : {before after : PortPast} {manner : Manner} {result : Result Rows ℕ} (keeps : Keeps) (table : TableName) (hold : Hold) (p : Progress) {q : Progress} → q ≡ record p { touched = true } → (was : Asks before after manner (rows_of keeps table hold) result) → q ≡ asked_all was.exchanges p
+asks_touched {manner = manner} {result = result} keeps table hold p same was = same ∙ sym (range_touches keeps manner table hold p result was.exchanges was.held)

@@ -5,8 +5,8 @@ use Rattle.std.specs.Prelude.{codes}
 use Rattle.std.proofs.lemmas.List.{append-nil, append_assoc}
 use Rattle.session_server.proofs.Fronts.{earlier, same_parts, number_read, number_stood, name_read, name_stood, end_stood, last_read, last_stood}
 use Rattle.session_server.specs.Text.{◌>>=◌, create_word, columns_text, behind, run_of, number_of, at_end, selected_number, created_table, values_of, inserted_row, selected_table, statement_of, or_else, IsName, SpellsNumber, SpellsSelectNumber, SpellsCreateTable, SpellsInsert, SpellsSelectTable, Spells}
-use Rattle.session_server.specs.declared.statement.Statement.{Statement}
-use Rattle.session_server.specs.declared.statement.Statement.TheVariants.{SelectNumber, CreateTable, Insert, SelectTable, Unread}
+use Rattle.session_server.specs.declared.form.Form.{Form}
+use Rattle.session_server.specs.declared.form.Form.TheVariants.{SelectNumber, CreateTable, Insert, SelectTable, Unread}
 
 -- the words of the forms
 abbrev select_word : List ℕ
@@ -195,7 +195,7 @@ nothing : {A : Type 0} (read : Option A) (P : A → Type 0) → ((x : A) → rea
 nothing None P stood none = refl
 nothing (Some x) P stood none = absurd (none x (stood x refl))
 
-pub spelled_reads : (statement : Statement) (text : List ℕ) → Spells statement text → statement_of text ≡ statement
+pub spelled_reads : (statement : Form) (text : List ℕ) → Spells statement text → statement_of text ≡ statement
 unfolding statement_of
 spelled_reads (SelectNumber number) text spells = rw (select_number_read text number spells) refl
 spelled_reads (CreateTable name) text spells =

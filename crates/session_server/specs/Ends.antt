@@ -1,5 +1,4 @@
--- Own: the end of a connection for which no message comes, or whose response could not be sent, by the
--- fault that reading or sending has answered.
+-- Own: why a connection ended, and which end that is.
 use Rattle.session_server.specs.declared.end.End.{End}
 use Rattle.session_server.specs.declared.end.End.TheVariants.{Closed, Cut, BadHeader, TooLong, Spent, ReadFault, WriteFault, Memory}
 use Rattle.tds_packets.specs.declared.fault.MessageFault.{MessageFault}
@@ -21,3 +20,17 @@ end_of_message reading.Spent = Spent
 abbrev pub end_of_sending : SendFault → End
 end_of_sending sending.WriteFault = WriteFault
 end_of_sending sending.Memory = Memory
+
+-- Why a connection ended: no message came; the last message ended it; the response to the last one could
+-- not be sent; or there was no memory to make it.
+pub data Cause : Type 0 where
+  no_message : MessageFault → Cause
+  by_message : End → Cause
+  unsent : SendFault → Cause
+  unmade : Cause
+
+abbrev pub end_of : Cause → End
+end_of (no_message fault) = end_of_message fault
+end_of (by_message end) = end
+end_of (unsent fault) = end_of_sending fault
+end_of unmade = Memory

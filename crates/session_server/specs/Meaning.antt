@@ -1,127 +1,234 @@
--- Own: what each statement asks, in order, and what comes of the answers. Look-ups in `objects` hold the
--- key's range; a SELECT reads its table row by row, at the level READ COMMITTED. A statement that
--- asks anything is a transaction of its own, committed where it succeeds and else rolled back. A
--- meaning is a tree; the code asks the port, and goes on by its replies.
-use Rattle.std.specs.Prelude.{ℕ, pos, Bool, true, false, nat_le, if◌then◌else◌, List, length, Option, None, Some, Result, Ok, Err}
+-- Own: what a batch means: what its statements ask of the port, in order, and what comes of the replies.
+-- Look-ups in `objects` hold the key's range; a SELECT reads its table row by row, at the level READ
+-- COMMITTED. Outside a transaction a statement that asks anything is one of its own, committed where it
+-- succeeds and else rolled back. A meaning is a tree; the code asks the port, and goes on by its replies.
+use Rattle.std.specs.Prelude.{ℕ, pos, ◌==◌, Bool, true, false, nat_le, is_ok, if◌then◌else◌, List, [], ◌∷◌, length, Result, Ok, Err}
 use Rattle.lock_modes.specs.declared.KeyPart.TheVariants.{S}
 use Rattle.value_types.specs.declared.table_name.TableName.{TableName}
 use Rattle.value_types.specs.declared.value.Value.{Value}
-use Rattle.step_model.specs.declared.manner.Manner.{Manner}
-use Rattle.step_model.specs.declared.manner.Patience.TheVariants.{Forever}
+use Rattle.error_table.specs.declared.action.Action.{Action}
+use Rattle.error_table.specs.declared.action.Action.TheVariants.{Statement, Batch, BatchAndTransaction, Doom}
+use Rattle.error_table.specs.declared.action.RaisedBy.TheVariants.{Engine}
+use Rattle.error_table.specs.Act.{action_of}
+use Rattle.step_model.specs.declared.op.Hold.{Hold}
 use Rattle.step_model.specs.declared.op.Hold.TheVariants as hold
-use Rattle.step_model.specs.declared.range.Start.TheVariants.{First}
-use Rattle.step_model.specs.declared.range.Stop.TheVariants.{Last}
-use Rattle.session_server.specs.declared.asking.Refusal.{Refusal}
-use Rattle.session_server.specs.declared.asking.Refusal.TheVariants as refusals
+use Rattle.step_model.specs.declared.op.Op.{Op}
+use Rattle.step_model.specs.declared.op.Op.TheVariants as ops
+use Rattle.step_model.specs.declared.range.Start.TheVariants.{At}
+use Rattle.step_model.specs.declared.range.Stop.TheVariants.{Within}
+use Rattle.step_model.specs.declared.reply.Reply.{Reply}
+use Rattle.step_model.specs.declared.reply.Reply.TheVariants as replies
+use Rattle.step_model.specs.Ranges.{Rows, no_memory, rows_of}
 use Rattle.session_server.specs.declared.effect.Effect.{Effect}
 use Rattle.session_server.specs.declared.effect.Effect.TheVariants.{Number, Created, Inserted, Selected}
-use Rattle.session_server.specs.declared.effect.Failure.{Failure}
-use Rattle.session_server.specs.declared.effect.Failure.TheVariants.{UnknownTable, TablePresent, DuplicateKey, NoMemory, ResultLimit, RangeLimit, NotBuilt}
-use Rattle.session_server.specs.declared.statement.Statement.{Statement}
-use Rattle.session_server.specs.declared.statement.Statement.TheVariants.{SelectNumber, CreateTable, Insert, SelectTable, Unread}
-use Rattle.session_server.specs.Asking.{KeyedRows, begins, row_at, rows_of, marks, inserts, relaxes, commits, rolls_back, Asking, done, ask, ◌then◌}
-use Rattle.session_server.specs.Tables.{table_of, objects_name, is_objects, is_definition, object_key, object_row, table_key, table_row, table_rows_in}
+use Rattle.session_server.specs.declared.effect.Exit.{Exit}
+use Rattle.session_server.specs.declared.effect.Exit.TheVariants.{On, End}
+use Rattle.session_server.specs.declared.form.Form.{Form}
+use Rattle.session_server.specs.declared.form.Form.TheVariants.{SelectNumber, CreateTable, Insert, SelectTable, Unread}
+use Rattle.session_server.specs.Progress.{begins, counts, sends}
+use Rattle.session_server.specs.Doing.{Doing, over, reads, makes, asks, room, never, ◌then◌, ◌gives◌}
+use Rattle.session_server.specs.Response.{effect_tokens, failure_tokens, batch_done}
+use Rattle.session_server.specs.Tables.{table_of, objects_name, is_objects, is_definition, object_key, object_row, table_key, table_row, row_fits}
 
--- a session waits for locks, and has the deadlock priority 0, until it says otherwise
-abbrev pub first_manner : Manner
-first_manner = record { patience = Forever; priority = pos 0 }
+-- ---- the numbers of the errors
 
--- ---- failures
+abbrev pub unknown_table : ℕ
+unknown_table = 208
 
-abbrev pub failure_of : Refusal → Failure
-failure_of refusals.Memory = NoMemory
-failure_of refusals.Limit = RangeLimit
+abbrev pub duplicate_key : ℕ
+duplicate_key = 2627
 
-abbrev pub or_failure : {X : Type 0} → Result X Refusal → Result X Failure
-or_failure (Ok x) = Ok x
-or_failure (Err refusal) = Err (failure_of refusal)
+abbrev pub object_present : ℕ
+object_present = 2714
+
+abbrev pub statements_spent : ℕ
+statements_spent = 49001
+
+abbrev pub result_full : ℕ
+result_full = 49002
+
+abbrev pub not_built : ℕ
+not_built = 49099
+
+-- ---- parts of a statement, which may fail by an error's number
 
 -- going on where nothing failed
+abbrev pub on_ok : {A B : Type 0} → (A → Doing (Result B ℕ)) → Result A ℕ → Doing (Result B ℕ)
+on_ok go (Ok a) = go a
+on_ok go (Err number) = over (Err number)
+
 infixl 10 ◌>>=◌
-unfoldable pub ◌>>=◌ : {A B : Type 0} → Asking (Result A Failure) → (A → Asking (Result B Failure)) → Asking (Result B Failure)
-(done (Ok a)) >>= go = go a
-(done (Err failure)) >>= go = done (Err failure)
-(ask how question next) >>= go = ask how question (λ answer. next answer >>= go)
+abbrev pub ◌>>=◌ : {A B : Type 0} → Doing (Result A ℕ) → (A → Doing (Result B ℕ)) → Doing (Result B ℕ)
+tree >>= go = tree then on_ok go
 
--- ---- the parts of a statement
+-- what wants memory first fails where there is none
+abbrev pub with_room : {A : Type 0} → Doing (Result A ℕ) → Doing (Result A ℕ)
+with_room tree = room λ enough. if enough then tree else over (Err no_memory)
 
-abbrev pub known : List ℕ → Result (Option (List Value × List Value)) Refusal → Result (Unit {0}) Failure
-known name (Ok None) = Err UnknownTable
-known name (Ok (Some row)) = if is_definition name row then Ok tt else Err UnknownTable
-known name (Err refusal) = Err (failure_of refusal)
+-- whether what stands at a name's key in `objects` is its definition
+abbrev pub known : List ℕ → Reply → Doing (Result (Unit {0}) ℕ)
+known name (replies.Row key row at) = if is_definition name (key, row) then over (Ok tt) else over (Err unknown_table)
+known name (replies.Gone key at) = over (Err unknown_table)
+known name (replies.End at) = over (Err unknown_table)
+known name replies.Memory = over (Err no_memory)
+known name reply = never
+
+-- the fetch of one whole key of `objects`, whose range is held
+abbrev pub definition_fetch : List ℕ → Op
+definition_fetch name = ops.Fetch (table_of objects_name) (At (object_key name)) (Within (object_key name)) hold.Range S
 
 -- the name is looked up
-unfoldable pub look_up : List ℕ → Asking (Result (Unit {0}) Failure)
-look_up name = ask first_manner (row_at (table_of objects_name) (object_key name) hold.Range S) (λ found. done (known name found))
+unfoldable pub look_up : List ℕ → Doing (Result (Unit {0}) ℕ)
+look_up name = with_room (asks (definition_fetch name) (known name))
 
-abbrev pub placed : Failure → Result Bool Refusal → Result (Unit {0}) Failure
-placed failure (Ok true) = Ok tt
-placed failure (Ok false) = Err failure
-placed failure (Err refusal) = Err (failure_of refusal)
+-- the rows of a table are read, in order of their keys
+unfoldable pub reads_rows : List ℕ → Hold → Doing (Result Rows ℕ)
+reads_rows name hold = with_room (rows_of row_fits (table_of name) hold gives over)
 
--- a row is put at its key behind a mark; the failure stands where there is one
-unfoldable pub put_row : TableName → List Value → List Value → Failure → Asking (Result (Unit {0}) Failure)
-put_row table key row failure = ask first_manner marks (λ mark. done (or_failure mark)) >>= λ _. ask first_manner (inserts table key row) (λ free. done (placed failure free))
+-- what an insertion's reply says; a row that stands at the key is this error
+abbrev pub placed : ℕ → Reply → Doing (Result (Unit {0}) ℕ)
+placed present replies.Done = over (Ok tt)
+placed present replies.Exists = over (Err present)
+placed present replies.Memory = over (Err no_memory)
+placed present reply = never
+
+-- behind a mark
+abbrev pub marked : {A : Type 0} → Doing (Result A ℕ) → Reply → Doing (Result A ℕ)
+marked next (replies.Marked mark) = next
+marked next replies.Memory = over (Err no_memory)
+marked next reply = never
+
+-- a row is put at its key behind a mark; a row that stands there is this error
+unfoldable pub puts : TableName → List Value → List Value → ℕ → Doing (Result (Unit {0}) ℕ)
+puts table key row present = with_room (asks ops.Mark (marked (asks (ops.Insert table key row) (placed present))))
 
 -- how many rows a result has at most
 abbrev pub row_limit : ℕ
 row_limit = 1000000
 
-abbrev pub selected : List (List Value) → Result Effect Failure
-selected rows = if nat_le (length rows) row_limit then Ok (Selected rows) else Err ResultLimit
+-- rows that are not too many for a result
+abbrev pub selected : Rows → Doing (Result Effect ℕ)
+selected rows = if nat_le (length rows) row_limit then over (Ok (Selected rows)) else over (Err result_full)
 
-abbrev pub rows_read : Result KeyedRows Refusal → Result Effect Failure
-rows_read (Ok rows) = selected (table_rows_in rows)
-rows_read (Err refusal) = Err (failure_of refusal)
+-- ---- what each statement does within a transaction
 
--- the rows of a table are read, in order of their keys
-unfoldable pub read_table : List ℕ → Asking (Result Effect Failure)
-read_table name = ask first_manner (rows_of (table_of name) First Last hold.Row S) (λ found. done (rows_read found))
+-- a table's definition is a row of `objects`
+unfoldable pub creates : List ℕ → Doing (Result Effect ℕ)
+creates name = do
+  created ← puts (table_of objects_name) (object_key name) (object_row name) object_present
+  over (Ok Created)
 
-abbrev pub looked_through : Result KeyedRows Refusal → Result (Unit {0}) Failure
-looked_through (Ok rows) = Ok tt
-looked_through (Err refusal) = Err (failure_of refusal)
+-- its table is looked up, then triggers and tables that refer to it, of which there are none; then the
+-- row is put
+unfoldable pub inserts : List ℕ → ℕ → ℕ → Doing (Result Effect ℕ)
+inserts name key value = do
+  found ← look_up name
+  triggers ← reads_rows objects_name hold.Range
+  inserted ← puts (table_of name) (table_key key) (table_row key value) duplicate_key
+  over (Ok Inserted)
 
--- triggers, and tables that refer to the one written, are looked for; so far there are none
-unfoldable pub look_for_triggers : Asking (Result (Unit {0}) Failure)
-look_for_triggers = ask first_manner (rows_of (table_of objects_name) First Last hold.Range S) (λ found. done (looked_through found))
+-- its table is looked up, and read
+unfoldable pub selects : List ℕ → Doing (Result Effect ℕ)
+selects name = do
+  found ← look_up name
+  rows ← reads_rows name hold.Row
+  selected rows
 
--- ---- a statement's own transaction
+-- a case for each form
+abbrev pub work_of : Form → Doing (Result Effect ℕ)
+work_of (SelectNumber number) = over (Ok (Number number))
+work_of (CreateTable name) = creates name
+work_of (Insert name key value) = inserts name key value
+work_of (SelectTable name) = selects name
+work_of Unread = over (Err not_built)
 
--- its end: by what came of the statement
-unfoldable pub ending : Result Effect Failure → Asking (Result Effect Failure)
-ending (Ok effect) = ask first_manner commits (λ _. done (Ok effect))
-ending (Err failure) = ask first_manner rolls_back (λ _. done (Err failure))
+-- ---- transactions
 
--- The locks of a statement end before its transaction: Relax is asked once that has begun, also where
--- nothing was fetched or written.
-unfoldable pub begun : Result (Unit {0}) Refusal → Asking (Result Effect Failure) → Asking (Result Effect Failure)
-begun (Ok _) body = body then λ result. ask first_manner relaxes (λ _. ending result)
-begun (Err refusal) body = done (Err (failure_of refusal))
+-- behind a reply that ends a transaction
+abbrev pub where_ended : {A : Type 0} → Doing A → Reply → Doing A
+where_ended next (replies.Ended place) = next
+where_ended next reply = never
 
-unfoldable pub transaction : Asking (Result Effect Failure) → Asking (Result Effect Failure)
-transaction body = ask first_manner begins (λ began. begun began body)
+-- behind a reply that says that it is done
+abbrev pub where_done : {A : Type 0} → Doing A → Reply → Doing A
+where_done next replies.Done = next
+where_done next reply = never
+
+-- the locks of the statement end, where something was fetched or written
+unfoldable pub relaxes : Doing (Unit {0})
+relaxes = reads λ p. if p.touched then asks ops.Relax (where_done (over tt)) else over tt
+
+-- the statement's own transaction ends, by whether it succeeded
+unfoldable pub closes : Bool → Doing (Unit {0})
+closes true = asks ops.Commit (where_ended (over tt))
+closes false = asks ops.Rollback (where_ended (over tt))
+
+-- behind a transaction's begin
+abbrev pub where_begun : {A : Type 0} → Doing (Result A ℕ) → Reply → Doing (Result A ℕ)
+where_begun next replies.Began = next
+where_begun next replies.Memory = over (Err no_memory)
+where_begun next reply = never
+
+-- done within the open transaction, or one of its own
+unfoldable pub own : {A : Type 0} → Doing (Result A ℕ) → Doing (Result A ℕ)
+own work = reads λ p. if p.is_open
+    then work then (λ came. relaxes then λ _. over came)
+    else asks ops.Begin (where_begun (work then λ came. relaxes then λ _. closes (is_ok came) then λ _. over came))
+
+-- an open transaction is rolled back
+unfoldable pub rolls_back_open : Doing (Unit {0})
+rolls_back_open = reads λ p. if p.is_open then asks ops.Rollback (where_ended (over tt)) else over tt
 
 -- ---- statements
 
--- a table's definition is a row of `objects`
-unfoldable pub create : List ℕ → Asking (Result Effect Failure)
-create name = put_row (table_of objects_name) (object_key name) (object_row name) TablePresent >>= λ _. done (Ok Created)
-
-unfoldable pub insert : List ℕ → ℕ → ℕ → Asking (Result Effect Failure)
-insert name key value = look_up name >>= λ _. look_for_triggers >>= λ _. put_row (table_of name) (table_key key) (table_row key value) DuplicateKey >>= λ _. done (Ok Inserted)
-
-unfoldable pub select : List ℕ → Asking (Result Effect Failure)
-select name = look_up name >>= λ _. read_table name
-
 -- `objects` is no table of a batch: nothing is asked of it
-abbrev pub unless_objects : List ℕ → Failure → Asking (Result Effect Failure) → Asking (Result Effect Failure)
-unless_objects name failure statement = if is_objects name then done (Err failure) else transaction statement
+abbrev pub unless_objects : List ℕ → ℕ → Doing (Result Effect ℕ) → Doing (Result Effect ℕ)
+unless_objects name number work = if is_objects name then over (Err number) else own work
 
--- what a statement means
-unfoldable pub meaning_of : Statement → Asking (Result Effect Failure)
-meaning_of (SelectNumber number) = done (Ok (Number number))
-meaning_of (CreateTable name) = unless_objects name TablePresent (create name)
-meaning_of (Insert name key value) = unless_objects name UnknownTable (insert name key value)
-meaning_of (SelectTable name) = unless_objects name UnknownTable (select name)
-meaning_of Unread = done (Err NotBuilt)
+-- what comes of a statement
+unfoldable pub came_of : Form → Doing (Result Effect ℕ)
+came_of (SelectNumber number) = work_of (SelectNumber number)
+came_of (CreateTable name) = unless_objects name object_present (work_of (CreateTable name))
+came_of (Insert name key value) = unless_objects name unknown_table (work_of (Insert name key value))
+came_of (SelectTable name) = unless_objects name unknown_table (work_of (SelectTable name))
+came_of Unread = work_of Unread
+
+-- what an error ends; where it ends the transaction one that is open is rolled back
+unfoldable pub ended_by : Action → Doing Exit
+ended_by Statement = over On
+ended_by Doom = over On
+ended_by Batch = over End
+ended_by BatchAndTransaction = rolls_back_open then λ _. over End
+
+-- an error is sent, and ends what it ends
+abbrev pub acted_by : Action → Form → ℕ → Doing Exit
+acted_by action statement number = makes (sends (failure_tokens statement number action)) (ended_by action)
+
+-- there is no TRY around, and XACT_ABORT is OFF
+unfoldable pub acted : Form → ℕ → Doing Exit
+acted statement number = acted_by (action_of (pos number) Engine false false) statement number
+
+-- what is sent for a statement that came to this
+unfoldable pub finished : Form → Result Effect ℕ → Doing Exit
+finished statement (Ok effect) = makes (sends (effect_tokens statement effect)) (over On)
+finished statement (Err number) = acted statement number
+
+-- a statement
+unfoldable pub means : Form → Doing Exit
+means statement = came_of statement then finished statement
+
+-- ---- batches
+
+-- the next statement comes, unless the batch has ended
+abbrev pub goes_on : Doing Exit → Exit → Doing Exit
+goes_on next On = next
+goes_on next End = over End
+
+-- statements one after another; each counts as it begins
+unfoldable pub each_of : List Form → Doing Exit
+each_of [] = over On
+each_of (statement ∷ others) = reads λ p. if p.left == 0 then acted statement statements_spent else makes counts (means statement then goes_on (each_of others))
+
+-- a batch; however it ends, that is told
+unfoldable pub batch : List Form → Doing (Unit {0})
+batch statements = makes begins (each_of statements then λ exit. makes (sends (batch_done exit ∷ [])) (over tt))

@@ -1,40 +1,71 @@
--- Own: what the private parts of a connection give: the reader of a range, and the handling of a message.
--- No public clause cites this file. Each part is said of what the port told before and tells after it.
-use Rattle.std.specs.Prelude.{◌≡◌, ℕ, ◌≤◌, List, [], Result, Ok, Err}
-use Rattle.lock_modes.specs.declared.KeyPart.TheVariants.{S}
-use Rattle.value_types.specs.declared.table_name.TableName.{TableName}
+-- Own: what the private parts of a connection give. No public clause cites this file.
+use Rattle.std.specs.Prelude.{◌≡◌, ℕ, ◌+◌, ◌<◌, ◌^◌, ◌&&◌, Bool, false, List, [], ◌∷◌, ◌++◌, length, Option, Result, Ok, Err, IsTrue}
+use Rattle.std.specs.List.{All}
+use Rattle.value_types.specs.declared.memory.Memory.{Memory}
 use Rattle.value_types.specs.declared.value.Value.{Value}
-use Rattle.step_model.specs.declared.manner.Manner.{Manner}
-use Rattle.step_model.specs.declared.op.Hold.{Hold}
+use Rattle.tds_packets.specs.Header.{tabular_result}
+use Rattle.tds_packets.specs.Packets.{Packets, IsPacketSize, IsPartSent}
+use Rattle.tds_tokens.specs.declared.columns.ColumnInfo.{ColumnInfo}
+use Rattle.tds_tokens.specs.declared.token.Token.{Token}
+use Rattle.tds_tokens.specs.Fit.{FitTokens}
 use Rattle.step_model.specs.declared.op.Op.{Op}
 use Rattle.step_model.specs.declared.op.Op.TheVariants.{Fetch}
-use Rattle.step_model.specs.declared.range.Start.TheVariants.{First, Past}
-use Rattle.step_model.specs.declared.range.Stop.TheVariants.{Last}
-use Rattle.step_model.specs.Exchange.{PortPast, GoesOn}
-use Rattle.session_server.specs.declared.asking.Refusal.{Refusal}
-use Rattle.session_server.specs.Asking.{KeyedRows, rows_of, done, asked, Does}
-use Rattle.session_server.specs.Tables.{table_rows_in}
-use Rattle.tds_packets.specs.Packets.{Packets}
+use Rattle.step_model.specs.declared.range.Start.TheVariants.{Past}
+use Rattle.step_model.specs.Exchange.{Exchange, PortPast, GoesOn}
+use Rattle.session_server.specs.declared.effect.Effect.{Effect}
+use Rattle.session_server.specs.declared.effect.Effect.TheVariants.{Number, Selected}
+use Rattle.session_server.specs.declared.form.Form.{Form}
+use Rattle.session_server.specs.declared.form.Form.TheVariants.{SelectNumber}
+use Rattle.session_server.specs.declared.message.Handling.{Handling as MadeHandling}
+use Rattle.session_server.specs.declared.message.Handling.TheVariants.{Responds, Refuses, Ends}
 use Rattle.session_server.specs.declared.prepared.PreparedResponse.{PreparedResponse}
-use Rattle.session_server.specs.declared.end.End.{End}
-use Rattle.session_server.specs.declared.end.End.TheVariants.{LoginRefused, Memory}
-use Rattle.session_server.specs.declared.place.Place.{Place}
-use Rattle.session_server.specs.declared.place.Place.TheVariants.{LoggedIn}
-use Rattle.session_server.specs.declared.statement.Statement.{Statement}
+use Rattle.session_server.specs.declared.state.ServerState.{ServerState}
+use Rattle.session_server.specs.declared.state.ServerState.TheVariants.{LoggedIn}
+use Rattle.session_server.specs.Progress.{Progress, first_progress}
+use Rattle.session_server.specs.Doing.{Doing, over, Held, Left, Does}
+use Rattle.session_server.specs.Tables.{is_int}
 use Rattle.session_server.specs.Response.{Response}
-use Rattle.session_server.specs.Talk.{Handling, responds, refuses, ends, response_bytes}
-use Rattle.session_server.specs.Text.{statement_of}
+use Rattle.session_server.specs.Talk.{Handling, responds, refuses, ends, handle, walk_of, response_bytes}
+use Rattle.session_server.specs.Conversation.{Emptied, Heard, response_to}
+use Rattle.session_server.specs.Ends.{Cause, no_message, by_message, unsent, unmade, end_of}
+use Rattle.session_server.specs.declared.end.End.{End}
+use Rattle.session_server.specs.declared.end.End.TheVariants.{LoginRefused}
+use Rattle.std.specs.Io.KnownBytes.{Appends}
+use Rattle.tds_login.specs.declared.config.Config.{Config}
+use Rattle.tds_packets.specs.declared.message.Message.{Message}
+use Rattle.tds_packets.specs.Stream.{IsMessage}
+use Rattle.tds_packets.specs.Reading.{StopsBy}
 
--- the rows that are kept of a range's answer
-abbrev pub kept_rows : Result KeyedRows Refusal → Result (List (List Value)) Refusal
-kept_rows (Ok rows) = Ok (table_rows_in rows)
-kept_rows (Err refusal) = Err refusal
+-- ---- tokens that have bytes
 
--- a whole table was read, and this was kept of it
-pub record Reads (before after : PortPast) (manner : Manner) (table : TableName) (hold : Hold) (result : Result (List (List Value)) Refusal) : Type 0 where
-  pub answer : Result KeyedRows Refusal
-  pub does : Does before after (asked manner (rows_of table First Last hold S)) answer
-  pub kept : result ≡ kept_rows answer
+-- the tokens have bytes, whatever columns were described before them
+abbrev pub IsFit : List Token → Type 0
+IsFit tokens = (columns : List ColumnInfo) → FitTokens columns tokens
+
+-- a value for each column of a table, each of its type
+abbrev pub is_table_row : List Value → Bool
+is_table_row (key ∷ value ∷ []) = is_int key && is_int value
+is_table_row row = false
+
+abbrev pub AreTableRows : List (List Value) → Type 0
+AreTableRows rows = All (λ row. IsTrue (is_table_row row)) rows
+
+-- a number that has at most nine digits
+abbrev pub IsSmall : ℕ → Type 0
+IsSmall number = number < 10 ^ 9
+
+-- what the statement did can be sent
+abbrev pub IsSendable : Effect → Type 0
+IsSendable (Number number) = IsSmall number
+IsSendable (Selected rows) = AreTableRows rows
+IsSendable effect = Unit {0}
+
+-- a number that the statement selects is small
+abbrev pub IsSmallForm : Form → Type 0
+IsSmallForm (SelectNumber number) = IsSmall number
+IsSmallForm statement = Unit {0}
+
+-- ---- ranges
 
 -- the fetch of what is behind a key
 abbrev pub fetch_past : Op → List Value → Op
@@ -43,49 +74,100 @@ fetch_past op key = op
 
 -- ---- a message
 
--- a size that packets may have
-abbrev pub IsSize : ℕ → Type 0
-IsSize size = (512 ≤ size) × (size ≤ 32767)
-
--- the packets that are sent at a place have such a size; before the login it is a fixed one
-abbrev pub IsSized : Place → Type 0
-IsSized (LoggedIn size) = IsSize size
-IsSized place = Unit {0}
+-- the packets that are sent in a state have a size that packets may have; before the login it is a fixed one
+abbrev pub IsSized : ServerState → Type 0
+IsSized (LoggedIn size) = IsPacketSize size
+IsSized state = Unit {0}
 
 -- the packets that were prepared are the bytes of the response to a session of this SPID
-abbrev pub Bears : ℕ → Response → PreparedResponse → Type 0
-Bears spid response prepared = Packets 0x04 prepared.spid prepared.packet_size prepared.payload.items ≡ response_bytes spid response
+pub record Bears (spid : ℕ) (response : Response) (prepared : PreparedResponse) : Type 0 where
+  pub bytes : Packets tabular_result prepared.channel.spid prepared.channel.packet_size prepared.payload.items ≡ response_bytes spid response
+  pub sized : IsPacketSize prepared.channel.packet_size
 
--- a message's response was prepared, and so was how the connection goes on behind it
-abbrev pub IsMade : ℕ → Handling → PortPast → PortPast → PreparedResponse → Type 0
-IsMade spid (responds tree place) before after prepared = (response : Response) × Does before after tree response × Bears spid response prepared × (prepared.next ≡ Ok place)
-IsMade spid (refuses response number) before after prepared = GoesOn before after [] × Bears spid response prepared × (prepared.next ≡ Err (LoginRefused number))
-IsMade spid (ends end) before after prepared = ⊥
+-- something is answered
+abbrev pub HasResponse : Handling → Type 0
+HasResponse (ends end) = ⊥
+HasResponse handling = Unit {0}
 
--- the end that comes in place of a response: the message's, or want of memory for the response
-abbrev pub IsEndOf : Handling → PortPast → PortPast → End → Type 0
-IsEndOf (responds tree place) before after Memory = (response : Response) × Does before after tree response
-IsEndOf (responds tree place) before after end = ⊥
-IsEndOf (refuses response number) before after Memory = GoesOn before after []
-IsEndOf (refuses response number) before after end = ⊥
-IsEndOf (ends made) before after end = (made ≡ end) × GoesOn before after []
+-- the message was handled so, and the session has come so far; or memory was wanting for its response
+abbrev pub IsHandled : ℕ → PortPast → PortPast → Handling → Progress → Result MadeHandling Memory → Progress → Type 0
+IsHandled spid before after (responds tree next) old (Ok (Responds prepared to)) new =
+    (response : Response) × Does before after tree old (Ok response) new × Bears spid response prepared × (to ≡ next) × IsSized next
+IsHandled spid before after (refuses response number) old (Ok (Refuses prepared made)) new = Bears spid response prepared × (made ≡ LoginRefused number) × GoesOn before after [] × (new ≡ old)
+IsHandled spid before after (ends end) old (Ok (Ends made)) new = (made ≡ end) × GoesOn before after [] × (new ≡ old)
+IsHandled spid before after handling old (Ok made) new = ⊥
+IsHandled spid before after handling old (Err memory) new = HasResponse handling × Does before after (response_to handling) old (Err memory) new
 
--- ---- a message for which nothing is asked
+-- a message for which nothing is asked was handled so
+abbrev pub IsAnswered : ℕ → Handling → Result MadeHandling Memory → Type 0
+IsAnswered spid (responds tree next) (Ok (Responds prepared to)) = (response : Response) × (tree ≡ over response) × Bears spid response prepared × (to ≡ next) × IsSized next
+IsAnswered spid (refuses response number) (Ok (Refuses prepared made)) = Bears spid response prepared × (made ≡ LoginRefused number)
+IsAnswered spid (ends end) (Ok (Ends made)) = made ≡ end
+IsAnswered spid handling (Ok made) = ⊥
+IsAnswered spid handling (Err memory) = HasResponse handling
 
--- its response
-abbrev pub IsGiven : ℕ → Handling → PreparedResponse → Type 0
-IsGiven spid (responds tree place) prepared = (response : Response) × (tree ≡ done response) × Bears spid response prepared × (prepared.next ≡ Ok place)
-IsGiven spid (refuses response number) prepared = Bears spid response prepared × (prepared.next ≡ Err (LoginRefused number))
-IsGiven spid (ends end) prepared = ⊥
+-- how a message ends the connection
+abbrev pub EndsBy : ℕ → PortPast → PortPast → Option (List ℕ) → Option (List ℕ) → Progress → Progress → Handling → End → Type 0
+EndsBy spid before after sink_before sink_after old new (refuses response number) end = (end ≡ LoginRefused number) × GoesOn before after [] × (new ≡ old) × Appends sink_before sink_after (response_bytes spid response)
+EndsBy spid before after sink_before sink_after old new (ends made) end = (end ≡ made) × GoesOn before after [] × (new ≡ old) × Appends sink_before sink_after []
+EndsBy spid before after sink_before sink_after old new (responds tree next) end = ⊥
 
--- the end that comes in place of it
-abbrev pub IsEndGiven : Handling → End → Type 0
-IsEndGiven (responds tree place) Memory = (response : Response) × (tree ≡ done response)
-IsEndGiven (responds tree place) end = ⊥
-IsEndGiven (refuses response number) Memory = Unit {0}
-IsEndGiven (refuses response number) end = ⊥
-IsEndGiven (ends made) end = made ≡ end
+-- ---- one message more
 
--- a text says the statement
-abbrev pub IsSaid : Statement → Type 0
-IsSaid statement = (text : List ℕ) × (statement ≡ statement_of text)
+-- Of one message that was taken from offset `at` on and handled in this state: its response was made, and
+-- the packets were sent; `after` counts the bytes taken so far.
+pub record Turned (config : Config) (spid at : ℕ) (state : ServerState) (took : List ℕ → Type 0) (before after : PortPast) (sink_before sink_after : Option (List ℕ)) (old new : Progress) (count : ℕ) (next : ServerState) : Type 0 where
+  pub bytes : List ℕ
+  pub message : Message
+  pub tree : Doing Response
+  pub response : Response
+  pub taken : took bytes
+  pub is : IsMessage at bytes message
+  pub counted : count ≡ at + length bytes
+  pub handled : handle config state message ≡ responds tree next
+  pub does : Does before after tree old (Ok response) new
+  pub written : Appends sink_before sink_after (response_bytes spid response)
+
+-- what was done for the last message, and written
+abbrev pub EndsTurn : Config → ℕ → ℕ → ServerState → PortPast → PortPast → Option (List ℕ) → Option (List ℕ) → Progress → Progress → List ℕ → Cause → Type 0
+EndsTurn config spid at state before after sink_before sink_after old new bytes (no_message fault) = StopsBy at bytes fault × GoesOn before after [] × (new ≡ old) × Appends sink_before sink_after []
+EndsTurn config spid at state before after sink_before sink_after old new bytes (by_message end) = (message : Message) × IsMessage at bytes message × EndsBy spid before after sink_before sink_after old new (handle config state message) end
+EndsTurn config spid at state before after sink_before sink_after old new bytes (unsent fault) = (message : Message) × IsMessage at bytes message × HasResponse (handle config state message)
+    × (response : Response) × Does before after (response_to (handle config state message)) old (Ok response) new × IsPartSent sink_before sink_after (response_bytes spid response) fault
+EndsTurn config spid at state before after sink_before sink_after old new bytes unmade = (message : Message) × IsMessage at bytes message × HasResponse (handle config state message)
+    × (memory : Memory) × Does before after (response_to (handle config state message)) old (Err memory) new × Appends sink_before sink_after []
+
+-- The connection ended at bytes that were taken from offset `at` on.
+pub record Ended (config : Config) (spid at : ℕ) (state : ServerState) (took : List ℕ → Type 0) (left : Option (List ℕ)) (before after : PortPast) (sink_before sink_after : Option (List ℕ)) (old new : Progress) (end : End) : Type 0 where
+  pub bytes : List ℕ
+  pub cause : Cause
+  pub taken : took bytes
+  pub end_is : end ≡ end_of cause
+  pub how : EndsTurn config spid at state before after sink_before sink_after old new bytes cause
+  pub emptied : Emptied left cause
+
+-- ---- all messages
+
+-- all messages but the last have responses, and what is done for the last was left
+pub record Abandoned (config : Config) (before after : PortPast) (messages : List Message) (responses : List Response) (new : Progress) : Type 0 where
+  pub front : List Message
+  pub last : Message
+  pub state : ServerState
+  pub whole : messages ≡ front ++ last ∷ []
+  pub stands : (walk_of config front).stands ≡ Ok state
+  pub first : List Exchange
+  pub second : List Exchange
+  pub talked : Progress
+  pub past : GoesOn before after (first ++ second)
+  pub talk : Held (walk_of config front).talk first_progress first responses talked
+  pub left : Left (response_to (handle config state last)) talked second new
+
+-- what was asked for these messages before the connection's end, and how far the session has come
+abbrev pub IsAskedSoFar : Config → PortPast → PortPast → List Message → List Response → Progress → Cause → Type 0
+IsAskedSoFar config before after messages responses new unmade = Abandoned config before after messages responses new
+IsAskedSoFar config before after messages responses new cause = Does before after (walk_of config messages).talk first_progress (Ok responses) new
+
+-- All messages until the connection's end.
+pub record Spoke (config : Config) (spid : ℕ) (gave : List ℕ → Type 0) (left : Option (List ℕ)) (before after : PortPast) (sink_before sink_after : Option (List ℕ)) (new : Progress) (end : End) : Type 0 where
+  pub heard : Heard config spid gave left sink_before sink_after end
+  pub asked : IsAskedSoFar config before after heard.messages heard.responses new heard.cause

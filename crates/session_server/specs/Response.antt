@@ -1,123 +1,127 @@
--- What a client is sent ([MS-TDS] 2.2.7): the responses to messages, and the tokens of a statement's. They
--- are a function of the statement and of what came of it; the code makes the tokens, and nothing of what
--- was committed.
-use Rattle.std.specs.Prelude.{ℕ, ℤ, pos, Bool, true, false, if◌then◌else◌, List, [], ◌∷◌, ◌++◌, map, length, take, Some, Result, Ok, Err, codes}
+-- What a client is sent ([MS-TDS] 2.2.7): the tokens of a statement, by what came of it, and the responses
+-- to messages. Number, class and text of an error are those of the table of errors.
+use Rattle.std.specs.Prelude.{ℕ, ℤ, pos, ◌+◌, ◌==◌, if◌then◌else◌, List, [], ◌∷◌, ◌++◌, map, length, take, Option, None, Some, codes}
 use Rattle.value_types.specs.declared.sql_type.SqlType.TheVariants.{Int}
 use Rattle.value_types.specs.declared.value.Value.{Value}
 use Rattle.value_types.specs.declared.value.Value.TheVariants.{Whole}
-use Rattle.step_model.specs.declared.change.Change.{Change}
+use Rattle.error_table.specs.declared.action.Action.{Action}
+use Rattle.error_table.specs.declared.action.Action.TheVariants.{Statement, Batch, BatchAndTransaction, Doom}
+use Rattle.error_table.specs.Table.{ErrorLine, row_of}
+use Rattle.error_table.specs.Text.{text_with}
+use Rattle.step_model.specs.Ranges.{Rows}
 use Rattle.tds_tokens.specs.declared.columns.ColumnInfo.{ColumnInfo}
+use Rattle.tds_tokens.specs.Numbers.{done_final, done_more, done_error, done_count, done_attn, command_none, command_select, command_insert}
 use Rattle.tds_tokens.specs.declared.token.DoneKind.TheVariants.{Done}
 use Rattle.tds_tokens.specs.declared.token.Token.{Token}
 use Rattle.tds_tokens.specs.declared.token.Token.TheVariants.{Error, Columns, Row, Finished}
 use Rattle.session_server.specs.declared.effect.Effect.{Effect}
 use Rattle.session_server.specs.declared.effect.Effect.TheVariants.{Number, Created, Inserted, Selected}
-use Rattle.session_server.specs.declared.effect.Failure.{Failure}
-use Rattle.session_server.specs.declared.effect.Failure.TheVariants.{UnknownTable, TablePresent, DuplicateKey, NoMemory, ResultLimit, RangeLimit, NotBuilt}
-use Rattle.session_server.specs.declared.statement.Statement.{Statement}
-use Rattle.session_server.specs.declared.statement.Statement.TheVariants.{SelectNumber, CreateTable, Insert, SelectTable}
-use Rattle.session_server.specs.Tables.{table_of, objects_name, object_key, object_row, table_key, table_row}
+use Rattle.session_server.specs.declared.effect.Exit.{Exit}
+use Rattle.session_server.specs.declared.effect.Exit.TheVariants.{On, End}
+use Rattle.session_server.specs.declared.form.Form.{Form}
+use Rattle.session_server.specs.declared.form.Form.TheVariants.{SelectNumber, CreateTable, Insert, SelectTable}
 
 -- ---- errors
 
--- an error's number, its class, its text for a name, and whether the batch ends with it
-pub record ErrorRow : Type 0 where
-  pub number : ℕ
-  pub class : ℕ
-  pub text : List ℕ → List ℕ
-  pub ends_batch : Bool
+-- the class of an error, and of one that the table does not have
+abbrev pub class_of : Option ErrorLine → ℕ
+class_of (Some line) = line.class
+class_of None = 16
 
--- the errors of these statements (own; the numbers below 49000 are SQL Server's for such errors)
-abbrev pub error_row : Failure → ErrorRow
-error_row UnknownTable = record { number = 208; class = 16; text = λ name. codes "Invalid object name '" ++ name ++ codes "'."; ends_batch = true }
-error_row NoMemory = record { number = 701; class = 17; text = λ name. codes "There is insufficient memory to run this statement."; ends_batch = false }
-error_row DuplicateKey = record { number = 2627; class = 14; text = λ name. codes "Violation of constraint 'PK_" ++ name ++ codes "'. Duplicate key."; ends_batch = false }
-error_row TablePresent = record { number = 2714; class = 16; text = λ name. codes "There is already an object named '" ++ name ++ codes "'."; ends_batch = true }
-error_row ResultLimit = record { number = 49002; class = 16; text = λ name. codes "Result limit reached."; ends_batch = true }
-error_row RangeLimit = record { number = 49003; class = 16; text = λ name. codes "Join limit reached."; ends_batch = false }
-error_row NotBuilt = record { number = 49099; class = 16; text = λ name. codes "Not built."; ends_batch = true }
+-- its text with a name in its place; what the table does not have is not built yet
+abbrev pub message_of : Option ErrorLine → List ℕ → List ℕ
+message_of (Some line) name = text_with line.text name
+message_of None name = codes "Not built."
+
+-- ERROR with state 1, line 1 and no procedure; at most 2,000 units of its text are sent
+abbrev pub error_of : ℤ → Option ErrorLine → List ℕ → Token
+error_of number line name = Error (record { number = number; state = 1; class = class_of line; text = take 2000 (message_of line name); procedure = []; line = pos 1 })
+
+abbrev pub error_token : ℕ → List ℕ → Token
+error_token number name = error_of (pos number) (row_of (pos number)) name
 
 -- the table that a statement names, or nothing
-abbrev pub name_in : Statement → List ℕ
+abbrev pub name_in : Form → List ℕ
 name_in (CreateTable name) = name
 name_in (Insert name key value) = name
 name_in (SelectTable name) = name
 name_in statement = []
 
+-- what an error of a statement names: the table, or the constraint of its key
+abbrev pub subject_of : Form → ℕ → List ℕ
+subject_of statement number = if number == 2627 then codes "PK_" ++ name_in statement else name_in statement
+
 -- ---- DONE tokens ([MS-TDS] 2.2.7.6)
 
--- the command that a DONE names
-abbrev pub command_of : Statement → ℕ
-command_of (SelectNumber number) = 0xC1
-command_of (SelectTable name) = 0xC1
-command_of (Insert name key value) = 0xC3
-command_of statement = 0
+-- the command that a DONE names: SELECT, INSERT, or none
+abbrev pub command_of : Form → ℕ
+command_of (SelectNumber number) = command_select
+command_of (SelectTable name) = command_select
+command_of (Insert name key value) = command_insert
+command_of statement = command_none
 
 -- a statement's end with its count, where more follows: DONE_MORE and DONE_COUNT
-abbrev pub statement_done : Statement → ℕ → Token
-statement_done statement rows = Finished Done 0x11 (command_of statement) rows
+abbrev pub statement_done : Form → ℕ → Token
+statement_done statement rows = Finished Done (done_more + done_count) (command_of statement) rows
 
 -- a statement's end with an error, where more follows: DONE_MORE and DONE_ERROR
-abbrev pub statement_failed : Statement → Token
-statement_failed statement = Finished Done 0x03 (command_of statement) 0
+abbrev pub statement_failed : Form → Token
+statement_failed statement = Finished Done (done_more + done_error) (command_of statement) 0
 
--- ---- what is sent
+-- a batch's end: DONE_FINAL, or DONE_ERROR where an error ended it
+abbrev pub batch_done : Exit → Token
+batch_done On = Finished Done done_final command_none 0
+batch_done End = Finished Done done_error command_none 0
 
--- ERROR with state 1, line 1 and no procedure; at most 2,000 units of its text are sent
-abbrev pub error_token : ℤ → ℕ → List ℕ → Token
-error_token number class text = Error (record { number = number; state = 1; class = class; text = take 2000 text; procedure = []; line = pos 1 })
+-- an attention is acknowledged by DONE with DONE_ATTN ([MS-TDS] 2.2.1.7)
+abbrev pub attention_tokens : List Token
+attention_tokens = Finished Done done_attn command_none 0 ∷ []
 
--- the error of a row, for a name
-abbrev pub row_token : ErrorRow → List ℕ → Token
-row_token row name = error_token (pos row.number) row.class (row.text name)
+-- a login is refused by ERROR, and DONE with DONE_ERROR
+abbrev pub refusal_tokens : ℤ → List Token
+refusal_tokens number = error_of number (row_of number) [] ∷ Finished Done done_error command_none 0 ∷ []
+
+-- ---- what a statement sends
+
+-- the column of a selected number has no name
+abbrev pub number_column : List ColumnInfo
+number_column = record { kind = Int; name = [] } ∷ []
 
 -- the columns of a table
 abbrev pub table_columns : List ColumnInfo
 table_columns = record { kind = Int; name = codes "k" } ∷ record { kind = Int; name = codes "v" } ∷ []
 
-abbrev pub row_tokens : List (List Value) → List Token
+-- a token for each row
+abbrev pub row_tokens : Rows → List Token
 row_tokens rows = map {A = List Value} {B = Token} Row rows
 
 -- a result: its columns, its rows and their count
-abbrev pub result_tokens : Statement → List ColumnInfo → List (List Value) → List Token
+abbrev pub result_tokens : Form → List ColumnInfo → Rows → List Token
 result_tokens statement columns rows = Columns columns ∷ row_tokens rows ++ statement_done statement (length rows) ∷ []
 
--- what a statement sends: nothing where it creates a table; a DONE behind its error, unless that ends the batch
-abbrev pub statement_tokens : Statement → Result Effect Failure → List Token
-statement_tokens statement (Ok (Number number)) = result_tokens statement (record { kind = Int; name = [] } ∷ []) ((Whole (pos number) ∷ []) ∷ [])
-statement_tokens statement (Ok Created) = []
-statement_tokens statement (Ok Inserted) = statement_done statement 1 ∷ []
-statement_tokens statement (Ok (Selected rows)) = result_tokens statement table_columns rows
-statement_tokens statement (Err failure) = row_token (error_row failure) (name_in statement) ∷ (if (error_row failure).ends_batch then [] else statement_failed statement ∷ [])
+-- what a statement sends where it succeeds: nothing where it creates a table
+abbrev pub effect_tokens : Form → Effect → List Token
+effect_tokens statement (Number number) = result_tokens statement number_column ((Whole (pos number) ∷ []) ∷ [])
+effect_tokens statement Created = []
+effect_tokens statement Inserted = statement_done statement 1 ∷ []
+effect_tokens statement (Selected rows) = result_tokens statement table_columns rows
 
--- a batch's end: DONE_FINAL, or DONE_ERROR where an error ended it
-abbrev pub batch_status : Result Effect Failure → ℕ
-batch_status (Ok effect) = 0x00
-batch_status (Err failure) = if (error_row failure).ends_batch then 0x02 else 0x00
+-- the error of a statement
+abbrev pub failure_token : Form → ℕ → Token
+failure_token statement number = error_token number (subject_of statement number)
 
--- the statement's tokens, and the batch's end
-abbrev pub tokens_of : Statement → Result Effect Failure → List Token
-tokens_of statement result = statement_tokens statement result ++ Finished Done (batch_status result) 0 0 ∷ []
-
--- the row that a statement adds where it succeeds, as the changes of its commit
-abbrev pub added_by : Statement → Result Effect Failure → List (List Change)
-added_by (CreateTable name) (Ok Created) = (record { table = table_of objects_name; key = object_key name; row = Some (object_row name) } ∷ []) ∷ []
-added_by (Insert name key value) (Ok Inserted) = (record { table = table_of name; key = table_key key; row = Some (table_row key value) } ∷ []) ∷ []
-added_by statement result = []
+-- what a statement sends where it fails, by what the error ends: the statement's end is told where the
+-- batch goes on
+abbrev pub failure_tokens : Form → ℕ → Action → List Token
+failure_tokens statement number Batch = failure_token statement number ∷ []
+failure_tokens statement number BatchAndTransaction = failure_token statement number ∷ []
+failure_tokens statement number Statement = failure_token statement number ∷ statement_failed statement ∷ []
+failure_tokens statement number Doom = failure_token statement number ∷ statement_failed statement ∷ []
 
 -- ---- responses
 
 -- What a message is answered by: the options that answer every PRELOGIN ([MS-TDS] 2.2.6.5), or tokens in
--- packets of a size, and what was committed for them.
+-- packets of a size.
 pub data Response : Type 0 where
   options : Response
-  tabular : ℕ → List Token → List (List Change) → Response
-
--- the response to a statement
-abbrev pub response_of : ℕ → Statement → Result Effect Failure → Response
-response_of size statement result = tabular size (tokens_of statement result) (added_by statement result)
-
--- what was committed for a response
-abbrev pub commits_for : Response → List (List Change)
-commits_for options = []
-commits_for (tabular size tokens commits) = commits
+  tabular : ℕ → List Token → Response

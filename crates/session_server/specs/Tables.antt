@@ -1,13 +1,12 @@
 -- Own: the tables that batches speak of so far, each with two INT columns, k, its key, and v; and the
 -- table `objects`, which has a row for each of them: its name, and the text of its definition. What is
 -- no row is told by tests on values; the code makes the same tests on borrowed rows.
-use Rattle.std.specs.Prelude.{ℕ, pos, negsuc, ◌&&◌, Bool, true, false, List, [], ◌∷◌, map, filter, Option, None, Some, codes, int_le}
+use Rattle.std.specs.Prelude.{ℕ, pos, negsuc, ◌&&◌, Bool, true, false, List, [], ◌∷◌, Option, None, Some, codes, int_le}
 use Rattle.value_types.specs.Units.{same_units}
 use Rattle.value_types.specs.declared.table_name.TableName.{TableName}
 use Rattle.value_types.specs.declared.value.Value.{Value}
 use Rattle.value_types.specs.declared.value.Value.TheVariants.{Null, Whole, Text}
 use Rattle.session_server.specs.Text.{definition_text, created_table}
-use Rattle.session_server.specs.Asking.{KeyedRows}
 
 -- ---- names and rows
 
@@ -69,7 +68,3 @@ is_same a b = false
 abbrev pub row_fits : List Value × List Value → Bool
 row_fits (k ∷ [], key ∷ value ∷ []) = is_int key && is_int value && is_same k key
 row_fits row = false
-
--- the rows of an image that are rows of a table
-abbrev pub table_rows_in : KeyedRows → List (List Value)
-table_rows_in image = map {A = List Value × List Value} {B = List Value} (λ row. row.1) (filter row_fits image)

@@ -1,16 +1,13 @@
--- [MS-TDS] 2.2.1 and 3.3.5: what is answered to the messages of a client, each at its place: a response,
--- until one ends the connection, and the bytes of these. Responses depend on what the port answers, so the
--- talk is a tree of questions; the code handles one message after another.
-use Rattle.std.specs.Prelude.{ℕ, ℤ, pos, ◌-◌, ◌%◌, ◌==◌, ◌||◌, nat_lt, if◌then◌else◌, List, [], ◌∷◌, length, drop, Option, None, Some, Result, Ok, Err, codes}
+-- [MS-TDS] 2.2.1 and 3.3.5: what is answered to the messages of a client, by where the connection stands: a
+-- response, until one ends the connection, and the bytes of these. Responses depend on what the port answers,
+-- so the talk is what a session does; the code handles one message after another.
+use Rattle.std.specs.Prelude.{ℕ, ℤ, pos, ◌-◌, ◌%◌, ◌==◌, ◌||◌, nat_lt, if◌then◌else◌, List, [], ◌∷◌, ◌++◌, fold, length, drop, Option, None, Some, Result, Ok, Err}
 use Rattle.std.specs.List.{flat_map}
-use Rattle.std.specs.Ordering.{int_eq}
 use Rattle.byteorder.specs.Endian.{little_number}
 use Rattle.value_types.specs.Units.{units_of}
 use Rattle.tds_packets.specs.declared.message.Message.{Message}
+use Rattle.tds_packets.specs.Header.{sql_batch, tabular_result, attention, login7, prelogin}
 use Rattle.tds_packets.specs.Packets.{Packets, default_size}
-use Rattle.tds_tokens.specs.declared.token.DoneKind.TheVariants.{Done}
-use Rattle.tds_tokens.specs.declared.token.Token.{Token}
-use Rattle.tds_tokens.specs.declared.token.Token.TheVariants.{Finished}
 use Rattle.tds_tokens.specs.Spelling.{TokenBytes}
 use Rattle.tds_login.specs.declared.config.Config.{Config}
 use Rattle.tds_login.specs.declared.config.Entry.{Entry}
@@ -22,68 +19,55 @@ use Rattle.tds_login.specs.declared.prelogin.PreloginFault.{PreloginFault}
 use Rattle.tds_login.specs.Prelogin.{prelogin_of, prelogin_reply}
 use Rattle.tds_login.specs.Login.{login_of}
 use Rattle.tds_login.specs.Verdict.{judge_login, login_reply}
-use Rattle.step_model.specs.declared.change.Change.{Change}
 use Rattle.session_server.specs.declared.end.BatchFault.{BatchFault}
 use Rattle.session_server.specs.declared.end.BatchFault.TheVariants.{HeadersShort, HeadersTotal, OddText}
 use Rattle.session_server.specs.declared.end.End.{End}
 use Rattle.session_server.specs.declared.end.End.TheVariants.{OutOfPlace, BadPrelogin, LoginRefused, BadBatch}
-use Rattle.session_server.specs.declared.place.Place.{Place}
-use Rattle.session_server.specs.declared.place.Place.TheVariants.{Initial, LoginReady, LoggedIn}
-use Rattle.session_server.specs.declared.statement.Statement.{Statement}
+use Rattle.session_server.specs.declared.state.ServerState.{ServerState}
+use Rattle.session_server.specs.declared.state.ServerState.TheVariants.{Initial, LoginReady, LoggedIn}
+use Rattle.session_server.specs.declared.form.Form.{Form}
 use Rattle.session_server.specs.Text.{statement_of}
-use Rattle.session_server.specs.Asking.{Asking, done, ◌then◌}
-use Rattle.session_server.specs.Meaning.{meaning_of}
-use Rattle.session_server.specs.Response.{Response, options, tabular, error_token, response_of, commits_for}
-
--- ---- places
-
--- where a connection begins: before a login, or logged in
-abbrev pub first_place : Entry → Place
-first_place Login = Initial
-first_place Bare = LoggedIn default_size
+use Rattle.session_server.specs.Doing.{Doing, over, reads, ◌then◌}
+use Rattle.session_server.specs.Meaning.{batch}
+use Rattle.session_server.specs.Response.{Response, options, tabular, attention_tokens, refusal_tokens}
 
 -- ---- one message
 
--- How a message is handled: by a response, behind which the connection stands at a place; by a response
+-- where a connection begins: before a login, or logged in
+abbrev pub first_state : Entry → ServerState
+first_state Login = Initial
+first_state Bare = LoggedIn default_size
+
+-- How a message is handled: by a response, behind which the connection goes on in a state; by a response
 -- that refuses the login with an error's number, and ends the connection; or by its end alone.
 pub data Handling : Type 0 where
-  responds : Asking Response → Place → Handling
+  responds : Doing Response → ServerState → Handling
   refuses : Response → ℤ → Handling
   ends : End → Handling
 
 -- ---- PRELOGIN and LOGIN7
 
 -- every PRELOGIN that can be read is answered alike
-abbrev pub answer_to_prelogin : Result Prelogin PreloginFault → Handling
-answer_to_prelogin (Ok prelogin) = responds (done options) LoginReady
-answer_to_prelogin (Err fault) = ends (BadPrelogin fault)
+abbrev pub handle_prelogin : Result Prelogin PreloginFault → Handling
+handle_prelogin (Ok read) = responds (over options) LoginReady
+handle_prelogin (Err fault) = ends (BadPrelogin fault)
 
--- the classes and the texts of the errors that refuse a login (own; the number 18456 is SQL Server's)
-abbrev pub refusal_class : ℤ → ℕ
-refusal_class number = if int_eq number (pos 18456) then 14 else 16
-
-abbrev pub refusal_text : ℤ → List ℕ
-refusal_text number =
-    if int_eq number (pos 18456) then codes "Login failed."
-    else if int_eq number (pos 49011) then codes "Unknown database."
-    else codes "Login message cannot be read."
-
--- ERROR, and DONE with DONE_ERROR
-abbrev pub refusal_tokens : ℤ → List Token
-refusal_tokens number = error_token number (refusal_class number) (refusal_text number) ∷ Finished Done 0x02 0 0 ∷ []
-
-abbrev pub refusal : ℤ → Handling
-refusal number = refuses (tabular default_size (refusal_tokens number) []) number
+-- a login is refused by the error of this number
+abbrev pub refuse : ℤ → Handling
+refuse number = refuses (tabular default_size (refusal_tokens number)) number
 
 -- a login is granted with a packet size, which counts from the next message on
-abbrev pub answer_to_verdict : Result ℕ ℤ → Handling
-answer_to_verdict (Ok size) = responds (done (tabular default_size (login_reply size) [])) (LoggedIn size)
-answer_to_verdict (Err number) = refusal number
+abbrev pub handle_verdict : Result ℕ ℤ → Handling
+handle_verdict (Ok size) = responds (over (tabular default_size (login_reply size))) (LoggedIn size)
+handle_verdict (Err number) = refuse number
 
--- 49010 where a LOGIN7 can't be read
-abbrev pub answer_to_login : Config → Result LoginRecord LoginFault → Handling
-answer_to_login config (Ok login) = answer_to_verdict (judge_login login config)
-answer_to_login config (Err fault) = refusal (pos 49010)
+-- the number of the error where a LOGIN7 can't be read (own)
+abbrev pub unreadable_login : ℤ
+unreadable_login = pos 49010
+
+abbrev pub handle_login : Config → Result LoginRecord LoginFault → Handling
+handle_login config (Ok login) = handle_verdict (judge_login login config)
+handle_login config (Err fault) = refuse unreadable_login
 
 -- ---- batches and attentions
 
@@ -103,73 +87,78 @@ batch_fault payload =
 abbrev pub text_of : List ℕ → List ℕ
 text_of payload = units_of (drop (headers_length payload) payload)
 
--- a statement is asked and answered
-unfoldable pub answer_statement : ℕ → Statement → Asking Response
-answer_statement size statement = meaning_of statement then λ result. done (response_of size statement result)
+-- a batch of these statements, its tokens in packets of this size
+unfoldable pub batch_response : ℕ → List Form → Doing Response
+batch_response size statements = batch statements then λ _. reads λ p. over (tabular size p.tokens)
 
-abbrev pub answer_to_batch : ℕ → List ℕ → Option BatchFault → Handling
-answer_to_batch size payload None = responds (answer_statement size (statement_of (text_of payload))) (LoggedIn size)
-answer_to_batch size payload (Some fault) = ends (BadBatch fault)
+abbrev pub handle_batch : ℕ → List ℕ → Option BatchFault → Handling
+handle_batch size payload None = responds (batch_response size (statement_of (text_of payload) ∷ [])) (LoggedIn size)
+handle_batch size payload (Some fault) = ends (BadBatch fault)
 
--- an attention is acknowledged by DONE with DONE_ATTN ([MS-TDS] 2.2.1.7, 2.2.7.6)
-abbrev pub attention_tokens : List Token
-attention_tokens = Finished Done 0x20 0 0 ∷ []
+-- an attention is acknowledged
+abbrev pub handle_attention : ℕ → Handling
+handle_attention size = responds (over (tabular size attention_tokens)) (LoggedIn size)
 
 -- ---- all kinds of messages
 
--- The types of packets ([MS-TDS] 2.2.3.1.1): 0x01 SQL batch, 0x06 attention, 0x10 LOGIN7, 0x12 PRELOGIN.
--- A message of another type, or of one that has no place there, ends the connection.
-abbrev pub answer_to : Config → Place → Message → Handling
-answer_to config Initial message =
-    if message.kind == 0x12 then answer_to_prelogin (prelogin_of message.payload)
-    else if message.kind == 0x10 then answer_to_login config (login_of message.payload)
+-- By the type of its packets ([MS-TDS] 2.2.3.1.1). A message of another type, or of one that has no place
+-- there, ends the connection.
+abbrev pub handle : Config → ServerState → Message → Handling
+handle config Initial message =
+    if message.kind == prelogin then handle_prelogin (prelogin_of message.payload)
+    else if message.kind == login7 then handle_login config (login_of message.payload)
     else ends (OutOfPlace message.at message.kind)
-answer_to config LoginReady message =
-    if message.kind == 0x10 then answer_to_login config (login_of message.payload)
+handle config LoginReady message =
+    if message.kind == login7 then handle_login config (login_of message.payload)
     else ends (OutOfPlace message.at message.kind)
-answer_to config (LoggedIn size) message =
-    if message.kind == 0x01 then answer_to_batch size message.payload (batch_fault message.payload)
-    else if message.kind == 0x06 then responds (done (tabular size attention_tokens [])) (LoggedIn size)
+handle config (LoggedIn size) message =
+    if message.kind == sql_batch then handle_batch size message.payload (batch_fault message.payload)
+    else if message.kind == attention then handle_attention size
     else ends (OutOfPlace message.at message.kind)
 
 -- ---- all messages
 
--- the responses to the messages in order, up to the one that ends the connection; `others` is the talk
--- that follows at a place
-unfoldable pub talk_on : Handling → (Place → Asking (List Response)) → Asking (List Response)
-talk_on (responds tree place) others = tree then λ first. others place then λ later. done (first ∷ later)
-talk_on (refuses response number) others = done (response ∷ [])
-talk_on (ends end) others = done []
+-- what was answered so far, and where the connection stands behind it, or why it has ended there
+pub record Walk : Type 0 where
+  pub talk : Doing (List Response)
+  pub stands : Result ServerState End
 
-unfoldable pub Talk : Config → Place → List Message → Asking (List Response)
-Talk config place [] = done []
-Talk config place (message ∷ messages) = talk_on (answer_to config place message) (λ next. Talk config next messages)
+abbrev pub first_walk : Config → Walk
+first_walk config = record { talk = over []; stands = Ok (first_state config.entry) }
 
--- the end that a message makes, if one does
-abbrev pub end_on : Handling → (Place → Option End) → Option End
-end_on (responds tree place) later = later place
-end_on (refuses response number) later = Some (LoginRefused number)
-end_on (ends end) later = Some end
+-- one response more
+abbrev pub talk_more : Doing (List Response) → Doing Response → Doing (List Response)
+talk_more talk tree = talk then λ earlier. tree then λ response. over (earlier ++ response ∷ [])
 
-abbrev pub talk_end : Config → Place → List Message → Option End
-talk_end config place [] = None
-talk_end config place (message ∷ messages) = end_on (answer_to config place message) (λ next. talk_end config next messages)
+-- the walk behind a message that is handled so
+abbrev pub walk_on : Walk → Handling → Walk
+walk_on walk (responds tree next) = record { talk = talk_more walk.talk tree; stands = Ok next }
+walk_on walk (refuses response number) = record { talk = talk_more walk.talk (over response); stands = Err (LoginRefused number) }
+walk_on walk (ends end) = record { talk = walk.talk; stands = Err end }
 
--- ---- bytes, and commits
+-- behind its end nothing is handled
+abbrev pub walk_by : Config → Walk → Result ServerState End → Message → Walk
+walk_by config walk (Ok state) message = walk_on walk (handle config state message)
+walk_by config walk (Err end) message = walk
+
+abbrev pub with_message : Config → Walk → Message → Walk
+with_message config walk message = walk_by config walk walk.stands message
+
+-- The messages in order: the talk, and where it leaves the connection.
+unfoldable pub walk_of : Config → List Message → Walk
+walk_of config messages = fold (with_message config) (first_walk config) messages
+
+-- ---- bytes
 
 -- the SPID of the answer to a PRELOGIN, which is the same for all sessions
 abbrev pub prelogin_spid : ℕ
 prelogin_spid = 51
 
--- the bytes of a response to a session of this SPID: packets of type 0x04, tabular result
+-- the bytes of a response to a session of this SPID: packets of a tabular result
 abbrev pub response_bytes : ℕ → Response → List ℕ
-response_bytes spid options = Packets 0x04 prelogin_spid default_size prelogin_reply
-response_bytes spid (tabular size tokens commits) = Packets 0x04 spid size (TokenBytes tokens)
+response_bytes spid options = Packets tabular_result prelogin_spid default_size prelogin_reply
+response_bytes spid (tabular size tokens) = Packets tabular_result spid size (TokenBytes tokens)
 
 -- the bytes of all responses
 abbrev pub Bytes : ℕ → List Response → List ℕ
 Bytes spid responses = flat_map (response_bytes spid) responses
-
--- what was committed for them, commit by commit
-abbrev pub commits_in : List Response → List (List Change)
-commits_in responses = flat_map commits_for responses

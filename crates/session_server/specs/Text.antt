@@ -12,8 +12,8 @@
 use Rattle.std.specs.Prelude.{◌≡◌, ℕ, ◌≤◌, ◌+◌, ◌-◌, ◌*◌, ◌^◌, ◌&&◌, ◌==◌, Bool, nat_le, if◌then◌else◌, IsTrue, List, [], ◌∷◌, ◌++◌, length, take, drop, Option, None, Some, codes}
 use Rattle.std.specs.List.{prefix_len, list_all}
 use Rattle.value_types.specs.Units.{same_units}
-use Rattle.session_server.specs.declared.statement.Statement.{Statement}
-use Rattle.session_server.specs.declared.statement.Statement.TheVariants.{SelectNumber, CreateTable, Insert, SelectTable, Unread}
+use Rattle.session_server.specs.declared.form.Form.{Form}
+use Rattle.session_server.specs.declared.form.Form.TheVariants.{SelectNumber, CreateTable, Insert, SelectTable, Unread}
 
 -- the units of 0 to 9
 abbrev pub is_digit : ℕ → Bool
@@ -71,7 +71,7 @@ abbrev pub SpellsSelectTable : List ℕ → List ℕ → Type 0
 SpellsSelectTable name text = IsName name × (text ≡ codes "SELECT k, v FROM " ++ name)
 
 -- the text spells the statement; a text that spells none of the four is not built
-abbrev pub Spells : Statement → List ℕ → Type 0
+abbrev pub Spells : Form → List ℕ → Type 0
 Spells (SelectNumber number) text = SpellsSelectNumber number text
 Spells (CreateTable name) text = SpellsCreateTable name text
 Spells (Insert name key value) text = SpellsInsert name key value text
@@ -133,11 +133,11 @@ inserted_row text = behind (codes "INSERT INTO ") text >>= name_of >>= λ name. 
 -- ---- what a text says
 
 -- the first of two that there is
-abbrev pub or_else : Option Statement → Statement → Statement
+abbrev pub or_else : Option Form → Form → Form
 or_else None other = other
 or_else (Some statement) other = statement
 
-unfoldable pub statement_of : List ℕ → Statement
+unfoldable pub statement_of : List ℕ → Form
 statement_of text =
     or_else (selected_number text >>= λ number. Some (SelectNumber number))
     (or_else (created_table text >>= λ name. Some (CreateTable name))

@@ -1,151 +1,124 @@
-//! The questions of a statement, asked of a port.
+//! What a session asks of its port.
 
-ghost use Rattle.std.specs.Prelude.{◌≡◌, true, false, is_ok};
-ghost use Rattle.step_model.specs.Exchange.{IsPriority};
-ghost use Rattle.session_server.specs.Asking.{Does, asked, begins, marks, inserts, row_at, relaxes, commits, rolls_back};
+ghost use Rattle.std.specs.Prelude.{◌≡◌, true, false, Ok, IfOk};
+ghost use Rattle.step_model.specs.Dialog.{Asks};
+ghost use Rattle.step_model.specs.Exchange.{MayCome, CanReply, IsPriority};
+ghost use Rattle.step_model.specs.Ranges.{with_row, rows_of};
+ghost use Rattle.session_server.specs.Doing.{Asked, Does};
+ghost use Rattle.session_server.specs.Meaning.{rolls_back_open};
+ghost use Rattle.session_server.specs.Parts.{AreTableRows, fetch_past};
+ghost use Rattle.session_server.specs.Progress.{Ready};
+ghost use Rattle.session_server.specs.Tables.{row_fits};
 
+use crate::effect::{NO_MEMORY, RANGE_FULL, RowList};
+use crate::session::Session;
+use crate::tables::row_fits;
 use lock_modes::KeyPart;
+use std::alloc::Global;
 use step_model::{Hold, Manner, Op, Port, Reply, Start, Stop};
-use value_types::{Key, Row, TableName};
+use value_types::{Key, Memory, Row, TableName};
 
-/// Why a question was not answered.
-#[derive(Clone, Copy, Debug, PartialEq, Eq)]
-pub(crate) enum Refusal {
-    /// Memory was wanting.
-    Memory,
-    /// A range has too many keys.
-    Limit,
+/// How many keys of one range are looked at, at most.
+const RANGE_LIMIT: u32 = 10_000_000;
+
+/// Asks one operation in the session's manner.
+pub(crate) fn ask<P: Port>(session: &mut Session, port: &mut P, op: &Op) -> Reply
+    requires ready { Ready session.old (P.past port.old) }
+    requires may { MayCome (P.past port.old).is_open (P.past port.old).marks op.now }
+    ensures asked { Asked (P.past port.old) (P.past port.new) op.now session.old result session.new }
+    ensures reply { CanReply op.now result }
+    ensures ready { Ready session.new (P.past port.new) }
+{
+    let reply = port.ask(op, session.manner());
+    session.note(op, &reply);
+    reply
 }
 
-/// Begins a transaction.
-#[tactic(auto, using(crate::proofs::Asked::asked_once), unfolding(crate::specs::Asking::ReadAs))]
-pub(crate) fn begin<P: Port>(port: &mut P, manner: Manner) -> Result<(), Refusal>
-    requires ended { P.in_transaction port.old ≡ false }
-    requires priority { IsPriority manner.priority }
-    ensures does { Does (P.past port.old) (P.past port.new) (asked manner begins) result }
-    ensures begun { P.in_transaction port.new ≡ is_ok result }
-    ensures session { P.session port.new ≡ P.session port.old }
+/// Rolls an open transaction back.
+pub(crate) fn roll_back_open<P: Port>(session: &mut Session, port: &mut P)
+    requires ready { Ready session.old (P.past port.old) }
+    ensures does { Does (P.past port.old) (P.past port.new) rolls_back_open session.old (Ok result) session.new }
+    ensures ready { Ready session.new (P.past port.new) }
+    ensures closed { session.new.is_open ≡ false }
 {
-    match port.ask(&Op::Begin, manner) {
-        Reply::Began => Ok(()),
-        Reply::Memory => Err(Refusal::Memory),
-        _ => unreachable!(),
+    if session.is_open() {
+        match ask(session, port, &Op::Rollback) {
+            Reply::Ended { .. } => {}
+            _ => unreachable!(),
+        }
     }
 }
 
-/// Makes a mark, and answers its number.
-#[tactic(auto, using(crate::proofs::Asked::asked_once), unfolding(crate::specs::Asking::ReadAs))]
-pub(crate) fn mark<P: Port>(port: &mut P, manner: Manner) -> Result<u64, Refusal>
-    requires begun { P.in_transaction port.old ≡ true }
-    requires priority { IsPriority manner.priority }
-    ensures does { Does (P.past port.old) (P.past port.new) (asked manner marks) result }
-    ensures begun { P.in_transaction port.new ≡ true }
-    ensures session { P.session port.new ≡ P.session port.old }
-{
-    match port.ask(&Op::Mark, manner) {
-        Reply::Marked(mark) => Ok(mark),
-        Reply::Memory => Err(Refusal::Memory),
-        _ => unreachable!(),
-    }
-}
-
-/// Inserts a row, and answers whether its key was free.
-#[tactic(auto, using(crate::proofs::Asked::asked_once), unfolding(crate::specs::Asking::ReadAs))]
-pub(crate) fn insert<P: Port>(
+/// The rows of a table in order of their keys. What is no row of a table is left out.
+pub(crate) fn read_rows<P: Port>(
+    alloc: Global,
     port: &mut P,
     manner: Manner,
     table: TableName,
-    key: Key,
-    row: Row,
-) -> Result<bool, Refusal>
-    requires begun { P.in_transaction port.old ≡ true }
+    hold: Hold,
+) -> Result<RowList, u16>
+    requires begun { (P.past port.old).is_open ≡ true }
     requires priority { IsPriority manner.priority }
-    ensures does { Does (P.past port.old) (P.past port.new) (asked manner (inserts table key row)) result }
-    ensures begun { P.in_transaction port.new ≡ true }
-    ensures session { P.session port.new ≡ P.session port.old }
+    ensures asks { Asks (P.past port.old) (P.past port.new) manner (rows_of row_fits table hold) result }
+    ensures fit { IfOk result AreTableRows }
 {
-    match port.ask(&Op::Insert { table, key, row }, manner) {
-        Reply::Done => Ok(true),
-        Reply::Exists => Ok(false),
-        Reply::Memory => Err(Refusal::Memory),
-        _ => unreachable!(),
-    }
-}
-
-/// The row at one whole key, held for the transaction with its range, if there is one. `start` and
-/// `stop` have the same key.
-#[tactic(auto, using(crate::proofs::Asked::asked_once), unfolding(crate::specs::Asking::ReadAs))]
-pub(crate) fn find_row<P: Port>(
-    port: &mut P,
-    manner: Manner,
-    table: TableName,
-    start: Key,
-    stop: Key,
-) -> Result<Option<(Key, Row)>, Refusal>
-    requires begun { P.in_transaction port.old ≡ true }
-    requires priority { IsPriority manner.priority }
-    requires whole { stop ≡ start }
-    ensures does { Does (P.past port.old) (P.past port.new) (asked manner (row_at table start Hold.Range KeyPart.S)) result }
-    ensures begun { P.in_transaction port.new ≡ true }
-    ensures session { P.session port.new ≡ P.session port.old }
-{
-    let fetch = Op::Fetch {
+    let mut rows = RowList::new(alloc);
+    let mut fetch = Op::Fetch {
         table,
-        start: Start::At(start),
-        stop: Stop::Within(stop),
-        hold: Hold::Range,
+        start: Start::First,
+        stop: Stop::Last,
+        hold,
         part: KeyPart::S,
     };
-    match port.ask(&fetch, manner) {
-        Reply::Row { key, row, .. } => Ok(Some((key, row))),
-        Reply::Gone { .. } => Ok(None),
-        Reply::End { .. } => Ok(None),
-        Reply::Memory => Err(Refusal::Memory),
-        _ => unreachable!(),
+    let mut left = RANGE_LIMIT;
+    while 0 < left {
+        match port.ask(&fetch, manner) {
+            Reply::Row { key, row, .. } => {
+                if keep(&mut rows, &key, row).is_err() {
+                    return Err(NO_MEMORY);
+                }
+                fetch = past(fetch, key);
+            }
+            Reply::Gone { key, .. } => fetch = past(fetch, key),
+            Reply::End { .. } => return Ok(rows),
+            Reply::Memory => return Err(NO_MEMORY),
+            _ => unreachable!(),
+        }
+        left -= 1;
+    }
+    Err(RANGE_FULL)
+}
+
+/// The fetch of the rest of its range, past a key.
+fn past(fetch: Op, key: Key) -> Op
+    ensures { result ≡ fetch_past fetch key }
+{
+    match fetch {
+        Op::Fetch {
+            table,
+            stop,
+            hold,
+            part,
+            ..
+        } => Op::Fetch {
+            table,
+            start: Start::Past(key),
+            stop,
+            hold,
+            part,
+        },
+        other => other,
     }
 }
 
-/// Ends the locks of a statement.
-#[tactic(auto, using(crate::proofs::Asked::asked_once), unfolding(crate::specs::Asking::ReadAs))]
-pub(crate) fn relax<P: Port>(port: &mut P, manner: Manner)
-    requires begun { P.in_transaction port.old ≡ true }
-    requires priority { IsPriority manner.priority }
-    ensures does { Does (P.past port.old) (P.past port.new) (asked manner relaxes) result }
-    ensures begun { P.in_transaction port.new ≡ true }
-    ensures session { P.session port.new ≡ P.session port.old }
+/// Adds a row, if it is one of a table.
+fn keep(rows: &mut RowList, key: &Key, row: Row) -> Result<(), Memory>
+    requires fit { AreTableRows rows.old }
+    ensures kept { IfOk result (λ _. rows.new ≡ with_row row_fits rows.old key.now row) }
+    ensures fit { IfOk result (λ _. AreTableRows rows.new) }
 {
-    match port.ask(&Op::Relax, manner) {
-        Reply::Done => {}
-        _ => unreachable!(),
+    if row_fits(key, &row) {
+        rows.push(row)?;
     }
-}
-
-/// Ends the transaction and keeps its changes.
-#[tactic(auto, using(crate::proofs::Asked::asked_once), unfolding(crate::specs::Asking::ReadAs))]
-pub(crate) fn commit<P: Port>(port: &mut P, manner: Manner)
-    requires begun { P.in_transaction port.old ≡ true }
-    requires priority { IsPriority manner.priority }
-    ensures does { Does (P.past port.old) (P.past port.new) (asked manner commits) result }
-    ensures ended { P.in_transaction port.new ≡ false }
-    ensures session { P.session port.new ≡ P.session port.old }
-{
-    match port.ask(&Op::Commit, manner) {
-        Reply::Ended { .. } => {}
-        _ => unreachable!(),
-    }
-}
-
-/// Ends the transaction and forgets its changes.
-#[tactic(auto, using(crate::proofs::Asked::asked_once), unfolding(crate::specs::Asking::ReadAs))]
-pub(crate) fn roll_back<P: Port>(port: &mut P, manner: Manner)
-    requires begun { P.in_transaction port.old ≡ true }
-    requires priority { IsPriority manner.priority }
-    ensures does { Does (P.past port.old) (P.past port.new) (asked manner rolls_back) result }
-    ensures ended { P.in_transaction port.new ≡ false }
-    ensures session { P.session port.new ≡ P.session port.old }
-{
-    match port.ask(&Op::Rollback, manner) {
-        Reply::Ended { .. } => {}
-        _ => unreachable!(),
-    }
+    Ok(())
 }

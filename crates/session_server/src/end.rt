@@ -2,9 +2,11 @@
 
 ghost use Rattle.std.specs.Prelude.{◌≡◌};
 ghost use Rattle.session_server.specs.Ends.{end_of_message, end_of_sending};
+ghost use Rattle.session_server.specs.declared.end.End.TheVariants.{Memory};
 
 use tds_login::PreloginFault;
 use tds_packets::{MessageFault, SendFault};
+use value_types::Memory as NoMemory;
 
 /// What is wrong with the payload of a batch ([MS-TDS] 2.2.5.3).
 #[derive(Clone, Copy, Debug, PartialEq, Eq)]
@@ -94,5 +96,13 @@ impl From<SendFault> for End {
             SendFault::WriteFault => End::WriteFault,
             SendFault::Memory => End::Memory,
         }
+    }
+}
+
+impl From<NoMemory> for End {
+    ghost from_gives = { λ _ end. end ≡ Memory };
+
+    fn from(_wanting: NoMemory) -> End {
+        End::Memory
     }
 }

@@ -1,28 +1,27 @@
 //! One connection over a port: its messages read, its login judged, its batches run, its responses sent.
 //!
-//! Read `specs/Talk.antt` first: how each message is handled, and what is asked of the port for it; then
-//! `specs/Conversation.antt`: what one connection did. The layer above relies on [`serve_on_port`],
-//! whatever stands behind the port, the source and the sink.
+//! Read `specs/Lib.antt`: it names the definitions in order. The layer above relies on [`serve_on_port`],
+//! whatever stands behind the port, the source and the sink: every byte written and every operation asked
+//! is what the messages mean, up to the end that is answered, and no transaction is open then. It asks of
+//! its caller that the port is the session's own, with no transaction open. Only tests show that memory
+//! is not said to be wanting where there is enough.
 #![tactic(auto)]
 
 mod asking;
-mod batch;
 mod effect;
 mod end;
-mod login;
-mod payload;
-mod place;
+mod form;
+mod message;
 mod prepared;
-mod range;
-mod responding;
 mod response;
-mod running;
 mod serving;
+mod session;
+mod state;
 mod statement;
 mod tables;
 mod text;
 
 pub use end::{BatchFault, End};
+pub use form::Form;
 pub use serving::serve_on_port;
-pub use statement::Statement;
 pub use text::law_texts;

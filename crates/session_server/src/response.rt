@@ -1,79 +1,59 @@
 //! The tokens that answer a statement.
 
-ghost use Rattle.std.specs.Prelude.{◌≡◌, ◌++◌, pos, [], ◌∷◌, IfOk};
-ghost use Rattle.session_server.specs.Response.{error_row, name_in, command_of, statement_done, statement_failed, error_token, row_token, table_columns, row_tokens, result_tokens, statement_tokens, batch_status, tokens_of};
+ghost use Rattle.std.specs.Prelude.{◌≡◌, ◌++◌, ◌<◌, pos, [], ◌∷◌, All, take, IfOk};
+ghost use Rattle.error_table.specs.Table.{row_of};
+ghost use Rattle.error_table.specs.Text.{text_with};
+ghost use Rattle.session_server.specs.Parts.{IsFit, IsSendable};
+ghost use Rattle.tds_tokens.specs.Fit.{FitTokens};
+ghost use Rattle.session_server.specs.Response.{error_of, name_in, subject_of, command_of, statement_done, statement_failed, batch_done, attention_tokens, refusal_tokens, number_column, table_columns, row_tokens, result_tokens, effect_tokens, failure_token, failure_tokens};
 
-use crate::effect::{Effect, Failure};
-use crate::statement::Statement;
+use crate::effect::{DUPLICATE_KEY, Effect, Exit};
+use crate::form::Form;
 use crate::tables::around;
+use error_table::{Action, parts_of, row_of};
 use std::alloc::Global;
 use tds_tokens::{
-    ColumnInfo, ColumnList, DONE_COUNT, DONE_ERROR, DONE_FINAL, DONE_MORE, DoneKind, Notice, Token,
+    COMMAND_INSERT, COMMAND_NONE, COMMAND_SELECT, ColumnInfo, ColumnList, DONE_ATTN, DONE_COUNT,
+    DONE_ERROR, DONE_FINAL, DONE_MORE, DoneKind, Notice, Token,
 };
 use value_types::{Memory, Row, SqlType, Units, Value};
 
-/// A SELECT was run.
-const COMMAND_SELECT: u16 = 0xC1;
+// ---- what a statement sends
 
-/// An INSERT was run.
-const COMMAND_INSERT: u16 = 0xC3;
-
-/// The tokens that answer a statement which came to this.
-pub(crate) fn response_tokens(
+/// What a statement sends where it succeeds. The tokens have bytes.
+pub(crate) fn effect_tokens(
     alloc: Global,
-    statement: &Statement,
-    came: Result<Effect, Failure>,
+    statement: &Form,
+    effect: Effect,
 ) -> Result<Vec<Token>, Memory>
-    ensures { IfOk result (λ tokens. tokens.items ≡ tokens_of statement.now came) }
+    requires sendable { IsSendable effect }
+    ensures tokens { IfOk result (λ tokens. tokens.items ≡ effect_tokens statement.now effect) }
+    ensures fit { IfOk result (λ tokens. IsFit tokens.items) }
 {
-    let status = batch_status(&came);
-    let mut tokens = statement_tokens(alloc, statement, came)?;
-    tokens.push(done(status, 0, 0))?;
-    Ok(tokens)
+    tokens_of(alloc, statement, effect)
 }
 
-/// The status of a batch's end.
-fn batch_status(came: &Result<Effect, Failure>) -> u16
-    ensures { result ≡ batch_status came.now }
+/// What a statement sends that has done this.
+fn tokens_of(alloc: Global, statement: &Form, effect: Effect) -> Result<Vec<Token>, Memory>
+    ensures { IfOk result (λ tokens. tokens.items ≡ effect_tokens statement.now effect) }
 {
-    match came {
-        Ok(_) => DONE_FINAL,
-        Err(failure) => {
-            if ends_batch(*failure) {
-                DONE_ERROR
-            } else {
-                DONE_FINAL
-            }
-        }
-    }
-}
-
-/// What the statement itself sends.
-fn statement_tokens(
-    alloc: Global,
-    statement: &Statement,
-    came: Result<Effect, Failure>,
-) -> Result<Vec<Token>, Memory>
-    ensures { IfOk result (λ tokens. tokens.items ≡ statement_tokens statement.now came) }
-{
-    match came {
-        Ok(Effect::Number(number)) => {
+    match effect {
+        Effect::Number(number) => {
             let rows = vec![in alloc; Row::from(vec![in alloc; Value::Whole(i64::from(number))]?)]?;
             result_tokens(alloc, statement, number_column(alloc)?, rows)
         }
-        Ok(Effect::Created) => Ok(Vec::new(alloc)),
-        Ok(Effect::Inserted) => Ok(vec![in alloc; statement_done(statement, 1)]?),
-        Ok(Effect::Selected(rows)) => {
+        Effect::Created => Ok(Vec::new(alloc)),
+        Effect::Inserted => Ok(vec![in alloc; statement_done(statement, 1)]?),
+        Effect::Selected(rows) => {
             result_tokens(alloc, statement, table_columns(alloc)?, rows.into_vec())
         }
-        Err(failure) => failure_tokens(alloc, statement, failure),
     }
 }
 
 /// A result: its columns, its rows and their count.
 fn result_tokens(
     alloc: Global,
-    statement: &Statement,
+    statement: &Form,
     columns: ColumnList,
     rows: Vec<Row>,
 ) -> Result<Vec<Token>, Memory>
@@ -97,25 +77,9 @@ fn push_rows(tokens: &mut Vec<Token>, rows: Vec<Row>) -> Result<(), Memory>
     Ok(())
 }
 
-/// An error, and the end of its statement unless the batch ends with it.
-fn failure_tokens(
-    alloc: Global,
-    statement: &Statement,
-    failure: Failure,
-) -> Result<Vec<Token>, Memory>
-    ensures { IfOk result (λ tokens. tokens.items ≡ statement_tokens statement.now (Err failure)) }
-{
-    let error = failure_token(alloc, failure, name_in(statement))?;
-    if ends_batch(failure) {
-        Ok(vec![in alloc; error]?)
-    } else {
-        Ok(vec![in alloc; error, statement_failed(statement)]?)
-    }
-}
-
 /// The column of a selected number, which has no name.
 fn number_column(alloc: Global) -> Result<ColumnList, Memory>
-    ensures { IfOk result (λ columns. columns ≡ record { kind = SqlType.Int; name = [] } ∷ []) }
+    ensures { IfOk result (λ columns. columns ≡ number_column) }
 {
     let column = ColumnInfo {
         kind: SqlType::Int,
@@ -139,22 +103,42 @@ fn table_columns(alloc: Global) -> Result<ColumnList, Memory>
     Ok(ColumnList::from(vec![in alloc; key, value]?))
 }
 
+// ---- DONE
+
 /// A statement's end with its count, where more follows.
-fn statement_done(statement: &Statement, rows: u64) -> Token
+fn statement_done(statement: &Form, rows: u64) -> Token
     ensures { result ≡ statement_done statement.now rows }
 {
     done(DONE_MORE | DONE_COUNT, command_of(statement), rows)
 }
 
 /// A statement's end with an error, where more follows.
-fn statement_failed(statement: &Statement) -> Token
+fn statement_failed(statement: &Form) -> Token
     ensures { result ≡ statement_failed statement.now }
 {
     done(DONE_MORE | DONE_ERROR, command_of(statement), 0)
 }
 
+/// A batch's end.
+pub(crate) fn batch_done(exit: Exit) -> Token
+    ensures { result ≡ batch_done exit }
+{
+    match exit {
+        Exit::On => done(DONE_FINAL, COMMAND_NONE, 0),
+        Exit::End => done(DONE_ERROR, COMMAND_NONE, 0),
+    }
+}
+
+/// The end of an attention.
+pub(crate) fn attention_done() -> Token
+    ensures token { result ∷ [] ≡ attention_tokens }
+    ensures fit { FitTokens [] (result ∷ []) }
+{
+    done(DONE_ATTN, COMMAND_NONE, 0)
+}
+
 /// A DONE.
-pub(crate) fn done(status: u16, command: u16, rows: u64) -> Token
+fn done(status: u16, command: u16, rows: u64) -> Token
     ensures { result ≡ Token.Finished DoneKind.Done status command rows }
 {
     Token::Finished {
@@ -166,103 +150,125 @@ pub(crate) fn done(status: u16, command: u16, rows: u64) -> Token
 }
 
 /// The command that a DONE names.
-fn command_of(statement: &Statement) -> u16
+fn command_of(statement: &Form) -> u16
     ensures { result ≡ command_of statement.now }
 {
     match statement {
-        Statement::SelectNumber { .. } | Statement::SelectTable { .. } => COMMAND_SELECT,
-        Statement::Insert { .. } => COMMAND_INSERT,
-        Statement::CreateTable { .. } | Statement::Unread => 0,
+        Form::SelectNumber { .. } | Form::SelectTable { .. } => COMMAND_SELECT,
+        Form::Insert { .. } => COMMAND_INSERT,
+        Form::CreateTable { .. } | Form::Unread => COMMAND_NONE,
     }
+}
+
+// ---- errors
+
+/// ERROR, and DONE with DONE_ERROR, by which a login is refused.
+pub(crate) fn refusal_tokens(alloc: Global, number: i32) -> Result<Vec<Token>, Memory>
+    ensures tokens { IfOk result (λ tokens. tokens.items ≡ refusal_tokens number) }
+    ensures fit { IfOk result (λ tokens. FitTokens [] tokens.items) }
+{
+    tokens_of_refusal(alloc, number)
+}
+
+/// An error, and the end of what it refuses.
+fn tokens_of_refusal(alloc: Global, number: i32) -> Result<Vec<Token>, Memory>
+    ensures { IfOk result (λ tokens. tokens.items ≡ refusal_tokens number) }
+{
+    let error = error_of(alloc, number, Units::new(alloc))?;
+    Ok(vec![in alloc; error, done(DONE_ERROR, COMMAND_NONE, 0)]?)
+}
+
+/// What a statement sends where it fails, by what its error ends. The tokens have bytes.
+pub(crate) fn failure_tokens(
+    alloc: Global,
+    statement: &Form,
+    number: u16,
+    action: Action,
+) -> Result<Vec<Token>, Memory>
+    ensures tokens { IfOk result (λ tokens. tokens.items ≡ failure_tokens statement.now number action) }
+    ensures fit { IfOk result (λ tokens. IsFit tokens.items) }
+{
+    tokens_of_failure(alloc, statement, number, action)
+}
+
+/// An error, and the end of its statement where the batch goes on.
+fn tokens_of_failure(
+    alloc: Global,
+    statement: &Form,
+    number: u16,
+    action: Action,
+) -> Result<Vec<Token>, Memory>
+    ensures { IfOk result (λ tokens. tokens.items ≡ failure_tokens statement.now number action) }
+{
+    let error = failure_token(alloc, statement, number)?;
+    match action {
+        Action::Batch => Ok(vec![in alloc; error]?),
+        Action::BatchAndTransaction => Ok(vec![in alloc; error]?),
+        Action::Statement => Ok(vec![in alloc; error, statement_failed(statement)]?),
+        Action::Doom => Ok(vec![in alloc; error, statement_failed(statement)]?),
+    }
+}
+
+/// The ERROR of a statement.
+fn failure_token(alloc: Global, statement: &Form, number: u16) -> Result<Token, Memory>
+    ensures { IfOk result (λ token. token ≡ failure_token statement.now number) }
+{
+    error_of(
+        alloc,
+        i32::from(number),
+        subject_of(alloc, statement, number)?,
+    )
+}
+
+/// What an error of a statement names: the table, or the constraint of its key.
+fn subject_of(alloc: Global, statement: &Form, number: u16) -> Result<Units, Memory>
+    ensures { IfOk result (λ subject. subject ≡ subject_of statement.now number) }
+{
+    let before = if number == DUPLICATE_KEY { "PK_" } else { "" };
+    around(alloc, before, name_in(statement), "")
 }
 
 /// The table that a statement names, or nothing.
-fn name_in(statement: &Statement) -> &[u16]
+fn name_in(statement: &Form) -> &[u16]
     ensures { result.now ≡ name_in statement.now }
 {
     match statement {
-        Statement::CreateTable { name }
-        | Statement::Insert { name, .. }
-        | Statement::SelectTable { name } => name.as_slice(),
-        Statement::SelectNumber { .. } | Statement::Unread => &[],
+        Form::CreateTable { name } | Form::Insert { name, .. } | Form::SelectTable { name } =>
+            name.as_slice(),
+        Form::SelectNumber { .. } | Form::Unread => &[],
     }
 }
 
-/// The ERROR of a failure, for a name.
-fn failure_token(alloc: Global, failure: Failure, name: &[u16]) -> Result<Token, Memory>
-    ensures { IfOk result (λ token. token ≡ row_token (error_row failure) name.now) }
+/// ERROR of this number with state 1, line 1 and no procedure, for a name.
+fn error_of(alloc: Global, number: i32, name: Units) -> Result<Token, Memory>
+    ensures { IfOk result (λ token. token ≡ error_of number (row_of number) name) }
 {
-    let text = error_text(alloc, failure, name)?;
-    Ok(error_token(alloc, error_number(failure), error_class(failure), text))
+    match row_of(number) {
+        Some(row) => {
+            let text = text_with(alloc, row.text, name.as_slice())?;
+            Ok(notice(alloc, number, row.class, text))
+        }
+        None => {
+            let text = Units::of_ascii(alloc, b"Not built.")?;
+            Ok(notice(alloc, number, 16, text))
+        }
+    }
 }
 
 /// ERROR with state 1, line 1 and no procedure.
-pub(crate) fn error_token(alloc: Global, number: i32, class: u8, text: Units) -> Token
-    ensures { result ≡ error_token number class text }
+fn notice(alloc: Global, number: i32, class: u8, text: Units) -> Token
+    ensures { result ≡ Token.Error (record { number = number; state = 1; class = class; text = take 2000 text; procedure = []; line = pos 1 }) }
 {
     Token::Error(Notice::new(number, 1, class, text, Units::new(alloc), 1))
 }
 
-/// An error's number.
-fn error_number(failure: Failure) -> i32
-    ensures { result ≡ pos (error_row failure).number }
+/// An error's text with a name in its place.
+fn text_with(alloc: Global, text: &str, name: &[u16]) -> Result<Units, Memory>
+    requires { All (λ byte. byte < 128) text.now }
+    ensures { IfOk result (λ units. units ≡ text_with text.now name.now) }
 {
-    match failure {
-        Failure::UnknownTable => 208,
-        Failure::NoMemory => 701,
-        Failure::DuplicateKey => 2627,
-        Failure::TablePresent => 2714,
-        Failure::ResultLimit => 49002,
-        Failure::RangeLimit => 49003,
-        Failure::NotBuilt => 49099,
-    }
-}
-
-/// An error's class.
-fn error_class(failure: Failure) -> u8
-    ensures { result ≡ (error_row failure).class }
-{
-    match failure {
-        Failure::DuplicateKey => 14,
-        Failure::NoMemory => 17,
-        Failure::UnknownTable
-        | Failure::TablePresent
-        | Failure::ResultLimit
-        | Failure::RangeLimit
-        | Failure::NotBuilt => 16,
-    }
-}
-
-/// An error's text for a name.
-fn error_text(alloc: Global, failure: Failure, name: &[u16]) -> Result<Units, Memory>
-    ensures { IfOk result (λ text. text ≡ (error_row failure).text name.now) }
-{
-    match failure {
-        Failure::UnknownTable => around(alloc, "Invalid object name '", name, "'."),
-        Failure::NoMemory => Units::of_ascii(
-            alloc,
-            b"There is insufficient memory to run this statement.",
-        ),
-        Failure::DuplicateKey => around(
-            alloc,
-            "Violation of constraint 'PK_",
-            name,
-            "'. Duplicate key.",
-        ),
-        Failure::TablePresent => around(alloc, "There is already an object named '", name, "'."),
-        Failure::ResultLimit => Units::of_ascii(alloc, b"Result limit reached."),
-        Failure::RangeLimit => Units::of_ascii(alloc, b"Join limit reached."),
-        Failure::NotBuilt => Units::of_ascii(alloc, b"Not built."),
-    }
-}
-
-/// Whether the batch ends with an error.
-fn ends_batch(failure: Failure) -> bool
-    ensures { result ≡ (error_row failure).ends_batch }
-{
-    match failure {
-        Failure::UnknownTable | Failure::TablePresent | Failure::ResultLimit | Failure::NotBuilt =>
-            true,
-        Failure::NoMemory | Failure::DuplicateKey | Failure::RangeLimit => false,
+    match parts_of(text) {
+        Some((before, behind)) => around(alloc, before, name, behind),
+        None => Units::of_ascii(alloc, text.as_bytes()),
     }
 }

@@ -5,9 +5,9 @@ ghost use Rattle.std.specs.Cmp.Lexicographic.{pointwise};
 ghost use Rattle.std.specs.List.{prefix_len, list_all};
 ghost use Rattle.std.specs.Option.{option_map};
 ghost use Rattle.session_server.specs.Text.{behind, run_of, name_of, number_of, is_digit, is_letter, digits_value, selected_number, created_table, selected_table, values_of, inserted_row, statement_of, Spells};
-ghost use Rattle.session_server.specs.declared.statement.Statement.{Statement as BatchStatement};
+ghost use Rattle.session_server.specs.declared.form.Form.{Form as BatchForm};
 
-use crate::statement::Statement;
+use crate::form::Form;
 use std::alloc::Global;
 use value_types::{Memory, Units};
 
@@ -28,30 +28,30 @@ const DIGIT_ZERO: u16 = 0x30;
 
 /// What a text says. Memory is wanted for names.
 #[tactic(auto, unfolding(crate::specs::Text::statement_of))]
-pub(crate) fn read_statement(alloc: Global, text: &[u16]) -> Result<Statement, Memory>
+pub(crate) fn read_statement(alloc: Global, text: &[u16]) -> Result<Form, Memory>
     ensures { IfOk result (λ statement. statement ≡ statement_of text.now) }
 {
     if let Some(number) = selected_number(text) {
-        return Ok(Statement::SelectNumber { number });
+        return Ok(Form::SelectNumber { number });
     }
     if let Some(name) = created_table(text) {
-        return Ok(Statement::CreateTable {
+        return Ok(Form::CreateTable {
             name: units(alloc, name)?,
         });
     }
     if let Some((name, (key, value))) = inserted_row(text) {
-        return Ok(Statement::Insert {
+        return Ok(Form::Insert {
             name: units(alloc, name)?,
             key,
             value,
         });
     }
     if let Some(name) = selected_table(text) {
-        return Ok(Statement::SelectTable {
+        return Ok(Form::SelectTable {
             name: units(alloc, name)?,
         });
     }
-    Ok(Statement::Unread)
+    Ok(Form::Unread)
 }
 
 /// The table that a text of the form `CREATE TABLE t (k INT NOT NULL PRIMARY KEY, v INT NOT NULL)` creates.
@@ -208,5 +208,5 @@ fn value_of(digits: &[u16]) -> u32
 /// A text spells what is read of it, and is read as what it spells.
 pub fn law_texts()
     ensures read { (text : List ℕ) → Spells (statement_of text) text }
-    ensures spelled { (statement : BatchStatement) (text : List ℕ) → Spells statement text → statement_of text ≡ statement }
+    ensures spelled { (statement : BatchForm) (text : List ℕ) → Spells statement text → statement_of text ≡ statement }
 {}

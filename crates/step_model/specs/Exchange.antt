@@ -4,7 +4,6 @@ use Rattle.std.specs.Prelude.{◌≡◌, ℕ, ℤ, ◌≤◌, pos, negsuc, ◌�
 use Rattle.lock_modes.specs.declared.KeyPart.{KeyPart}
 use Rattle.lock_modes.specs.declared.KeyPart.TheVariants.{N, S, U, X}
 use Rattle.step_model.specs.declared.manner.Manner.{Manner}
-use Rattle.step_model.specs.declared.manner.TheConstants.{LAST_SESSION}
 use Rattle.step_model.specs.declared.op.Op.{Op}
 use Rattle.step_model.specs.declared.op.Op.TheVariants.{Begin, Fetch, Insert, Mark, Relax, Commit, Rollback}
 use Rattle.step_model.specs.declared.reply.Reply.{Reply}
@@ -17,9 +16,42 @@ pub record Exchange : Type 0 where
   pub manner : Manner
   pub reply : Reply
 
--- What is behind a port: the exchanges so far, where it tells them, and which lists of exchanges may
--- have led to it.
+-- ---- what an exchange leaves
+
+-- whether a transaction is open after an operation and its reply
+abbrev pub in_transaction_after : Bool → Op → Reply → Bool
+in_transaction_after before Begin Began = true
+in_transaction_after before Commit (Ended place) = false
+in_transaction_after before Rollback (Ended place) = false
+in_transaction_after before op reply = before
+
+-- the live marks after an operation and its reply
+abbrev pub marks_after : List ℕ → Op → Reply → List ℕ
+marks_after before Mark (Marked mark) = before ++ mark ∷ []
+marks_after before Begin Began = []
+marks_after before Commit (Ended place) = []
+marks_after before Rollback (Ended place) = []
+marks_after before op reply = before
+
+-- whether a transaction is open after these exchanges
+abbrev pub open_after : Bool → List Exchange → Bool
+open_after before [] = before
+open_after before (exchange ∷ later) = open_after (in_transaction_after before exchange.op exchange.reply) later
+
+-- the live marks after these exchanges
+abbrev pub live_after : List ℕ → List Exchange → List ℕ
+live_after before [] = before
+live_after before (exchange ∷ later) = live_after (marks_after before exchange.op exchange.reply) later
+
+-- ---- what is behind a port
+
+-- A port at one moment: the session for which it asks, whether a transaction of it is open, and the
+-- marks in that which are live; the exchanges so far, where it tells them; and which lists of exchanges
+-- may have led to it.
 pub record PortPast : Type 1 where
+  pub session : ℕ
+  pub is_open : Bool
+  pub marks : List ℕ
   pub told : Option (List Exchange)
   pub led_by : List Exchange → Type 0
 
@@ -31,14 +63,22 @@ TellsAll (Some before) None (exchange ∷ exchanges) = Unit {0}
 TellsAll None (Some after) exchanges = ⊥
 TellsAll (Some before) (Some after) exchanges = after ≡ before ++ exchanges
 
--- between two moments of a port these were its exchanges
+-- Between two moments of a port these were its exchanges: it asks for the session as before, what is open
+-- is what they have left open, and they are told and have led to it.
 pub record GoesOn (before after : PortPast) (exchanges : List Exchange) : Type 0 where
+  pub session : after.session ≡ before.session
+  pub is_open : after.is_open ≡ open_after before.is_open exchanges
+  pub marks : after.marks ≡ live_after before.marks exchanges
   pub told : TellsAll before.told after.told exchanges
   pub led : (earlier : List Exchange) → before.led_by earlier → after.led_by (earlier ++ exchanges)
 
+-- sessions have the numbers from 1 to this one
+abbrev pub last_session : ℕ
+last_session = 64
+
 -- the numbers of sessions
 abbrev pub IsSession : ℕ → Type 0
-IsSession session = (1 ≤ session) × (session ≤ LAST_SESSION)
+IsSession session = (1 ≤ session) × (session ≤ last_session)
 
 -- the deadlock priorities
 abbrev pub IsPriority : ℤ → Type 0
@@ -90,18 +130,3 @@ CanReply Relax Done = Unit {0}
 CanReply Commit (Ended place) = Unit {0}
 CanReply Rollback (Ended place) = Unit {0}
 CanReply op reply = ⊥
-
--- whether a transaction is open after an operation and its reply
-abbrev pub in_transaction_after : Bool → Op → Reply → Bool
-in_transaction_after before Begin Began = true
-in_transaction_after before Commit (Ended place) = false
-in_transaction_after before Rollback (Ended place) = false
-in_transaction_after before op reply = before
-
--- the live marks after an operation and its reply
-abbrev pub marks_after : List ℕ → Op → Reply → List ℕ
-marks_after before Mark (Marked mark) = before ++ mark ∷ []
-marks_after before Begin Began = []
-marks_after before Commit (Ended place) = []
-marks_after before Rollback (Ended place) = []
-marks_after before op reply = before

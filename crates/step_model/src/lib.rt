@@ -15,7 +15,7 @@ mod range;
 mod reply;
 
 pub use change::Change;
-pub use manner::{LAST_SESSION, Manner, Patience};
+pub use manner::{LAST_SESSION, Manner, Patience, law_last_session};
 pub use op::{Hold, Op};
 pub use port::Port;
 pub use range::{Start, Stop};

@@ -314,18 +314,23 @@ fn assert_refuses(rt: &impl Abort, alloc: Global, statement: &Statement) -> Resu
     Ok(())
 }
 
-/// The first operations of a statement, of which the last wants memory, and what is asked then.
+/// The first operations of a statement, of which the last wants memory, and what is asked then: Relax only
+/// behind a fetch or an insertion.
 fn asked_until(
     alloc: Global,
     asked: &[&'static str],
     count: usize,
 ) -> Result<Vec<&'static str>, Fail> {
     let mut front = Vec::new(alloc);
+    let mut is_touched = false;
     for line in asked.iter().take(count) {
+        is_touched = is_touched || line.starts_with("Fetch") || line.starts_with("Insert");
         front.push(*line)?;
     }
     if count > 1 {
-        front.push("Relax")?;
+        if is_touched {
+            front.push("Relax")?;
+        }
         front.push("Rollback")?;
     }
     Ok(front)

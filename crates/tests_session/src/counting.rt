@@ -51,13 +51,13 @@ impl Counting {
 }
 
 impl Port for Counting {
-    ghost past = { λ _. record { told = None; led_by = λ _. Unit {0} } };
-
-    ghost session = { λ counting. counting.port.session };
-
-    ghost in_transaction = { λ counting. solo_open counting.port };
-
-    ghost marks = { λ counting. solo_marks counting.port };
+    ghost past = { λ counting. record {
+      session = counting.port.session;
+      is_open = solo_open counting.port;
+      marks = solo_marks counting.port;
+      told = None;
+      led_by = λ _. Unit {0};
+    } };
 
     fn ask(&mut self, op: &Op, manner: Manner) -> Reply {
         match op {

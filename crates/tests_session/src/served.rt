@@ -33,10 +33,10 @@ pub(crate) fn with_login(alloc: Global) -> Result<Config, Memory> {
 
 /// The end of a bare connection of session 1 with this input, and what it wrote.
 pub(crate) fn serve<P: Port>(alloc: Global, port: &mut P, input: Vec<u8>) -> (End, Vec<u8>)
-    requires session { P.session port.old ≡ 1 }
-    requires ended { P.in_transaction port.old ≡ false }
-    ensures ended { P.in_transaction port.new ≡ false }
-    ensures session { P.session port.new ≡ P.session port.old }
+    requires session { (P.past port.old).session ≡ 1 }
+    requires idle { (P.past port.old).is_open ≡ false }
+    ensures idle { (P.past port.new).is_open ≡ false }
+    ensures session { (P.past port.new).session ≡ 1 }
 {
     let config = bare(alloc);
     let mut source = MemorySource::new(input, 4096, Vec::new(alloc));
@@ -52,10 +52,10 @@ pub(crate) fn reply_to<P: Port>(
     port: &mut P,
     text: &str,
 ) -> Result<Vec<String>, Fail>
-    requires session { P.session port.old ≡ 1 }
-    requires ended { P.in_transaction port.old ≡ false }
-    ensures ended { P.in_transaction port.new ≡ false }
-    ensures session { P.session port.new ≡ P.session port.old }
+    requires session { (P.past port.old).session ≡ 1 }
+    requires idle { (P.past port.old).is_open ≡ false }
+    ensures idle { (P.past port.new).is_open ≡ false }
+    ensures session { (P.past port.new).session ≡ 1 }
 {
     let input = batch(alloc, text);
     let (end, written) = serve(alloc, port, input.unwrap_or(Vec::new(alloc)));

@@ -44,13 +44,13 @@ impl Watched {
 }
 
 impl Port for Watched {
-    ghost past = { λ _. record { told = None; led_by = λ _. Unit {0} } };
-
-    ghost session = { λ watched. watched.port.session };
-
-    ghost in_transaction = { λ watched. solo_open watched.port };
-
-    ghost marks = { λ watched. solo_marks watched.port };
+    ghost past = { λ watched. record {
+      session = watched.port.session;
+      is_open = solo_open watched.port;
+      marks = solo_marks watched.port;
+      told = None;
+      led_by = λ _. Unit {0};
+    } };
 
     fn ask(&mut self, op: &Op, manner: Manner) -> Reply {
         // A line for which there is no memory is missed by whoever compares them.

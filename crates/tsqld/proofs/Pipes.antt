@@ -1,13 +1,15 @@
 -- What `pipe` does, from what its connection did and what its port tells.
-use Rattle.std.proofs.Common.{◌≡◌, ℕ, suc, ◌+◌, ◌-◌, ◌≤◌, Bool, true, false, List, [], ◌∷◌, map, length, filter, Option, None, Some, is_some, inl, inr, refl, sym, ap, subst, ◌∙◌, arith, length-append}
+use Rattle.std.proofs.Common.{◌≡◌, ℕ, suc, ◌+◌, ◌-◌, ◌≤◌, Bool, true, false, List, [], ◌∷◌, ◌++◌, map, length, filter, Option, None, Some, is_some, inl, inr, refl, sym, ap, subst, ◌∙◌, arith, length-append}
 use Rattle.std.specs.Prelude.{◌==◌, ◌⊎◌}
 use Rattle.std.specs.List.{All}
 use Rattle.std.proofs.lemmas.Bool.{eq-eqb}
 use Rattle.tds_login.specs.declared.config.Config.{Config}
 use Rattle.tds_packets.specs.declared.message.Message.{Message}
 use Rattle.tds_packets.specs.Stream.{Joins}
+use Rattle.tds_packets.specs.Reading.{StopsBy}
+use Rattle.tds_packets.specs.declared.fault.MessageFault.{MessageFault}
+use Rattle.tds_packets.specs.declared.fault.MessageFault.TheVariants as reading
 use Rattle.tds_packets.proofs.Joined.{message_length}
-use Rattle.step_model.specs.declared.change.Change.{Change}
 use Rattle.step_model.specs.Exchange.{Exchange, TellsAll}
 use Rattle.step_model.specs.Log.{Commit}
 use Rattle.step_model.specs.Fits.{Fits, commits_of}
@@ -16,20 +18,23 @@ use Rattle.engine_core.specs.Solo.{Solo, solo_open, solo_past}
 use Rattle.engine_core.proofs.Fitting.{run_fits, run_own}
 use Rattle.session_server.specs.declared.end.End.{End}
 use Rattle.session_server.specs.declared.end.End.TheVariants as ends
-use Rattle.session_server.specs.Asking.{Asks}
-use Rattle.session_server.specs.Conversation.{Conversation, EndsBy, Completes}
+use Rattle.session_server.specs.Conversation.{Conversation, Caused, Wrote, IsAsked, closed, CountsFault, Completes}
+use Rattle.session_server.specs.Doing.{Held, ◌then◌}
+use Rattle.session_server.specs.Ends.{Cause, no_message, by_message, unsent, unmade, end_of, end_of_message}
+use Rattle.session_server.specs.Meaning.{rolls_back_open}
+use Rattle.session_server.specs.Progress.{Progress, first_progress}
 use Rattle.session_server.specs.Response.{Response}
-use Rattle.session_server.specs.Talk.{Talk, first_place, commits_in}
-use Rattle.tsqld.specs.Program.{Piped, EndsWell, status_of, fresh_port}
+use Rattle.session_server.specs.Talk.{walk_of}
+use Rattle.tsqld.specs.Program.{PipedOver, EndsWell, status_of, fresh_port}
 
 -- a log of one session's commits alone
 all_own : (session : ℕ) (log : List Commit) → All (λ commit. commit.session ≡ session) log → filter (λ commit. commit.session == session) log ≡ log
 all_own session [] own = refl
 all_own session (commit ∷ log) own = rw (eq-eqb commit.session session (own 0 commit (omega arith))) (ap (λ (others : List Commit). commit ∷ others) (all_own session log (λ k d below. own (suc k) d (omega (arith, below)))))
 
--- the commits of the log are those of the responses
-logged : (exchanges : List Exchange) (commits : List (List Change)) (log : List Commit) → commits_of [] exchanges ≡ commits → Fits 1 [] log exchanges → All (λ commit. commit.session ≡ 1) log → map (λ commit. commit.changes) log ≡ commits
-logged exchanges commits log are fits own = ap (map {A = Commit} (λ commit. commit.changes)) (sym (all_own 1 log own)) ∙ fits.commits.1 ∙ are
+-- the commits of the log are those of the exchanges
+logged : (exchanges : List Exchange) (log : List Commit) → Fits 1 [] log exchanges → All (λ commit. commit.session ≡ 1) log → map (λ commit. commit.changes) log ≡ commits_of [] exchanges
+logged exchanges log fits own = ap (map {A = Commit} (λ commit. commit.changes)) (sym (all_own 1 log own)) ∙ fits.commits.1
 
 -- ---- want of memory
 
@@ -44,13 +49,20 @@ unfolding Joins
 joined_rest at bytes [] rest joined = omega (arith, ap length joined)
 joined_rest at bytes (message ∷ messages) rest joined = omega (arith, ap length joined.2, length-append joined.0 joined.1, joined_rest (at + length joined.0) joined.1 messages rest joined.4)
 
--- without a message nothing was asked
-taken_some : (config : Config) (bytes : List ℕ) (messages : List Message) (rest : List ℕ) (exchanges : List Exchange) (responses : List Response) → Joins 0 bytes messages rest
-    → Asks (Talk config (first_place config.entry) messages) exchanges responses → TellsAll (Some []) None exchanges → 8 ≤ length bytes
-unfolding Talk Asks
-taken_some config bytes messages rest [] responses joined asks lost = absurd lost
-taken_some config bytes [] rest (exchange ∷ exchanges) responses joined asks lost = let none = asks.0 in absurd cc
-taken_some config bytes (message ∷ messages) rest (exchange ∷ exchanges) responses joined asks lost = joined_long 0 bytes message messages rest joined
+-- something stands in front
+front_some : {A : Type 0} (front : List A) (last : A) (all : List A) → all ≡ front ++ last ∷ [] → all ≡ [] → ⊥
+front_some front last all whole none = let no : ⊥ = omega (arith, ap length whole, ap length none, length-append front (last ∷ [])) in no
+
+-- without a message nothing is asked, and nothing answered
+nothing_asked : (config : Config) (exchanges : List Exchange) (responses : List Response) (new : Progress) → Held (closed (walk_of config []).talk) first_progress exchanges responses new → (exchanges ≡ []) × (responses ≡ [])
+unfolding Held ◌then◌ walk_of rolls_back_open
+nothing_asked config exchanges responses new held = (held.0, held.1)
+
+none_asked : (config : Config) (exchanges : List Exchange) (responses : List Response) (cause : Cause) → IsAsked config [] exchanges responses cause → exchanges ≡ []
+none_asked config exchanges responses (no_message fault) asked = (nothing_asked config exchanges responses asked.0 asked.1).0
+none_asked config exchanges responses (by_message end) asked = (nothing_asked config exchanges responses asked.0 asked.1).0
+none_asked config exchanges responses (unsent fault) asked = (nothing_asked config exchanges responses asked.0 asked.1).0
+none_asked config exchanges responses unmade asked = absurd (front_some asked.front asked.last [] asked.whole refl)
 
 -- the status of an end at which the port still tells
 memory_end : (end : End) → status_of true end ≡ 6 → end ≡ ends.Memory
@@ -67,36 +79,55 @@ memory_end ends.Spent is = absurd cc
 memory_end ends.ReadFault is = absurd cc
 memory_end ends.WriteFault is = absurd cc
 
-wanted : (config : Config) (told : Option (List Exchange)) (end : End) (status : ℕ) (bytes : List ℕ) (messages : List Message) (rest : List ℕ) (exchanges : List Exchange) (responses : List Response) → status ≡ status_of (is_some told) end → Joins 0 bytes messages rest
-    → Asks (Talk config (first_place config.entry) messages) exchanges responses → TellsAll (Some []) told exchanges → EndsBy config messages (length bytes - length rest) rest end → status ≡ 6 → 8 ≤ length bytes
-wanted config None end status bytes messages rest exchanges responses is joined asks told ended six = taken_some config bytes messages rest exchanges responses joined asks told
-wanted config (Some all) end status bytes messages rest exchanges responses is joined asks told ended six =
-    let memory : EndsBy config messages (length bytes - length rest) rest ends.Memory = subst (EndsBy config messages (length bytes - length rest) rest) (memory_end end (sym is ∙ six)) ended in
-    omega (arith, memory.1, joined_rest 0 bytes messages rest joined)
+-- the fault of reading for which memory is wanting
+memory_fault : (fault : MessageFault) → end_of_message fault ≡ ends.Memory → fault ≡ reading.Memory
+memory_fault reading.Memory is = refl
+memory_fault reading.Closed is = absurd cc
+memory_fault (reading.Cut at) is = absurd cc
+memory_fault (reading.BadHeader at) is = absurd cc
+memory_fault (reading.TooLong at) is = absurd cc
+memory_fault reading.ReadFault is = absurd cc
+memory_fault reading.Spent is = absurd cc
+
+module _ (config : Config) (sink_before sink_after : Option (List ℕ)) (bytes rest : List ℕ) (exchanges : List Exchange) (responses : List Response) where
+  -- memory was wanting, and no message was taken
+  wanted_first : (cause : Cause) → end_of cause ≡ ends.Memory → Joins 0 bytes [] rest → IsAsked config [] exchanges responses cause → Caused config [] (length bytes - length rest) rest cause → Wrote 51 sink_before sink_after responses cause → 8 ≤ length bytes
+  wanted_first (no_message fault) memory joined asked caused wrote =
+      let stops : StopsBy (length bytes - length rest) rest reading.Memory = subst (StopsBy (length bytes - length rest) rest) (memory_fault fault memory) caused.1 in
+      omega (arith, stops.1, joined_rest 0 bytes [] rest joined)
+  wanted_first (by_message made) memory joined asked caused wrote = absurd (front_some caused.0.front caused.0.last [] caused.0.whole refl)
+  wanted_first (unsent fault) memory joined asked caused wrote = absurd (front_some wrote.front wrote.last responses wrote.whole (nothing_asked config exchanges responses asked.0 asked.1).1)
+  wanted_first unmade memory joined asked caused wrote = absurd (front_some asked.front asked.last [] asked.whole refl)
+
+  wanted : (told : Option (List Exchange)) (end : End) (status : ℕ) (messages : List Message) (cause : Cause) → status ≡ status_of (is_some told) end → end ≡ end_of cause → Joins 0 bytes messages rest → IsAsked config messages exchanges responses cause → TellsAll (Some []) told exchanges
+      → Caused config messages (length bytes - length rest) rest cause → Wrote 51 sink_before sink_after responses cause → status ≡ 6 → 8 ≤ length bytes
+  wanted told end status (message ∷ messages) cause is end_is joined asked tells caused wrote six = joined_long 0 bytes message messages rest joined
+  wanted None end status [] cause is end_is joined asked tells caused wrote six = absurd (subst (TellsAll (Some []) None) (none_asked config exchanges responses cause asked) tells)
+  wanted (Some all) end status [] cause is end_is joined asked tells caused wrote six = wanted_first cause (sym end_is ∙ memory_end end (sym is ∙ six)) joined asked caused wrote
 
 -- ---- the whole
 
 pub piped : (config : Config) (gave : List ℕ → Type 0) (left sink_before sink_after : Option (List ℕ)) (before after : Solo) (end : End) (status : ℕ) → before ≡ fresh_port
-    → Conversation config 1 gave left (solo_past before) (solo_past after) sink_before sink_after end → after.session ≡ before.session → solo_open after ≡ false → status ≡ status_of (is_some after.told) end
-    → Piped config gave left sink_before sink_after status
-piped config gave left sink_before sink_after before after end status new served same closed is =
-    let one : after.session ≡ 1 = same ∙ ap (λ solo. solo.session) new in
+    → Conversation config 1 gave left (solo_past before) (solo_past after) sink_before sink_after end → solo_open after ≡ false → status ≡ status_of (is_some after.told) end
+    → PipedOver config gave left sink_before sink_after after status
+piped config gave left sink_before sink_after before after end status new served closed is =
     let conversation = subst (λ (solo : Solo). Conversation config 1 gave left (solo_past solo) (solo_past after) sink_before sink_after end) new served in
-    let does = conversation.means.does in
-    let run = subst (λ (session : ℕ). Run opening (asked_by session does.exchanges) after.engine) one (does.past.led [] refl) in
-    let fits = run_fits 1 does.exchanges after.engine run in
-    let own = run_own 1 does.exchanges after.engine run in
+    let means = conversation.means in
+    let heard = conversation.heard in
+    let one : after.session ≡ 1 = means.past.session in
+    let run = subst (λ (session : ℕ). Run opening (asked_by session means.exchanges) after.engine) one (means.past.led [] refl) in
+    let fits = run_fits 1 means.exchanges after.engine run in
+    let own = run_own 1 means.exchanges after.engine run in
     record {
       end = end;
-      port = after;
       status_is = is;
       conversation = conversation;
       run = run;
       fits = fits;
-      commits = logged does.exchanges (commits_in conversation.responses) after.engine.log conversation.means.commits fits own;
+      commits = logged means.exchanges after.engine.log fits own;
       own = own;
-      ended = ap (λ (session : ℕ). is_open session after.engine.active) (sym one) ∙ closed;
-      memory = wanted config after.told end status conversation.taken conversation.messages conversation.rest does.exchanges conversation.responses is conversation.split.joined does.asks does.past.told conversation.ended;
+      idle = ap (λ (session : ℕ). is_open session after.engine.active) (sym one) ∙ closed;
+      memory = wanted config sink_before sink_after heard.taken heard.rest means.exchanges heard.responses after.told end status heard.messages heard.cause is heard.end_is heard.split.joined means.asked means.past.told heard.caused heard.written;
     }
 
 -- ---- statuses
@@ -117,3 +148,89 @@ read_status tells end status is none same = none (is ∙ ap (status_of tells) sa
 
 pub write_status : (tells : Bool) (end : End) (status : ℕ) → status ≡ status_of tells end → (status ≡ 4 → ⊥) → end ≡ ends.WriteFault → ⊥
 write_status tells end status is none same = none (is ∙ ap (status_of tells) same)
+
+-- ---- faults
+
+read_end : (tells : Bool) (end : End) → status_of tells end ≡ 3 → end ≡ ends.ReadFault
+read_end tells ends.ReadFault is = refl
+read_end tells ends.WriteFault is = absurd cc
+read_end true ends.Closed is = absurd cc
+read_end true (ends.Cut at) is = absurd cc
+read_end true (ends.BadHeader at) is = absurd cc
+read_end true (ends.TooLong at) is = absurd cc
+read_end true (ends.OutOfPlace at kind) is = absurd cc
+read_end true (ends.BadPrelogin fault) is = absurd cc
+read_end true (ends.LoginRefused number) is = absurd cc
+read_end true (ends.BadBatch fault) is = absurd cc
+read_end true ends.Spent is = absurd cc
+read_end true ends.Memory is = absurd cc
+read_end false ends.Closed is = absurd cc
+read_end false (ends.Cut at) is = absurd cc
+read_end false (ends.BadHeader at) is = absurd cc
+read_end false (ends.TooLong at) is = absurd cc
+read_end false (ends.OutOfPlace at kind) is = absurd cc
+read_end false (ends.BadPrelogin fault) is = absurd cc
+read_end false (ends.LoginRefused number) is = absurd cc
+read_end false (ends.BadBatch fault) is = absurd cc
+read_end false ends.Spent is = absurd cc
+read_end false ends.Memory is = absurd cc
+
+write_end : (tells : Bool) (end : End) → status_of tells end ≡ 4 → end ≡ ends.WriteFault
+write_end tells ends.WriteFault is = refl
+write_end tells ends.ReadFault is = absurd cc
+write_end true ends.Closed is = absurd cc
+write_end true (ends.Cut at) is = absurd cc
+write_end true (ends.BadHeader at) is = absurd cc
+write_end true (ends.TooLong at) is = absurd cc
+write_end true (ends.OutOfPlace at kind) is = absurd cc
+write_end true (ends.BadPrelogin fault) is = absurd cc
+write_end true (ends.LoginRefused number) is = absurd cc
+write_end true (ends.BadBatch fault) is = absurd cc
+write_end true ends.Spent is = absurd cc
+write_end true ends.Memory is = absurd cc
+write_end false ends.Closed is = absurd cc
+write_end false (ends.Cut at) is = absurd cc
+write_end false (ends.BadHeader at) is = absurd cc
+write_end false (ends.TooLong at) is = absurd cc
+write_end false (ends.OutOfPlace at kind) is = absurd cc
+write_end false (ends.BadPrelogin fault) is = absurd cc
+write_end false (ends.LoginRefused number) is = absurd cc
+write_end false (ends.BadBatch fault) is = absurd cc
+write_end false ends.Spent is = absurd cc
+write_end false ends.Memory is = absurd cc
+
+pub read_counts : (old new : ℕ) (tells : Bool) (end : End) (status : ℕ) → status ≡ status_of tells end → CountsFault old new (end ≡ ends.ReadFault) → CountsFault old new (status ≡ 3)
+read_counts old new tells end status is counts = record {
+  risen = λ three. counts.risen (read_end tells end (sym is ∙ three));
+  still = λ none. counts.still (λ same. read_status tells end status is none same);
+  counted = counts.counted;
+}
+
+pub write_counts : (old new : ℕ) (tells : Bool) (end : End) (status : ℕ) → status ≡ status_of tells end → CountsFault old new (end ≡ ends.WriteFault) → CountsFault old new (status ≡ 4)
+write_counts old new tells end status is counts = record {
+  risen = λ four. counts.risen (write_end tells end (sym is ∙ four));
+  still = λ none. counts.still (λ same. write_status tells end status is none same);
+  counted = counts.counted;
+}
+
+-- where the port tells its exchanges no longer, and nothing failed
+pub lost_status : (end : End) (told : Option (List Exchange)) (tells : Bool) (status : ℕ) → tells ≡ is_some told → status ≡ status_of tells end → told ≡ None → (status ≡ 3 → ⊥) → (status ≡ 4 → ⊥) → status ≡ 6
+lost_status end told tells status tell is none not_read not_written = by_end end (is ∙ ap (λ b. status_of b end) (tell ∙ ap is_some none))
+  where
+    by_end : (end : End) → status ≡ status_of false end → status ≡ 6
+    by_end ends.ReadFault same = absurd (not_read same)
+    by_end ends.WriteFault same = absurd (not_written same)
+    by_end ends.Closed same = same
+    by_end (ends.Cut at) same = same
+    by_end (ends.BadHeader at) same = same
+    by_end (ends.TooLong at) same = same
+    by_end (ends.OutOfPlace at kind) same = same
+    by_end (ends.BadPrelogin fault) same = same
+    by_end (ends.LoginRefused number) same = same
+    by_end (ends.BadBatch fault) same = same
+    by_end ends.Spent same = same
+    by_end ends.Memory same = same
+
+-- a status that is no fault
+pub no_fault : (old : ℕ) (status other : ℕ) → (status ≡ other → ⊥) → CountsFault old old (status ≡ other)
+no_fault old status other none = record { risen = λ same. absurd (none same); still = λ _. refl; counted = omega arith }

@@ -8,13 +8,12 @@ use Rattle.tds_login.specs.declared.config.Entry.TheVariants.{Login, Bare}
 use Rattle.tds_packets.specs.declared.message.Message.{Message}
 use Rattle.tds_packets.specs.Stream.{Splits}
 use Rattle.tds_packets.specs.Reading.{byte_limit}
-use Rattle.step_model.specs.Fits.{Fits}
+use Rattle.step_model.specs.Fits.{Fits, commits_of}
 use Rattle.step_model.specs.Step.{Run, asked_by, opening, is_open}
 use Rattle.engine_core.specs.Solo.{Solo, solo_past}
 use Rattle.session_server.specs.declared.end.End.{End}
 use Rattle.session_server.specs.declared.end.End.TheVariants.{Closed, Cut, BadHeader, TooLong, OutOfPlace, BadPrelogin, LoginRefused, BadBatch, Spent, ReadFault, WriteFault, Memory}
 use Rattle.session_server.specs.Conversation.{Conversation, IsUnended}
-use Rattle.session_server.specs.Talk.{commits_in}
 
 -- ---- words
 
@@ -63,23 +62,26 @@ status_of true Memory = 6
 abbrev pub fresh_port : Solo
 fresh_port = record { session = 1; told = Some []; engine = opening }
 
--- Session 1 was served by this configuration over such a port, which stands now as `port`. `gave` says
+-- Session 1 was served by this configuration over such a port, which stands then as `port`. `gave` says
 -- which bytes came from the source, in which `left` are left.
-pub record Piped (config : Config) (gave : List ℕ → Type 0) (left sink_before sink_after : Option (List ℕ)) (status : ℕ) : Type 0 where
+pub record PipedOver (config : Config) (gave : List ℕ → Type 0) (left sink_before sink_after : Option (List ℕ)) (port : Solo) (status : ℕ) : Type 0 where
   pub end : End
-  pub port : Solo
   pub status_is : status ≡ status_of (is_some port.told) end
   pub conversation : Conversation config 1 gave left (solo_past fresh_port) (solo_past port) sink_before sink_after end
   -- its exchanges are a run of this session alone, which leads to the port's engine, and fit its log
-  pub run : Run opening (asked_by 1 conversation.means.does.exchanges) port.engine
-  pub fits : Fits 1 [] port.engine.log conversation.means.does.exchanges
-  -- the commits of the log are the conversation's, each once, in order, and no others
-  pub commits : map (λ commit. commit.changes) port.engine.log ≡ commits_in conversation.responses
+  pub run : Run opening (asked_by 1 conversation.means.exchanges) port.engine
+  pub fits : Fits 1 [] port.engine.log conversation.means.exchanges
+  -- the commits of the log are those of the exchanges, each once, in order, and no others
+  pub commits : map (λ commit. commit.changes) port.engine.log ≡ commits_of [] conversation.means.exchanges
   pub own : All (λ commit. commit.session ≡ 1) port.engine.log
   -- no transaction is left open
-  pub ended : is_open 1 port.engine.active ≡ false
+  pub idle : is_open 1 port.engine.active ≡ false
   -- memory was wanting only after a whole header was taken
-  pub memory : status ≡ 6 → 8 ≤ length conversation.taken
+  pub memory : status ≡ 6 → 8 ≤ length conversation.heard.taken
+
+-- it was served so over some port
+abbrev pub Piped : Config → (List ℕ → Type 0) → Option (List ℕ) → Option (List ℕ) → Option (List ℕ) → ℕ → Type 0
+Piped config gave left sink_before sink_after status = (port : Solo) × PipedOver config gave left sink_before sink_after port status
 
 -- Where the source told its bytes, and they are fewer than 2^40 and whole messages of which none ends
 -- the talk, as a refused login does: all were answered, or memory was wanting.

@@ -1,11 +1,12 @@
 //! The program.
 
-ghost use Rattle.std.specs.Prelude.{◌≡◌, ◌≢◌, ◌≤◌, ◌⊎◌, ◌∷◌, codes, map, string_bytes, IsNone, IfSome, IfOk, IfErr};
-ghost use Rattle.outside_io.specs.Bytes.{Takes, HasRisen};
+ghost use Rattle.std.specs.Prelude.{◌≡◌, ◌≢◌, ◌⊎◌, None, ◌∷◌, codes, map, string_bytes, IsNone, IfSome, IfOk, IfErr};
+ghost use Rattle.outside_io.specs.Bytes.{Takes};
 ghost use Rattle.tds_login.specs.declared.config.Config.{Config};
 ghost use Rattle.tds_login.specs.declared.config.Entry.TheVariants.{Login};
 ghost use Rattle.tsqld.specs.Command.{config_of};
-ghost use Rattle.tsqld.specs.Program.{IsPipe, IsNoCommand, Piped, EndsWell, status_of};
+ghost use Rattle.session_server.specs.Conversation.{CountsFault};
+ghost use Rattle.tsqld.specs.Program.{IsPipe, IsNoCommand, fresh_port, PipedOver, Piped, EndsWell, status_of};
 
 use engine_core::SoloPort;
 use outside_io::{Sink, Source};
@@ -45,11 +46,8 @@ pub fn run_program<S: Source, K: Sink>(
     ensures refused { IsNoCommand (map string_bytes words.now) → (result ≡ 2) × (input.new ≡ input.old) × (output.new ≡ output.old) }
 
     // When 3 and 4 come.
-    ensures read_fault { result ≡ 3 → HasRisen (S.faults input.old) (S.faults input.new) }
-    ensures write_fault { result ≡ 4 → HasRisen (K.faults output.old) (K.faults output.new) }
-    ensures no_read_fault { result ≢ 3 → S.faults input.new ≡ S.faults input.old }
-    ensures no_write_fault { result ≢ 4 → K.faults output.new ≡ K.faults output.old }
-    ensures counted { (S.faults input.old ≤ S.faults input.new) × (K.faults output.old ≤ K.faults output.new) }
+    ensures reads { CountsFault (S.faults input.old) (S.faults input.new) (result ≡ 3) }
+    ensures writes { CountsFault (K.faults output.old) (K.faults output.new) (result ≡ 4) }
 
     // Where nothing fails, memory is not wanting, and the input is fewer than 2^40 bytes of whole messages
     // that can be read, in their places, with no login that is refused, all of them are answered.
@@ -134,15 +132,33 @@ fn config_for(alloc: Global, command: &Command<'_>) -> Result<Config, Memory>
 fn pipe<S: Source, K: Sink>(alloc: Global, config: &Config, input: &mut S, output: &mut K) -> u8
     ensures conversation { Piped config.now (Takes S.left S.given input.old input.new) (S.left input.new)
         (K.written output.old) (K.written output.new) result }
-    ensures read_fault { result ≡ 3 → HasRisen (S.faults input.old) (S.faults input.new) }
-    ensures write_fault { result ≡ 4 → HasRisen (K.faults output.old) (K.faults output.new) }
-    ensures no_read_fault { result ≢ 3 → S.faults input.new ≡ S.faults input.old }
-    ensures no_write_fault { result ≢ 4 → K.faults output.new ≡ K.faults output.old }
-    ensures counted { (S.faults input.old ≤ S.faults input.new) × (K.faults output.old ≤ K.faults output.new) }
+    ensures reads { CountsFault (S.faults input.old) (S.faults input.new) (result ≡ 3) }
+    ensures writes { CountsFault (K.faults output.old) (K.faults output.new) (result ≡ 4) }
     ensures complete { result ≢ 3 → result ≢ 4 → EndsWell config.now (S.left input.old) result }
 {
     let mut port = SoloPort::new(alloc, SESSION);
-    let end = serve_on_port(alloc, SESSION, &mut port, config, input, output);
+    pipe_over(alloc, &mut port, config, input, output)
+}
+
+/// Serves one connection over this port, which is that of session 1 over an engine before any step, and
+/// gives the status at its end: 6 where the port tells its exchanges no longer, unless reading or writing
+/// failed.
+pub fn pipe_over<S: Source, K: Sink>(
+    alloc: Global,
+    port: &mut SoloPort,
+    config: &Config,
+    input: &mut S,
+    output: &mut K,
+) -> u8
+    requires fresh { port.old ≡ fresh_port }
+    ensures conversation { PipedOver config.now (Takes S.left S.given input.old input.new) (S.left input.new)
+        (K.written output.old) (K.written output.new) port.new result }
+    ensures lost { port.new.told ≡ None → result ≢ 3 → result ≢ 4 → result ≡ 6 }
+    ensures reads { CountsFault (S.faults input.old) (S.faults input.new) (result ≡ 3) }
+    ensures writes { CountsFault (K.faults output.old) (K.faults output.new) (result ≡ 4) }
+    ensures complete { result ≢ 3 → result ≢ 4 → EndsWell config.now (S.left input.old) result }
+{
+    let end = serve_on_port(alloc, SESSION, port, config, input, output);
     status_of(end, port.tells())
 }
 

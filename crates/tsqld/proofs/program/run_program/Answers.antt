@@ -3,6 +3,7 @@ use Rattle.outside_io.specs.Bytes.{Takes}
 use Rattle.tds_login.specs.declared.config.Config.{Config}
 use Rattle.tsqld.specs.Command.{config_of}
 use Rattle.tsqld.specs.Program.{Piped, EndsWell}
+use Rattle.tsqld.proofs.Pipes.{no_fault}
 use Rattle.tsqld.proofs.Words.{one_config}
 use Rattle.tsqld.proofs.program.run_program.Goals as goal
 
@@ -30,3 +31,15 @@ returns-in-None-clause-conversation g c = λ config words. absurd (c.in-None.ens
 
 pub returns-in-None-clause-complete : goal.returns-in-None-clause-complete
 returns-in-None-clause-complete g c = λ config words. absurd (c.in-None.ensures.none refl config words)
+
+pub returns-in-Err-clause-reads : goal.returns-in-Err-clause-reads
+returns-in-Err-clause-reads g c = no_fault _ 6 3 (λ same. let no : ⊥ = cc in no)
+
+pub returns-in-Err-clause-writes : goal.returns-in-Err-clause-writes
+returns-in-Err-clause-writes g c = no_fault _ 6 4 (λ same. let no : ⊥ = cc in no)
+
+pub returns-in-None-clause-reads : goal.returns-in-None-clause-reads
+returns-in-None-clause-reads g c = no_fault _ 2 3 (λ same. let no : ⊥ = cc in no)
+
+pub returns-in-None-clause-writes : goal.returns-in-None-clause-writes
+returns-in-None-clause-writes g c = no_fault _ 2 4 (λ same. let no : ⊥ = cc in no)

@@ -1,9 +1,9 @@
-use Rattle.std.proofs.Common.{[], ◌∷◌, subst, sym}
+use Rattle.std.proofs.Common.{[], ◌∷◌, refl, subst, sym}
 use Rattle.std.specs.Option.{option_map}
 use Rattle.step_model.specs.Exchange.{Exchange, GoesOn, MayAsk}
 use Rattle.step_model.specs.Step.{Step, MayStep, is_open, marks_of}
 use Rattle.engine_core.specs.Solo.{Solo, solo_open, solo_marks, solo_past}
-use Rattle.engine_core.proofs.StepLaws.{step_alone}
+use Rattle.engine_core.proofs.StepLaws.{step_alone, step_open, step_marks}
 use Rattle.engine_core.proofs.Runs.{longer, goes_on}
 use Rattle.engine_core.proofs.solo.SoloPort.ask_engine.Goals as goal
 
@@ -35,6 +35,9 @@ returns-clause-past c =
     let new : Solo = record { session = c.self.inside.session; told = option_map (λ told. told.items) c.tell.new.told; engine = c.attempt-reply.new.self } in
     let exchange : Exchange = record { op = c.args.op.now; manner = c.args.manner; reply = c.attempt-reply.result } in
     subst (λ (port : Solo). GoesOn (solo_past port) (solo_past new) (exchange ∷ [])) c.self.view_is (record {
+      session = refl;
+      is_open = step_open c.self.inside.engine c.attempt-reply.new.self c.self.inside.session c.args.op.now c.args.manner c.attempt-reply.result c.attempt-reply.ensures;
+      marks = step_marks c.self.inside.engine c.attempt-reply.new.self c.self.inside.session c.args.op.now c.args.manner c.attempt-reply.result allowed c.attempt-reply.ensures;
       told = c.tell.ensures;
       led = λ earlier run. longer c.self.inside.session earlier c.self.inside.engine c.attempt-reply.new.self exchange run may c.attempt-reply.ensures;
     })

@@ -1,0 +1,77 @@
+-- Own: how far a session has come, and the named steps by which alone that changes. The code has it as a
+-- struct whose methods are the steps.
+use Rattle.std.specs.Prelude.{◌≡◌, ℕ, ◌-◌, Bool, true, false, List, [], ◌∷◌, ◌++◌, pos}
+use Rattle.step_model.specs.declared.manner.Manner.{Manner}
+use Rattle.step_model.specs.declared.manner.Patience.TheVariants.{Forever}
+use Rattle.step_model.specs.declared.op.Op.{Op}
+use Rattle.step_model.specs.declared.op.Op.TheVariants.{Begin, Fetch, Insert, Mark, Relax, Commit, Rollback}
+use Rattle.step_model.specs.declared.reply.Reply.{Reply}
+use Rattle.step_model.specs.Exchange.{Exchange, PortPast, IsPriority, in_transaction_after}
+use Rattle.tds_tokens.specs.declared.token.Token.{Token}
+
+-- how far a session has come
+pub record Progress : Type 0 where
+  -- what the batch that runs has sent
+  pub tokens : List Token
+  -- how many statements it may still begin
+  pub left : ℕ
+  -- whether a transaction is open at the port
+  pub is_open : Bool
+  -- whether something was fetched or written since that began, or since its last Relax
+  pub touched : Bool
+  -- how the session asks
+  pub manner : Manner
+
+-- a session waits for locks, and has the deadlock priority 0, until it says otherwise
+abbrev pub first_manner : Manner
+first_manner = record { patience = Forever; priority = pos 0 }
+
+-- before its first batch
+abbrev pub first_progress : Progress
+first_progress = record { tokens = []; left = 0; is_open = false; touched = false; manner = first_manner }
+
+-- ---- steps
+
+-- a batch begins; a statement of it begins; it sends tokens
+pub data Step : Type 0 where
+  begins : Step
+  counts : Step
+  sends : List Token → Step
+
+-- how many statements a batch may begin
+abbrev pub statement_limit : ℕ
+statement_limit = 1000000
+
+-- the progress after a step
+abbrev pub made : Step → Progress → Progress
+made begins p = record p { tokens = []; left = statement_limit }
+made counts p = record p { left = p.left - 1 }
+made (sends tokens) p = record p { tokens = p.tokens ++ tokens }
+
+-- ---- exchanges
+
+-- whether something was fetched or written since the last Relax, or the transaction's begin
+abbrev pub touched_after : Bool → Op → Bool
+touched_after before Begin = false
+touched_after before (Fetch table start stop hold part) = true
+touched_after before (Insert table key row) = true
+touched_after before Mark = before
+touched_after before Relax = false
+touched_after before Commit = false
+touched_after before Rollback = false
+
+-- the progress after one operation was asked and replied so
+abbrev pub asked : Op → Reply → Progress → Progress
+asked op reply p = record p { is_open = in_transaction_after p.is_open op reply; touched = touched_after p.touched op }
+
+-- the progress after these exchanges
+abbrev pub asked_all : List Exchange → Progress → Progress
+asked_all [] p = p
+asked_all (x ∷ later) p = asked_all later (asked x.op x.reply p)
+
+-- ---- the port
+
+-- session and port agree on what is open, and the session may ask
+pub record Ready (p : Progress) (past : PortPast) : Type 0 where
+  pub agree : p.is_open ≡ past.is_open
+  pub priority : IsPriority p.manner.priority

@@ -1,0 +1,272 @@
+//! How a message is handled, by where the connection stands.
+
+ghost use Rattle.std.specs.Prelude.{◌≡◌, ◌%◌, ◌∷◌, [], ℕ, length, drop, None, Some, Ok, IfOk, IfErr};
+ghost use Rattle.session_server.specs.Parts.{IsHandled, IsAnswered, IsSized, IsSmallForm};
+ghost use Rattle.session_server.specs.Progress.{Ready};
+ghost use Rattle.session_server.specs.Talk.{responds, handle, handle_prelogin, handle_login, handle_verdict, batch_response, handle_batch, handle_attention, refuse, batch_fault, headers_length};
+ghost use Rattle.session_server.specs.declared.state.ServerState.TheVariants.{LoggedIn};
+ghost use Rattle.session_server.specs.Text.{statement_of};
+ghost use Rattle.tds_login.specs.Login.{login_of};
+ghost use Rattle.tds_login.specs.Prelogin.{prelogin_of};
+ghost use Rattle.tds_packets.specs.Packets.{IsPacketSize, default_size};
+ghost use Rattle.value_types.specs.Units.{units_of};
+
+use crate::end::{BatchFault, End};
+use crate::form::Form;
+use crate::prepared::PreparedResponse;
+use crate::response::{attention_done, refusal_tokens};
+use crate::session::Session;
+use crate::state::{Channel, ServerState};
+use crate::statement::run_batch;
+use crate::text::read_statement;
+use byteorder::{ByteOrder, LittleEndian};
+use std::alloc::Global;
+use step_model::Port;
+use tds_login::{
+    Config, LoginFault, judge_login, login_reply, prelogin_reply, read_login, read_prelogin,
+};
+use tds_packets::{ATTENTION, DEFAULT_SIZE, LOGIN7, Message, PRELOGIN, SQL_BATCH};
+use value_types::{Memory, UnitsFault, units_of_le};
+
+/// The SPID of the response to a PRELOGIN, the same for all sessions ([MS-TDS] 2.2.3.1.4).
+const PRELOGIN_SPID: u16 = 51;
+
+/// The number of the error where a LOGIN7 can't be read.
+const UNREADABLE_LOGIN: i32 = 49010;
+
+/// How many bytes the length of ALL_HEADERS has ([MS-TDS] 2.2.5.3).
+const HEADERS_LENGTH_LEN: usize = 4;
+
+/// How a message was handled.
+#[derive(Drop)]
+pub(crate) enum Handling {
+    /// By a response, behind which the connection goes on.
+    Responds {
+        /// The response.
+        response: PreparedResponse,
+        /// Where the connection stands behind it.
+        next: ServerState,
+    },
+    /// By a response that refuses the login, and ends the connection.
+    Refuses {
+        /// The response.
+        response: PreparedResponse,
+        /// That end.
+        end: End,
+    },
+    /// By the connection's end alone.
+    Ends {
+        /// That end.
+        end: End,
+    },
+}
+
+/// Handles a message of a session whose packets have this SPID.
+pub(crate) fn handle<P: Port>(
+    alloc: Global,
+    config: &Config,
+    spid: u16,
+    session: &mut Session,
+    port: &mut P,
+    state: ServerState,
+    message: &Message,
+) -> Result<Handling, Memory>
+    requires ready { Ready session.old (P.past port.old) }
+    requires sized { IsSized state }
+    ensures handled { IsHandled spid (P.past port.old) (P.past port.new) (handle config.now state message.now) session.old result session.new }
+    ensures ready { Ready session.new (P.past port.new) }
+{
+    let payload = message.payload.as_slice();
+    match (state, message.kind) {
+        (ServerState::Initial, PRELOGIN) => handle_prelogin(alloc, payload),
+        (ServerState::Initial, LOGIN7) => handle_login(alloc, config, spid, payload),
+        (ServerState::LoginReady, LOGIN7) => handle_login(alloc, config, spid, payload),
+        (ServerState::LoggedIn { packet_size }, SQL_BATCH) => {
+            handle_batch(alloc, Channel { spid, packet_size }, session, port, payload)
+        }
+        (ServerState::LoggedIn { packet_size }, ATTENTION) => {
+            handle_attention(alloc, Channel { spid, packet_size })
+        }
+        (_, kind) => Ok(Handling::Ends {
+            end: End::OutOfPlace {
+                at: message.at,
+                kind,
+            },
+        }),
+    }
+}
+
+// ---- PRELOGIN and LOGIN7
+
+/// Handles a PRELOGIN with this payload.
+fn handle_prelogin(alloc: Global, payload: &[u8]) -> Result<Handling, Memory>
+    ensures answered { (spid : ℕ) → IsAnswered spid (handle_prelogin (prelogin_of payload.now)) result }
+{
+    match read_prelogin(payload) {
+        Ok(_) => {
+            let channel = Channel {
+                spid: PRELOGIN_SPID,
+                packet_size: DEFAULT_SIZE,
+            };
+            Ok(Handling::Responds {
+                response: PreparedResponse {
+                    channel,
+                    payload: prelogin_reply(alloc)?,
+                },
+                next: ServerState::LoginReady,
+            })
+        }
+        Err(fault) => Ok(Handling::Ends {
+            end: End::BadPrelogin { fault },
+        }),
+    }
+}
+
+/// Handles a LOGIN7 with this payload.
+fn handle_login(
+    alloc: Global,
+    config: &Config,
+    spid: u16,
+    payload: &[u8],
+) -> Result<Handling, Memory>
+    ensures answered { IsAnswered spid (handle_login config.now (login_of payload.now)) result }
+{
+    match read_login(alloc, payload) {
+        Ok(login) => match judge_login(&login, config) {
+            Ok(size) => grant(alloc, spid, size),
+            Err(number) => refuse(alloc, spid, number),
+        },
+        Err(LoginFault::Memory) => Err(Memory),
+        Err(_) => refuse(alloc, spid, UNREADABLE_LOGIN),
+    }
+}
+
+/// Grants a login, with packets of this many bytes from the next message on.
+fn grant(alloc: Global, spid: u16, size: u16) -> Result<Handling, Memory>
+    requires { IsPacketSize size }
+    ensures answered { IsAnswered spid (handle_verdict (Ok size)) result }
+{
+    let tokens = login_reply(alloc, size)?;
+    let response = PreparedResponse::of_tokens(alloc, first_channel(spid), &tokens)?;
+    Ok(Handling::Responds {
+        response,
+        next: ServerState::LoggedIn { packet_size: size },
+    })
+}
+
+/// Refuses a login by the error of this number.
+fn refuse(alloc: Global, spid: u16, number: i32) -> Result<Handling, Memory>
+    ensures answered { IsAnswered spid (refuse number) result }
+{
+    let tokens = refusal_tokens(alloc, number)?;
+    let response = PreparedResponse::of_tokens(alloc, first_channel(spid), &tokens)?;
+    Ok(Handling::Refuses {
+        response,
+        end: End::LoginRefused { number },
+    })
+}
+
+/// How packets are sent before a login is granted.
+fn first_channel(spid: u16) -> Channel
+    ensures { result ≡ record { spid = spid; packet_size = default_size } }
+{
+    Channel {
+        spid,
+        packet_size: DEFAULT_SIZE,
+    }
+}
+
+// ---- batches and attentions
+
+/// Handles a batch with this payload.
+fn handle_batch<P: Port>(
+    alloc: Global,
+    channel: Channel,
+    session: &mut Session,
+    port: &mut P,
+    payload: &[u8],
+) -> Result<Handling, Memory>
+    requires ready { Ready session.old (P.past port.old) }
+    requires sized { IsPacketSize channel.packet_size }
+    ensures handled { IsHandled channel.spid (P.past port.old) (P.past port.new) (handle_batch channel.packet_size payload.now (batch_fault payload.now)) session.old result session.new }
+    ensures ready { Ready session.new (P.past port.new) }
+{
+    match batch_text(payload) {
+        Ok(text) => respond_to_batch(alloc, channel, session, port, text),
+        Err(fault) => Ok(Handling::Ends {
+            end: End::BadBatch { fault },
+        }),
+    }
+}
+
+/// Runs the batch that this text is, and responds by what it sends.
+fn respond_to_batch<P: Port>(
+    alloc: Global,
+    channel: Channel,
+    session: &mut Session,
+    port: &mut P,
+    text: &[u8],
+) -> Result<Handling, Memory>
+    requires ready { Ready session.old (P.past port.old) }
+    requires sized { IsPacketSize channel.packet_size }
+    requires whole { length text.now % 2 ≡ 0 }
+    ensures handled { IsHandled channel.spid (P.past port.old) (P.past port.new) (responds (batch_response channel.packet_size (statement_of (units_of text.now) ∷ [])) (LoggedIn channel.packet_size)) session.old result session.new }
+    ensures ready { Ready session.new (P.past port.new) }
+{
+    let statements = [statement_in(alloc, text)?];
+    run_batch(alloc, session, port, &statements)?;
+    let response = PreparedResponse::of_tokens(alloc, channel, session.tokens())?;
+    Ok(Handling::Responds {
+        response,
+        next: ServerState::LoggedIn {
+            packet_size: channel.packet_size,
+        },
+    })
+}
+
+/// The statement that a text of whole units says.
+fn statement_in(alloc: Global, text: &[u8]) -> Result<Form, Memory>
+    requires { length text.now % 2 ≡ 0 }
+    ensures said { IfOk result (λ statement. statement ≡ statement_of (units_of text.now)) }
+    ensures small { IfOk result IsSmallForm }
+{
+    match units_of_le(alloc, text) {
+        Ok(units) => read_statement(alloc, units.as_slice()),
+        Err(UnitsFault::OddLength) => unreachable!(),
+        Err(UnitsFault::Memory) => Err(Memory),
+    }
+}
+
+/// The text of a batch's payload, as its bytes behind ALL_HEADERS, or what is wrong with it.
+fn batch_text(payload: &[u8]) -> Result<&[u8], BatchFault>
+    ensures text { IfOk result (λ text. (batch_fault payload.now ≡ None) × (text.now ≡ drop (headers_length payload.now) payload.now)) }
+    ensures even { IfOk result (λ text. length text.now % 2 ≡ 0) }
+    ensures fault { IfErr result (λ fault. batch_fault payload.now ≡ Some fault) }
+{
+    if payload.len() < HEADERS_LENGTH_LEN {
+        return Err(BatchFault::HeadersShort);
+    }
+    let total = LittleEndian::read_u32(payload) as usize;
+    if total < HEADERS_LENGTH_LEN || payload.len() < total {
+        return Err(BatchFault::HeadersTotal);
+    }
+    let (_, text) = payload.split_at(total);
+    if text.len() % 2 == 1 {
+        return Err(BatchFault::OddText);
+    }
+    Ok(text)
+}
+
+/// Acknowledges an attention.
+fn handle_attention(alloc: Global, channel: Channel) -> Result<Handling, Memory>
+    requires { IsPacketSize channel.packet_size }
+    ensures answered { IsAnswered channel.spid (handle_attention channel.packet_size) result }
+{
+    let response = PreparedResponse::of_tokens(alloc, channel, &[attention_done()])?;
+    Ok(Handling::Responds {
+        response,
+        next: ServerState::LoggedIn {
+            packet_size: channel.packet_size,
+        },
+    })
+}
