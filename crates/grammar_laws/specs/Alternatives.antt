@@ -4,6 +4,7 @@
 -- which a text of the rule may go on, which are fewer than FOLLOW and need no look at other rules.
 use Rattle.std.specs.Prelude.{Bool, true, not, ◌&&◌, List, [], ◌∷◌, Option, Some, None, if◌then◌else◌}
 use Rattle.grammar_laws.specs.Grammar.{Symbol, Trees, Grammar}
+use Rattle.grammar_laws.specs.Grammar.Symbol.{lexeme, rule, mark}
 use Rattle.grammar_laws.specs.Lookahead.{Lookahead, begins_by, empties_by}
 
 module _ {Rule : Type 0} (Lexeme Class Mark : Type 0) (Tree : Rule → Type 0) where
@@ -11,6 +12,24 @@ module _ {Rule : Type 0} (Lexeme Class Mark : Type 0) (Tree : Rule → Type 0) w
   pub record Alternative (r : Rule) : Type 0 where
     pub symbols : List (Symbol Class Rule Mark)
     pub build : Trees Lexeme Tree symbols → Tree r
+
+module _ {Class Rule Mark : Type 0} (Lexeme : Type 0) (Tree : Rule → Type 0) where
+  -- what a production stands for, as a function of its lexemes and trees one after another
+  abbrev pub Builds : List (Symbol Class Rule Mark) → Type 0 → Type 0
+  Builds [] T = T
+  Builds (lexeme c ∷ is) T = Lexeme → Builds is T
+  Builds (rule r ∷ is) T = Tree r → Builds is T
+  Builds (mark m ∷ is) T = Builds is T
+
+  abbrev pub built : (is : List (Symbol Class Rule Mark)) (T : Type 0) → Builds is T → Trees Lexeme Tree is → T
+  built [] T b v = b
+  built (lexeme c ∷ is) T b v = built is T (b v.0) v.1
+  built (rule r ∷ is) T b v = built is T (b v.0) v.1
+  built (mark m ∷ is) T b v = built is T b v
+
+  -- a production from its symbols and such a function
+  abbrev pub way : {r : Rule} (is : List (Symbol Class Rule Mark)) → Builds is (Tree r) → Alternative Lexeme Class Mark Tree r
+  way {r = r} is b = record { symbols = is; build = built is (Tree r) b }
 
 -- an index into a list: its first member, or one behind it
 abbrev pub IndexOf : {A : Type 0} → List A → Type 0

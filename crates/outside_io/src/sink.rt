@@ -2,14 +2,18 @@
 
 ghost use Rattle.std.specs.Prelude.{◌≡◌, ℕ, ◌≤◌, ◌<◌, List, [], length, take, IfOk, Option};
 ghost use Rattle.std.specs.Io.KnownBytes.{Appends};
-ghost use Rattle.outside_io.specs.Bytes.{HasRisen, AppendsOrHides};
+ghost use Rattle.outside_io.specs.Bytes.{HasRisen, AppendsOrHides, StaysHidden};
+
+use thiserror::Error;
 
 /// Why bytes could not be written.
-#[derive(Clone, Copy, Debug, PartialEq, Eq)]
+#[derive(Clone, Copy, Debug, PartialEq, Eq, Error)]
 pub enum SinkFault {
     /// The sink failed, and counts it among its faults.
+    #[error("writing failed")]
     Failed,
     /// Memory was wanting. Nothing was taken, and it is no fault of the sink.
+    #[error("memory was wanting")]
     Memory,
 }
 
@@ -35,6 +39,9 @@ pub trait Sink {
         ensures hidden { result ≡ Err SinkFault.Failed → AppendsOrHides (written self.old) (written self.new) [] }
         ensures memory { result ≡ Err SinkFault.Memory → Appends (written self.old) (written self.new) [] }
         ensures counted { faults self.old ≤ faults self.new }
+
+        // A sink that has hidden its bytes at a fault tells none any more.
+        ensures quiet { StaysHidden (faults self.old) (written self.old) (written self.new) }
 
         // A write that took something is no fault, and neither is one of nothing or want of memory.
         ensures no_fault { IfOk result (λ n. (n ≡ 0 → length from.now ≡ 0) → faults self.new ≡ faults self.old) }

@@ -4,8 +4,11 @@ ghost use Rattle.std.specs.Prelude.{◌≡◌, ℕ, ◌≤◌, ◌<◌, List, []
 ghost use Rattle.std.specs.Io.KnownBytes.{IsAtEnd};
 ghost use Rattle.outside_io.specs.Bytes.{Takes, HasRisen};
 
+use thiserror::Error;
+
 /// A read that failed. The source counts it among its faults.
-#[derive(Clone, Copy, Debug, PartialEq, Eq)]
+#[derive(Clone, Copy, Debug, PartialEq, Eq, Error)]
+#[error("reading failed")]
 pub struct Failed;
 
 /// Where bytes come from: a socket, standard input, a list in memory.

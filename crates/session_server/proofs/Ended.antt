@@ -14,7 +14,11 @@ use Rattle.tds_packets.specs.declared.fault.SendFault.{SendFault}
 use Rattle.tds_packets.specs.declared.fault.SendFault.TheVariants as sending
 use Rattle.tds_packets.specs.Stream.{IsMessage}
 use Rattle.tds_packets.specs.Reading.{StopsBy, IsUnrefused, IsEnd}
-use Rattle.tds_packets.specs.Packets.{IsPartSent}
+use Rattle.tds_packets.specs.Header.{tabular_result}
+use Rattle.tds_packets.specs.Packets.{IsPartSent, default_size}
+use Rattle.tds_packets.proofs.Packed.{Packets_length}
+use Rattle.tds_tokens.specs.Spelling.{TokenBytes}
+use Rattle.tds_login.specs.Prelogin.{prelogin_reply}
 use Rattle.step_model.specs.Exchange.{PortPast, GoesOn}
 use Rattle.session_server.specs.declared.end.End.{End}
 use Rattle.session_server.specs.declared.end.End.TheVariants.{OutOfPlace, BadPrelogin, LoginRefused, BadBatch, Memory}
@@ -23,8 +27,8 @@ use Rattle.session_server.specs.Asking.{Does}
 use Rattle.session_server.specs.Conversation.{Conversation, Means, Wrote, EndsAtLast, IsUnended, IsAnswered, EndsBy, Emptied, spid_of}
 use Rattle.session_server.specs.Ends.{end_of_message, end_of_sending}
 use Rattle.session_server.specs.Parts.{IsEndOf}
-use Rattle.session_server.specs.Response.{Response}
-use Rattle.session_server.specs.Talk.{Handling, responds, refuses, ends, first_place, answer_to, Talk, talk_end, response_bytes, Bytes}
+use Rattle.session_server.specs.Response.{Response, options, tabular}
+use Rattle.session_server.specs.Talk.{Handling, responds, refuses, ends, first_place, answer_to, Talk, talk_end, response_bytes, prelogin_spid, Bytes}
 use Rattle.session_server.proofs.Served.{HasResponse, responds_so, refuses_so, ends_so, Served, means_of, all_taken, place_of, means_more, end_of_more, written_more, split_partial, split_whole, long_enough}
 use Rattle.session_server.proofs.Talks.{IsOfMessage, is_of_message, end_made}
 
@@ -98,8 +102,12 @@ wrote_sending spid old mid new responses response sending.WriteFault written par
 wrote_sending spid old mid new responses response sending.Memory written part =
     (responses, response, part.0, refl, part.1, Appends-trans old mid new (Bytes spid responses) part.0 written part.2)
 
+response_length : (spid : ℕ) (response : Response) → 8 ≤ length (response_bytes spid response)
+response_length spid options = Packets_length tabular_result prelogin_spid default_size prelogin_reply
+response_length spid (tabular size tokens commits) = Packets_length tabular_result spid size (TokenBytes tokens)
+
 wrote_none : (spid : ℕ) (old mid : Option (List ℕ)) (responses : List Response) (response : Response) → Appends old mid (Bytes spid responses) → Wrote spid old mid (responses ++ response ∷ []) [] Memory
-wrote_none spid old mid responses response written = (responses, response, [], refl, refl, subst (Appends old mid) (sym (append-nil (Bytes spid responses))) written)
+wrote_none spid old mid responses response written = (responses, response, [], refl, (refl, omega (arith, response_length spid response)), subst (Appends old mid) (sym (append-nil (Bytes spid responses))) written)
 
 -- ---- the conversation, where it ends
 

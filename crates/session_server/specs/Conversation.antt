@@ -2,9 +2,8 @@
 -- wrote for them, and why it ended. The whole of the bytes and of the exchanges is spoken of; the
 -- code goes message by message.
 use Rattle.std.specs.Prelude.{◌≡◌, ℕ, ℤ, ◌+◌, ◌-◌, ◌<◌, ◌≤◌, ◌⊎◌, List, [], ◌∷◌, ◌++◌, length, Option, None, Some, IfSome}
-use Rattle.std.specs.Io.{StartsWith}
 use Rattle.std.specs.Io.KnownBytes.{Appends, IsAtEnd}
-use Rattle.outside_io.specs.Bytes.{AppendsOrHides}
+use Rattle.outside_io.specs.Bytes.{IsProperFront, AppendsOrHides}
 use Rattle.tds_login.specs.declared.config.Config.{Config}
 use Rattle.tds_packets.specs.declared.message.Message.{Message}
 use Rattle.tds_packets.specs.declared.fault.MessageFault.TheVariants as faults
@@ -63,14 +62,14 @@ EndsBy config messages at rest Memory = IsAnswered config messages rest × (8 �
 
 -- ---- what was written
 
--- All responses but the last were written whole, and of the last one some front. `wrote` says which
--- bytes the sink took.
+-- All responses but the last were written whole, and of the last one a front, and not all of it. `wrote`
+-- says which bytes the sink took.
 abbrev pub IsPartWritten : ℕ → (List ℕ → Type 0) → List Response → Type 0
 IsPartWritten spid wrote responses = (front : List Response) × (last : Response) × (part : List ℕ) × (responses ≡ front ++ last ∷ [])
-    × StartsWith (response_bytes spid last) part × wrote (Bytes spid front ++ part)
+    × IsProperFront (response_bytes spid last) part × wrote (Bytes spid front ++ part)
 
 -- The sink, which told `old` and tells `new`, has all responses. Where writing failed, or memory was
--- wanting with nothing taken behind the last message, it has all but the last and some front of that
+-- wanting with nothing taken behind the last message, it has all but the last and a front of that
 -- one. After its own fault it may tell nothing any more.
 abbrev pub Wrote : ℕ → Option (List ℕ) → Option (List ℕ) → List Response → List ℕ → End → Type 0
 Wrote spid old new responses rest WriteFault = IsPartWritten spid (AppendsOrHides old new) responses

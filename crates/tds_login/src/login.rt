@@ -10,6 +10,7 @@ ghost use Rattle.tds_login.specs.declared.login.LoginFault.TheVariants.{Memory a
 
 use byteorder::{ByteOrder, LittleEndian};
 use std::alloc::{AllocError, AllocFailed, Global};
+use thiserror::Error;
 use value_types::{Units, units_of_le};
 
 /// The version of the protocol that is served.
@@ -125,20 +126,25 @@ pub struct Login {
 }
 
 /// Why a payload is no LOGIN7 that is served.
-#[derive(Clone, Copy, Debug, PartialEq, Eq)]
+#[derive(Clone, Copy, Debug, PartialEq, Eq, Error)]
 pub enum LoginFault {
     /// It has fewer than the 94 bytes of the fixed part.
+    #[error("the login has fewer than 94 bytes")]
     Short,
     /// Its Length field is below 94 or above the payload.
+    #[error("the Length of the login is below 94 or above its bytes")]
     Length,
     /// It is of another version than TDS 7.4.
+    #[error("the version of the login is not TDS 7.4")]
     Version,
     /// A field passes the Length field.
+    #[error("field {field} passes the Length of the login")]
     Range {
         /// The field's number, in the order of the fixed part.
         field: u8,
     },
     /// Memory was wanting.
+    #[error("memory was wanting")]
     Memory,
 }
 

@@ -6,6 +6,7 @@ ghost use Rattle.tds_login.specs.Walk.{option_at, judged_after, seen_after};
 
 use byteorder::{BigEndian, ByteOrder};
 use std::alloc::Global;
+use thiserror::Error;
 use value_types::Memory;
 
 /// The token that ends the list of options.
@@ -34,11 +35,13 @@ pub struct Prelogin {
 }
 
 /// Why a payload is no PRELOGIN.
-#[derive(Clone, Copy, Debug, PartialEq, Eq)]
+#[derive(Clone, Copy, Debug, PartialEq, Eq, Error)]
 pub enum PreloginFault {
     /// The list of options is not ended.
+    #[error("the options of the PRELOGIN are not ended")]
     NoEnd,
     /// The value of an option passes the payload.
+    #[error("option {option} passes the PRELOGIN")]
     Range {
         /// The option's token.
         option: u8,

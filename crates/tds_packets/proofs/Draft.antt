@@ -1,5 +1,5 @@
 -- A message of which some packets were read.
-use Rattle.std.proofs.Common.{◌≡◌, ℕ, ◌+◌, ◌≤◌, true, false, List, [], ◌∷◌, ◌++◌, length, drop, Option, refl, sym, ap, ◌∙◌, subst, inl, inr, ◌⊎◌, append-nil, arith, length-append, length-drop}
+use Rattle.std.proofs.Common.{◌≡◌, ℕ, ◌+◌, ◌≤◌, true, false, List, [], ◌∷◌, ◌++◌, length, drop, Option, refl, sym, ap, ◌∙◌, subst, inl, inr, ◌⊎◌, append-nil, append_assoc, arith, length-append, length-drop}
 use Rattle.std.specs.Prelude.{IsTrue, Some, None}
 use Rattle.tds_packets.specs.Header.{kind_of, is_known_type, length_of}
 use Rattle.tds_packets.specs.Stream.{payload_limit, IsPacket, AreOpen, bytes_of, data_of, type_of, goes_on, IsMessage, Stops, IsTail, header_fault, tail_end}
@@ -8,7 +8,7 @@ use Rattle.tds_packets.specs.Parts.{IsHeader, TailStopsBy, IsOpenTail}
 use Rattle.tds_packets.specs.declared.header.PacketHeader.{PacketHeader}
 use Rattle.tds_packets.specs.declared.fault.MessageFault.{MessageFault}
 use Rattle.tds_packets.specs.declared.fault.MessageFault.TheVariants.{Closed, Cut, BadHeader, TooLong, ReadFault, Memory, Spent}
-use Rattle.tds_packets.proofs.Fronts.{IsRight, right_header, header_fault-right, which_fault, how_ended}
+use Rattle.tds_packets.proofs.Fronts.{IsRight, right_header, header_fault-right, header_fault-front, tail_end-fault, which_fault, how_ended}
 use Rattle.tds_packets.proofs.Open.{bytes_of-append, data_of-append, AreOpen-append, AreOpen-kind, type_of-more}
 
 -- these packets end no message, are of this type, and carry this
@@ -129,7 +129,7 @@ module _ (earlier : List (List ℕ)) (begun : Option ℕ) (payload : List ℕ) (
   by_fault (TooLong place) told =
       let here = header_place (type_of earlier) (length (data_of earlier)) (at + length (bytes_of earlier)) place tail (TooLong place) (inr refl) told.0 in
       (stops (TooLong place) here.1 told.0, omega (arith, here.0, told.1, length-append (bytes_of earlier) tail))
-  by_fault ReadFault told = unrefused told
+  by_fault ReadFault told = (unrefused told.0, omega (arith, told.1, length-append (bytes_of earlier) tail))
   by_fault Memory told = (unrefused told.0, omega (arith, told.1, length-append (bytes_of earlier) tail))
   by_fault Spent told = (unrefused told.0, omega (arith, told.1, length-append (bytes_of earlier) tail))
 
@@ -140,3 +140,28 @@ module _ (earlier : List (List ℕ)) (begun : Option ℕ) (payload : List ℕ) (
       subst (λ (n : ℕ). TailStopsBy begun n (at + length (bytes_of earlier)) tail fault) (ap length draft.data_is) (subst (λ (n : ℕ). TailStopsBy begun (length payload) n tail fault) here told)
       )
       )
+
+-- a header that is refused in the front of a stream is refused in all of it
+pub refused_whole : (at place : ℕ) (front back : List ℕ) (fault : MessageFault) → (fault ≡ BadHeader place) ⊎ (fault ≡ TooLong place) → Stops at front fault → Stops at (front ++ back) fault
+refused_whole at place front back fault which stops =
+    let begun = type_of stops.earlier in
+    let size = length (data_of stops.earlier) in
+    let here = at + length (bytes_of stops.earlier) in
+    elim (how_ended begun size here stops.tail fault stops.end) [
+      | inl closed ↦ absurd (no_end fault place 0 which (inl closed))
+      | inr (inl cut) ↦ absurd (no_end fault place (here + length stops.tail) which (inr cut))
+      | inr (inr header) ↦
+          let tail = stops.tail ++ back in
+          let is : header_fault begun size here tail ≡ Some fault = header_fault-front stops.tail back header.0 begun size here ∙ header.1 in
+          record {
+            kind = stops.kind;
+            earlier = stops.earlier;
+            tail = tail;
+            joined = ap (λ (s : List ℕ). s ++ back) stops.joined ∙ append_assoc (bytes_of stops.earlier) stops.tail back;
+            known = stops.known;
+            before = stops.before;
+            limit = stops.limit;
+            partial = fault_tail begun size here tail fault is;
+            end = tail_end-fault begun size here tail fault (omega (arith, header.0, length-append stops.tail back)) is;
+          }
+    ]

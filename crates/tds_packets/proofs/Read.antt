@@ -57,7 +57,7 @@ module _ (begun : Option ℕ) (size at : ℕ) (front body : List ℕ) (header : 
 
   pub body_cut : (taken : ℕ) (buffer : List ℕ) (fault : MessageFault) → length buffer ≡ header.body_len → taken ≡ at + length (front ++ body) → Fills taken buffer body (Err fault)
       → TailStopsBy begun size at (front ++ body) fault
-  body_cut taken buffer ReadFault room told filled = open_tail (omega (arith, filled))
+  body_cut taken buffer ReadFault room told filled = (open_tail (omega (arith, filled.0)), omega (arith, told, filled.1))
   body_cut taken buffer Spent room told filled = (open_tail (omega (arith, filled.0)), sym told ∙ filled.1)
   body_cut taken buffer (Cut place) room told filled =
       (partial (omega (arith, filled.0)), cut ∙ ap (λ (n : ℕ). Cut n) (sym told ∙ sym filled.1), omega (arith, told, filled.2))

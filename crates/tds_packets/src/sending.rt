@@ -2,7 +2,7 @@
 
 ghost use Rattle.std.specs.Prelude.{◌≡◌, ◌≢◌, ◌+◌, ◌*◌, ◌^◌, ◌<◌, ◌≤◌, ◌++◌, length, OnOk, IfErr};
 ghost use Rattle.std.specs.Io.KnownBytes.{Appends};
-ghost use Rattle.outside_io.specs.Bytes.{HasRisen};
+ghost use Rattle.outside_io.specs.Bytes.{HasRisen, StaysHidden};
 ghost use Rattle.tds_packets.specs.Packets.{Packets, packet_at, IsPartSent, least_size, most_size};
 
 use crate::fault::SendFault;
@@ -37,6 +37,7 @@ pub fn send_message<K: Sink>(
     ensures write_fault { result ≡ Err SendFault.WriteFault → HasRisen (K.faults sink.old) (K.faults sink.new) }
     ensures no_fault { result ≢ Err SendFault.WriteFault → K.faults sink.new ≡ K.faults sink.old }
     ensures counted { K.faults sink.old ≤ K.faults sink.new }
+    ensures quiet { StaysHidden (K.faults sink.old) (K.written sink.old) (K.written sink.new) }
 {
     let room = usize::from(size) - HEADER_LEN;
     let count = payload.len().saturating_sub(1) / room + 1;
@@ -80,6 +81,7 @@ fn write_whole<K: Sink>(sink: &mut K, bytes: &[u8]) -> Result<(), SendFault>
     ensures write_fault { result ≡ Err SendFault.WriteFault → HasRisen (K.faults sink.old) (K.faults sink.new) }
     ensures no_fault { result ≢ Err SendFault.WriteFault → K.faults sink.new ≡ K.faults sink.old }
     ensures counted { K.faults sink.old ≤ K.faults sink.new }
+    ensures quiet { StaysHidden (K.faults sink.old) (K.written sink.old) (K.written sink.new) }
 {
     let mut rest = bytes;
     while !rest.is_empty() {

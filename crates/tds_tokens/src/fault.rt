@@ -5,16 +5,19 @@ ghost use Rattle.tds_tokens.specs.declared.fault.ReadFault.TheVariants.{Memory a
 ghost use Rattle.tds_tokens.specs.declared.fault.TokenFault.TheVariants.{Memory as NoMemoryLeft};
 
 use std::alloc::{AllocError, AllocFailed};
+use thiserror::Error;
 
 /// Why the bytes could not be read as tokens.
-#[derive(Clone, Copy, Debug, PartialEq, Eq)]
+#[derive(Clone, Copy, Debug, PartialEq, Eq, Error)]
 pub enum TokenFault {
     /// No token begins at this byte, behind the tokens before it.
+    #[error("no token begins at byte {at}")]
     Bad {
         /// How many bytes stand before it.
         at: u64,
     },
     /// Memory was wanting.
+    #[error("memory was wanting")]
     Memory,
 }
 

@@ -20,7 +20,7 @@ pub enum DoneKind {
 }
 
 /// A token ([MS-TDS] 2.2.7).
-#[derive(Debug, Drop)]
+#[derive(Debug, Drop, PartialEq, Eq)]
 pub enum Token {
     /// LOGINACK (2.2.7.14): the login is granted.
     LoginAck {

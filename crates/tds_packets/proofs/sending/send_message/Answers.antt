@@ -1,10 +1,10 @@
-use Rattle.std.proofs.Common.{◌≡◌, ◌+◌, ◌-◌, ◌/◌, ◌<◌, ◌≤◌, ◌++◌, ℕ, List, [], length, arith, ap, ◌∙◌, subst, sym, le_of_lt}
+use Rattle.std.proofs.Common.{◌≡◌, ◌+◌, ◌-◌, ◌/◌, ◌<◌, ◌≤◌, ◌++◌, ℕ, List, [], length, arith, ap, ◌∙◌, subst, sym}
 use Rattle.std.specs.List.{flat_map}
 use Rattle.std.specs.Io.KnownBytes.{Appends}
-use Rattle.std.proofs.KnownBytes.{Appends-trans}
+use Rattle.std.proofs.KnownBytes.{Appends-nil, Appends-trans}
 use Rattle.std.proofs.lemmas.Result.{err_from_is_err_and}
 use Rattle.tds_packets.specs.Packets.{count_up, packet_at, packet_count, IsPartSent}
-use Rattle.tds_packets.proofs.Packed.{front_sent, part_sent, packets-suc}
+use Rattle.tds_packets.proofs.Packed.{packet_length, front_sent, part_sent, packets-suc}
 use Rattle.tds_packets.proofs.sending.send_message.Goals as goal
 
 -- the loop's end is the count of the packets
@@ -18,12 +18,19 @@ packet_written kind spid size from k payload bytes items cleared least is none f
     let room : from - 8 + 8 ≡ size = omega arith in
     same ∙ filled ∙ ap (λ (s : List ℕ). s ++ packet_at kind spid (from - 8 + 8) payload k) none ∙ ap (λ (n : ℕ). packet_at kind spid n payload k) room
 
+pub returns-in_err-packet-clause-part : goal.returns-in_err-packet-clause-part
+returns-in_err-packet-clause-part g c =
+    let p = err_from_is_err_and c.from_residual.result c.from_residual.ensures.1 in
+    let f = packet_at c.args.kind c.args.spid c.args.size c.args.payload.now in
+    rw (p.1, p.2)
+    (front_sent f 0 (packet_count (c.args.size - 8) (length c.args.payload.now)) _ _ (omega arith) (packet_length c.args.kind c.args.spid c.args.size c.args.payload.now 0) (Appends-nil (g.K.Sink.written c.args.sink.now)))
+
 pub returns-in_err-put_packet-clause-part : goal.returns-in_err-put_packet-clause-part
 returns-in_err-put_packet-clause-part g c =
     let p = err_from_is_err_and c.from_residual-in_err-put_packet.result c.from_residual-in_err-put_packet.ensures.1 in
     let below = below_count c.args.size c.from-room.result c.saturating_sub.result c.loop-k.k (length c.args.payload.now) c.from-room.ensures c.saturating_sub.ensures c.loop-k-test.true in
     rw (p.1, p.2)
-    (front_sent (packet_at c.args.kind c.args.spid c.args.size c.args.payload.now) c.loop-k.k (packet_count (c.args.size - 8) (length c.args.payload.now)) _ _ (le_of_lt below) c.loop-k.invariant.sent)
+    (front_sent (packet_at c.args.kind c.args.spid c.args.size c.args.payload.now) c.loop-k.k (packet_count (c.args.size - 8) (length c.args.payload.now)) _ _ below (packet_length c.args.kind c.args.spid c.args.size c.args.payload.now c.loop-k.k) c.loop-k.invariant.sent)
 
 pub returns-in_err-write_whole-clause-part : goal.returns-in_err-write_whole-clause-part
 returns-in_err-write_whole-clause-part g c =
@@ -47,4 +54,5 @@ loop-k-preserved g c =
       sent = subst (λ (s : List ℕ). Appends (g.K.Sink.written c.args.sink.now) (g.K.Sink.written c.write_whole.new.sink) s) (sym (packets-suc f c.loop-k.k))
           (Appends-trans _ (g.K.Sink.written c.loop-k.sink) _ (flat_map f (count_up c.loop-k.k)) (f c.loop-k.k) c.loop-k.invariant.sent sent);
       no_fault = c.in_ok-write_whole.ensures.no_fault (λ is. let never : ⊥ = cc in never) ∙ c.loop-k.invariant.no_fault;
+      quiet = λ some none. c.in_ok-write_whole.ensures.quiet (omega (arith, c.loop-k.invariant.no_fault, some)) (c.loop-k.invariant.quiet some none);
     }

@@ -1,0 +1,2 @@
+pub mod Adding  -- the machine that adds, and its steps
+pub mod AddingLaws  -- its laws

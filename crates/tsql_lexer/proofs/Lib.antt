@@ -1,0 +1,8 @@
+mod Rows
+pub mod Runs
+pub mod QuoteSteps
+pub mod CommentSteps
+pub mod Digits
+pub mod Openings
+pub mod Sizes
+pub mod Passing

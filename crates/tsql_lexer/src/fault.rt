@@ -1,0 +1,56 @@
+//! Why a text has no lexemes, or none from some place on.
+
+ghost use Rattle.std.specs.Prelude.{◌≡◌};
+ghost use Rattle.tsql_lexer.specs.declared.fault.LexFault.TheVariants.{Memory as NoMemory};
+
+use value_types::Memory;
+
+/// Which rule no text keeps that goes on as this one does.
+#[derive(Clone, Copy, Debug, PartialEq, Eq)]
+pub enum LexKind {
+    /// A text that no quote closes.
+    OpenText,
+    /// A comment that no `*/` closes.
+    OpenComment,
+    /// A quoted name that nothing closes, that is empty, or that ends in a space.
+    OpenName,
+    /// A number above 9223372036854775807.
+    NumberTooBig,
+    /// A unit that begins no lexeme and no comment where it stands.
+    BadUnit,
+}
+
+/// The first place of a text where the lexical rules fail.
+#[derive(Clone, Copy, Debug, PartialEq, Eq)]
+pub struct Flaw {
+    /// How many units stand before it.
+    pub at: u32,
+    /// Its line, counted from 1.
+    pub line: u32,
+    /// Which rule fails.
+    pub kind: LexKind,
+}
+
+/// Why a text has no list of lexemes.
+#[derive(Clone, Copy, Debug, PartialEq, Eq)]
+pub enum LexFault {
+    /// The lexical rules fail, at this place first.
+    Bad {
+        /// How many units stand before it.
+        at: u32,
+        /// Its line, counted from 1.
+        line: u32,
+        /// Which rule fails.
+        kind: LexKind,
+    },
+    /// Memory was wanting.
+    Memory,
+}
+
+impl From<Memory> for LexFault {
+    ghost from_gives = { λ _ fault. fault ≡ NoMemory };
+
+    fn from(_e: Memory) -> LexFault {
+        LexFault::Memory
+    }
+}
