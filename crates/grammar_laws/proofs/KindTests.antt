@@ -73,7 +73,7 @@ module _ {Lexeme Class Rule Mark State Kind : Type 0} (t : KindGrammar Lexeme Cl
   followed r (mark m ∷ is) k = followed r is k
   followed r (rule q ∷ is) k = implies (may_begin t is k) (follow t q k) && (implies (may_be_empty t is) (implies (follow t r k) (follow t q k)) && followed r is k)
 
-  abbrev unbound : Symbols → Bool
+  abbrev pub unbound : Symbols → Bool
   unbound [] = true
   unbound (lexeme c ∷ is) = not (t.binding c) && unbound is
   unbound (rule q ∷ is) = unbound is
@@ -104,7 +104,7 @@ module _ {Lexeme Class Rule Mark State Kind : Type 0} (t : KindGrammar Lexeme Cl
   begins_kind (mark m ∷ is) l = begins_kind is l
   begins_kind (rule q ∷ is) l = rw (begins_kind is l)
 
-  unbound_so : (is : Symbols) → unbound is ≡ true → HasNoBinding (grammar_of t) (lookahead_of t) is
+  pub unbound_so : (is : Symbols) → unbound is ≡ true → HasNoBinding (grammar_of t) (lookahead_of t) is
   unbound_so [] e = tt
   unbound_so (lexeme c ∷ is) e = let p = and_true _ _ e in (not_true (t.binding c) p.0, unbound_so is p.1)
     where

@@ -6,74 +6,70 @@ use Rattle.tds_login.specs.declared.prelogin.Prelogin.{Prelogin}
 use Rattle.tds_login.specs.declared.prelogin.PreloginFault.{PreloginFault}
 use Rattle.tds_login.specs.declared.prelogin.PreloginFault.TheVariants.{NoEnd, Range}
 use Rattle.tds_login.specs.declared.prelogin.Seen.{Seen}
-use Rattle.tds_login.specs.Prelogin.{PreloginOption, options_of, with_option, terminator, encryption_token, is_outside, value_in, encryption_in, judged, prelogin_by, prelogin_of}
-use Rattle.tds_login.specs.Walk.{option_at, seen_after, judged_after}
+use Rattle.tds_login.specs.Prelogin.{PreloginOption, option_at, has_encryption, options_of, with_option, terminator, is_outside, value_in, encryption_in, prelogin_unless, prelogin_by, prelogin_of}
+use Rattle.tds_login.specs.Walk.{look_at, judge}
 
 -- what is seen behind these options
 abbrev pub seen_all : List ℕ → Seen → List PreloginOption → Seen
 seen_all payload seen [] = seen
-seen_all payload seen (option ∷ options) = seen_all payload (seen_after payload seen option) options
+seen_all payload seen (option ∷ options) = seen_all payload (look_at payload seen option) options
 
 -- what is said, by what was seen and the options that are left
 abbrev pub resumed : List ℕ → Seen → Option (List PreloginOption) → Result Prelogin PreloginFault
 resumed payload seen None = Err NoEnd
-resumed payload seen (Some options) = judged_after (seen_all payload seen options)
+resumed payload seen (Some options) = judge (seen_all payload seen options)
 
 -- nothing was seen
 abbrev pub unseen : Seen
 unseen = record { refused = None; encryption = None }
 
-pub resumed_more : (payload : List ℕ) (seen : Seen) (option : PreloginOption) (options : Option (List PreloginOption)) → resumed payload seen (with_option option options) ≡ resumed payload (seen_after payload seen option) options
+pub resumed_more : (payload : List ℕ) (seen : Seen) (option : PreloginOption) (options : Option (List PreloginOption)) → resumed payload seen (with_option option options) ≡ resumed payload (look_at payload seen option) options
 resumed_more payload seen option None = refl
 resumed_more payload seen option (Some options) = refl
 
 -- behind a refused option nothing is looked at
-refused_stays : (payload : List ℕ) (token : ℕ) (encryption : Option ℕ) (options : List PreloginOption) → judged_after (seen_all payload (record { refused = Some token; encryption = encryption }) options) ≡ Err (Range token)
-unfolding seen_after judged_after
+refused_stays : (payload : List ℕ) (token : ℕ) (encryption : Option ℕ) (options : List PreloginOption) → judge (seen_all payload (record { refused = Some token; encryption = encryption }) options) ≡ Err (Range token)
+unfolding look_at judge
 refused_stays payload token encryption [] = refl
 refused_stays payload token encryption (option ∷ options) = refused_stays payload token encryption options
-
--- the option is an ENCRYPTION that has a value
-abbrev has_value : PreloginOption → Bool
-has_value option = option.token == encryption_token && leb 1 option.length
 
 -- what is said where the first option outside, if any, and the value are these
 abbrev said : Option ℕ → Option PreloginOption → Result Prelogin PreloginFault
 said encryption None = Ok (record { encryption = encryption })
 said encryption (Some option) = Err (Range option.token)
 
-judged_said : (payload : List ℕ) (options : List PreloginOption) (outside : Option PreloginOption) → judged payload options outside ≡ said (encryption_in payload options) outside
-judged_said payload options None = refl
-judged_said payload options (Some option) = refl
+unless_said : (payload : List ℕ) (options : List PreloginOption) (outside : Option PreloginOption) → prelogin_unless payload options outside ≡ said (encryption_in payload options) outside
+unless_said payload options None = refl
+unless_said payload options (Some option) = refl
 
 -- one option more, which is outside or not
 step_value : (payload : List ℕ) (value : ℕ) (option : PreloginOption) (options : List PreloginOption) (outside : Bool)
-    → judged_after (seen_all payload (record { refused = None; encryption = Some value }) options) ≡ said (Some value) (find (is_outside payload) options)
-    → judged_after (seen_all payload (cond outside (record { refused = Some option.token; encryption = Some value }) (record { refused = None; encryption = Some value })) options) ≡ said (Some value) (cond outside (Some option) (find (is_outside payload) options))
+    → judge (seen_all payload (record { refused = None; encryption = Some value }) options) ≡ said (Some value) (find (is_outside payload) options)
+    → judge (seen_all payload (cond outside (record { refused = Some option.token; encryption = Some value }) (record { refused = None; encryption = Some value })) options) ≡ said (Some value) (cond outside (Some option) (find (is_outside payload) options))
 step_value payload value option options true rest = refused_stays payload option.token (Some value) options
 step_value payload value option options false rest = rest
 
-value_stays : (payload : List ℕ) (value : ℕ) (options : List PreloginOption) → judged_after (seen_all payload (record { refused = None; encryption = Some value }) options) ≡ said (Some value) (find (is_outside payload) options)
-unfolding seen_after judged_after
+value_stays : (payload : List ℕ) (value : ℕ) (options : List PreloginOption) → judge (seen_all payload (record { refused = None; encryption = Some value }) options) ≡ said (Some value) (find (is_outside payload) options)
+unfolding look_at judge
 value_stays payload value [] = refl
 value_stays payload value (option ∷ options) = step_value payload value option options (is_outside payload option) (value_stays payload value options)
 
 -- one option more where none was seen to have a value: it has one or not, and is outside or not
 step_none : (payload : List ℕ) (option : PreloginOption) (options : List PreloginOption) (outside has : Bool)
-    → judged_after (seen_all payload unseen options) ≡ judged payload options (find (is_outside payload) options)
-    → judged_after (seen_all payload (cond outside (record { refused = Some option.token; encryption = None }) (record { refused = None; encryption = cond has (Some (slice_index payload option.offset)) None })) options)
-    ≡ said (value_in payload (cond has (Some option) (find has_value options))) (cond outside (Some option) (find (is_outside payload) options))
-unfolding judged_after
+    → judge (seen_all payload unseen options) ≡ prelogin_unless payload options (find (is_outside payload) options)
+    → judge (seen_all payload (cond outside (record { refused = Some option.token; encryption = None }) (record { refused = None; encryption = cond has (Some (slice_index payload option.offset)) None })) options)
+    ≡ said (value_in payload (cond has (Some option) (find has_encryption options))) (cond outside (Some option) (find (is_outside payload) options))
+unfolding judge
 step_none payload option options true has rest = refused_stays payload option.token None options
 step_none payload option options false true rest = value_stays payload (slice_index payload option.offset) options
-step_none payload option options false false rest = rest ∙ judged_said payload options (find (is_outside payload) options)
+step_none payload option options false false rest = rest ∙ unless_said payload options (find (is_outside payload) options)
 
-none_seen : (payload : List ℕ) (options : List PreloginOption) → judged_after (seen_all payload unseen options) ≡ judged payload options (find (is_outside payload) options)
-unfolding seen_after judged_after
+none_seen : (payload : List ℕ) (options : List PreloginOption) → judge (seen_all payload unseen options) ≡ prelogin_unless payload options (find (is_outside payload) options)
+unfolding look_at judge
 none_seen payload [] = refl
 none_seen payload (option ∷ options) =
-    step_none payload option options (is_outside payload option) (has_value option) (none_seen payload options)
-    ∙ sym (judged_said payload (option ∷ options) (find (is_outside payload) (option ∷ options)))
+    step_none payload option options (is_outside payload option) (has_encryption option) (none_seen payload options)
+    ∙ sym (unless_said payload (option ∷ options) (find (is_outside payload) (option ∷ options)))
 
 pub resumed_first : (payload : List ℕ) → prelogin_of payload ≡ resumed payload unseen (options_of payload)
 unfolding prelogin_of

@@ -14,8 +14,8 @@ use Rattle.tds_login.specs.declared.login.LoginFault.TheVariants.{Short, Length,
 -- ---- the fixed part
 
 -- how many bytes it has
-abbrev pub fixed_len : ℕ
-fixed_len = 94
+abbrev pub fixed_length : ℕ
+fixed_length = 94
 
 -- a number of four bytes, the lowest first
 abbrev pub long_at : List ℕ → ℕ → ℕ
@@ -25,13 +25,15 @@ long_at payload offset = little_number 4 (drop offset payload)
 abbrev pub short_at : List ℕ → ℕ → ℕ
 short_at payload offset = little_number 2 (drop offset payload)
 
--- Length, TDSVersion and PacketSize
+-- Length: how many bytes the login has
 abbrev pub login_length : List ℕ → ℕ
 login_length payload = long_at payload 0
 
+-- TDSVersion
 abbrev pub tds_version : List ℕ → ℕ
 tds_version payload = long_at payload 4
 
+-- PacketSize: the size of packets that the client asks for
 abbrev pub packet_size : List ℕ → ℕ
 packet_size payload = long_at payload 8
 
@@ -41,15 +43,7 @@ served_version = 0x74000004
 
 -- ---- the variable part
 
--- the fields, each by its number, where its offset and behind that its count stand, and how many bytes it
--- counts as one: HostName, UserName, Password, AppName, ServerName, Extension, CltIntName, Language,
--- Database, SSPI, AtchDBFile, ChangePassword; characters of two bytes, but for Extension and SSPI
-unfoldable pub fields : List Field
-fields = record { number = 0; place = 36; unit = 2 } ∷ record { number = 1; place = 40; unit = 2 } ∷ record { number = 2; place = 44; unit = 2 }
-    ∷ record { number = 3; place = 48; unit = 2 } ∷ record { number = 4; place = 52; unit = 2 } ∷ record { number = 5; place = 56; unit = 1 }
-    ∷ record { number = 6; place = 60; unit = 2 } ∷ record { number = 7; place = 64; unit = 2 } ∷ record { number = 8; place = 68; unit = 2 }
-    ∷ record { number = 9; place = 78; unit = 1 } ∷ record { number = 10; place = 82; unit = 2 } ∷ record { number = 11; place = 86; unit = 2 } ∷ []
-
+-- where UserName, Password and Database stand: the offset, and behind it the count
 abbrev pub user_place : ℕ
 user_place = 40
 
@@ -58,6 +52,25 @@ password_place = 44
 
 abbrev pub database_place : ℕ
 database_place = 68
+
+-- the fields, each by its number, where its offset and behind that its count stand, and how many bytes it
+-- counts as one: HostName, UserName, Password, AppName, ServerName, Extension, CltIntName, Language,
+-- Database, SSPI, AtchDBFile, ChangePassword; characters of two bytes, but for Extension and SSPI
+unfoldable pub fields : List Field
+fields =
+    record { number = 0; place = 36; unit = 2 }
+    ∷ record { number = 1; place = user_place; unit = 2 }
+    ∷ record { number = 2; place = password_place; unit = 2 }
+    ∷ record { number = 3; place = 48; unit = 2 }
+    ∷ record { number = 4; place = 52; unit = 2 }
+    ∷ record { number = 5; place = 56; unit = 1 }
+    ∷ record { number = 6; place = 60; unit = 2 }
+    ∷ record { number = 7; place = 64; unit = 2 }
+    ∷ record { number = 8; place = database_place; unit = 2 }
+    ∷ record { number = 9; place = 78; unit = 1 }
+    ∷ record { number = 10; place = 82; unit = 2 }
+    ∷ record { number = 11; place = 86; unit = 2 }
+    ∷ []
 
 -- how many bytes a field has
 abbrev pub bytes_of_field : List ℕ → Field → ℕ
@@ -75,6 +88,7 @@ field_bytes payload place = take (2 * short_at payload (place + 2)) (drop (short
 abbrev pub plain_byte : ℕ → ℕ
 plain_byte byte = let turned = bit_xor byte 0xA5 in (turned % 16) * 16 + turned / 16
 
+-- the units of a password, by its bytes as they are sent
 abbrev pub password_units : List ℕ → List ℕ
 password_units bytes = units_of (map {A = ℕ} {B = ℕ} plain_byte bytes)
 
@@ -94,7 +108,7 @@ login_by payload None = Ok (record {
 -- what a payload says as a LOGIN7, or the first refusal
 unfoldable pub login_of : List ℕ → Result Login LoginFault
 login_of payload =
-    if nat_lt (length payload) fixed_len then Err Short
-    else if nat_lt (login_length payload) fixed_len || nat_lt (length payload) (login_length payload) then Err Length
+    if nat_lt (length payload) fixed_length then Err Short
+    else if nat_lt (login_length payload) fixed_length || nat_lt (length payload) (login_length payload) then Err Length
     else if not (tds_version payload == served_version) then Err Version
     else login_by payload (find (is_outside payload) fields)

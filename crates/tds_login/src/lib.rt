@@ -24,6 +24,6 @@ mod verdict;
 
 pub use config::{Config, Entry};
 pub use login::{Login, LoginFault, law_login_length, read_login};
-pub use prelogin::{Prelogin, PreloginFault, prelogin_reply, read_prelogin};
+pub use prelogin::{Prelogin, PreloginFault, law_prelogin_reply, prelogin_reply, read_prelogin};
 pub use tds_packets::DEFAULT_SIZE;
 pub use verdict::{LOGIN_FAILED, UNKNOWN_DATABASE, judge_login, login_reply};

@@ -4,7 +4,7 @@ ghost use Rattle.std.specs.Prelude.{◌≡◌, ◌+◌, ◌++◌, ◌≤◌, ◌
 ghost use Rattle.std.specs.Result.{result_err};
 ghost use Rattle.std.specs.List.{find, list_all};
 ghost use Rattle.value_types.specs.Units.{units_of};
-ghost use Rattle.tds_login.specs.Login.{login_of, login_length, long_at, short_at, fields, is_outside, field_bytes, plain_byte, password_units};
+ghost use Rattle.tds_login.specs.Login.{login_of, fixed_length, login_length, long_at, short_at, fields, is_outside, field_bytes, plain_byte, password_units};
 ghost use Rattle.tds_login.specs.Inside.{is_placed, IsInside, IsServed};
 ghost use Rattle.tds_login.specs.declared.login.LoginFault.TheVariants.{Memory as NoMemory};
 
@@ -47,67 +47,20 @@ pub(crate) struct Field {
 
 /// The fields: HostName, UserName, Password, AppName, ServerName, Extension, CltIntName, Language,
 /// Database, SSPI, AtchDBFile and ChangePassword.
+#[rattlefmt::skip]
 const FIELDS: [Field; 12] = [
-    Field {
-        number: 0,
-        place: 36,
-        unit: 2,
-    },
-    Field {
-        number: 1,
-        place: 40,
-        unit: 2,
-    },
-    Field {
-        number: 2,
-        place: 44,
-        unit: 2,
-    },
-    Field {
-        number: 3,
-        place: 48,
-        unit: 2,
-    },
-    Field {
-        number: 4,
-        place: 52,
-        unit: 2,
-    },
-    Field {
-        number: 5,
-        place: 56,
-        unit: 1,
-    },
-    Field {
-        number: 6,
-        place: 60,
-        unit: 2,
-    },
-    Field {
-        number: 7,
-        place: 64,
-        unit: 2,
-    },
-    Field {
-        number: 8,
-        place: 68,
-        unit: 2,
-    },
-    Field {
-        number: 9,
-        place: 78,
-        unit: 1,
-    },
-    Field {
-        number: 10,
-        place: 82,
-        unit: 2,
-    },
-    Field {
-        number: 11,
-        place: 86,
-        unit: 2,
-    },
+    Field { number: 0, place: 36, unit: 2 },
+    Field { number: 1, place: USER_NAME, unit: 2 },
+    Field { number: 2, place: PASSWORD, unit: 2 },
+    Field { number: 3, place: 48, unit: 2 },
+    Field { number: 4, place: 52, unit: 2 },
+    Field { number: 5, place: 56, unit: 1 },
+    Field { number: 6, place: 60, unit: 2 },
+    Field { number: 7, place: 64, unit: 2 },
+    Field { number: 8, place: DATABASE, unit: 2 },
+    Field { number: 9, place: 78, unit: 1 },
+    Field { number: 10, place: 82, unit: 2 },
+    Field { number: 11, place: 86, unit: 2 },
 ];
 
 /// What a LOGIN7 says, as far as it is looked at. It is not `Debug`, which would print the password.
@@ -178,7 +131,7 @@ pub fn read_login(alloc: Global, payload: &[u8]) -> Result<Login, LoginFault>
 
 /// Bytes behind the Length field of a login of at least 94 bytes change nothing of what it says.
 pub fn law_login_length(login: &[u8], rest: &[u8])
-    ensures { 94 ≤ length login.now → login_length login.now ≡ length login.now → login_of (login.now ++ rest.now) ≡ login_of login.now }
+    ensures { fixed_length ≤ length login.now → login_length login.now ≡ length login.now → login_of (login.now ++ rest.now) ≡ login_of login.now }
 {}
 
 /// Why a payload is refused.
@@ -205,7 +158,7 @@ fn refusal(payload: &[u8]) -> Option<LoginFault>
 
 /// The first of the fields that passes the Length field.
 fn first_outside(payload: &[u8], fields: &[Field]) -> Option<Field>
-    requires fixed { 94 ≤ length payload.now }
+    requires fixed { fixed_length ≤ length payload.now }
     requires places { IsTrue (list_all is_placed fields.now) }
     ensures { result ≡ find (is_outside payload.now) fields.now }
 {
@@ -219,7 +172,7 @@ fn first_outside(payload: &[u8], fields: &[Field]) -> Option<Field>
 
 /// A field has something, and passes the Length field.
 fn is_outside(payload: &[u8], field: &Field) -> bool
-    requires fixed { 94 ≤ length payload.now }
+    requires fixed { fixed_length ≤ length payload.now }
     requires place { IsTrue (is_placed field.now) }
     ensures { result ≡ is_outside payload.now field.now }
 {

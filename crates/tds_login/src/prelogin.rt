@@ -1,8 +1,9 @@
 //! PRELOGIN ([MS-TDS] 2.2.6.5).
 
-ghost use Rattle.std.specs.Prelude.{◌≡◌, ◌+◌, ◌*◌, ◌^◌, ◌<◌, ◌≤◌, length, slice_index, IfOk};
-ghost use Rattle.tds_login.specs.Prelogin.{prelogin_of, prelogin_reply};
-ghost use Rattle.tds_login.specs.Walk.{option_at, judged_after, seen_after};
+ghost use Rattle.std.specs.Prelude.{◌≡◌, ◌+◌, ◌^◌, ◌<◌, ◌≤◌, length, Some, Ok, IfOk};
+ghost use Rattle.byteorder.specs.Endian.{big_from};
+ghost use Rattle.tds_login.specs.Prelogin.{option_at, prelogin_of, prelogin_reply, encrypt_not_sup};
+ghost use Rattle.tds_login.specs.Walk.{judge, look_at};
 
 use byteorder::{BigEndian, ByteOrder};
 use std::alloc::Global;
@@ -20,10 +21,18 @@ const OPTION_LEN: usize = 5;
 
 /// VERSION 15.0.0.0, ENCRYPTION not supported, INSTOPT 0, THREADID empty, MARS off: five bytes for
 /// each option, the terminator, and the values.
-const ANSWER: [u8; 35] = [
-    0x00, 0x00, 0x1A, 0x00, 0x06, 0x01, 0x00, 0x20, 0x00, 0x01, 0x02, 0x00, 0x21, 0x00, 0x01, 0x03,
-    0x00, 0x22, 0x00, 0x00, 0x04, 0x00, 0x22, 0x00, 0x01, 0xFF, 0x0F, 0x00, 0x00, 0x00, 0x00, 0x00,
-    0x02, 0x00, 0x00,
+#[rattlefmt::skip]
+const REPLY: [u8; 35] = [
+    0x00, 0x00, 0x1A, 0x00, 0x06,
+    0x01, 0x00, 0x20, 0x00, 0x01,
+    0x02, 0x00, 0x21, 0x00, 0x01,
+    0x03, 0x00, 0x22, 0x00, 0x00,
+    0x04, 0x00, 0x22, 0x00, 0x01,
+    0xFF,
+    0x0F, 0x00, 0x00, 0x00, 0x00, 0x00,
+    0x02,
+    0x00,
+    0x00,
 ];
 
 /// What a PRELOGIN says.
@@ -65,18 +74,24 @@ pub fn read_prelogin(payload: &[u8]) -> Result<Prelogin, PreloginFault>
             return Err(PreloginFault::NoEnd);
         }
         let (option, behind) = rest.split_at(OPTION_LEN);
-        seen = with_option(payload, seen, option);
+        seen = look_at(payload, seen, option);
         rest = behind;
     }
     Err(PreloginFault::NoEnd)
 }
 
-/// The payload of the answer to every PRELOGIN.
+/// The payload of the reply to every PRELOGIN.
 pub fn prelogin_reply(alloc: Global) -> Result<Vec<u8>, Memory>
     ensures { IfOk result (λ bytes. bytes.items ≡ prelogin_reply) }
 {
-    Ok(Vec::from_slice(alloc, &ANSWER)?)
+    Ok(Vec::from_slice(alloc, &REPLY)?)
 }
+
+/// The reply is itself a PRELOGIN, and says that encryption is not supported.
+#[tactic(auto, unfolding(crate::specs::Prelogin::prelogin_of))]
+pub fn law_prelogin_reply()
+    ensures { prelogin_of prelogin_reply ≡ Ok (record { encryption = Some encrypt_not_sup }) }
+{}
 
 /// What the options before a place have shown.
 #[derive(Clone, Copy)]
@@ -88,10 +103,10 @@ pub(crate) struct Seen {
 }
 
 /// What the options have shown with one more of them.
-#[tactic(auto, unfolding(crate::specs::Walk::seen_after))]
-fn with_option(payload: &[u8], seen: Seen, option: &[u8]) -> Seen
+#[tactic(auto, unfolding(crate::specs::Walk::look_at))]
+fn look_at(payload: &[u8], seen: Seen, option: &[u8]) -> Seen
     requires { 5 ≤ length option.now }
-    ensures { result ≡ seen_after payload.now seen (option_at option.now) }
+    ensures { result ≡ look_at payload.now seen (option_at option.now) }
 {
     if seen.refused.is_some() {
         return seen;
@@ -117,7 +132,7 @@ fn with_option(payload: &[u8], seen: Seen, option: &[u8]) -> Seen
 /// A number of two bytes, the higher first.
 fn number_at(bytes: &[u8], place: usize) -> usize
     requires { place + 2 ≤ length bytes.now }
-    ensures value { result ≡ slice_index bytes.now place * 256 + slice_index bytes.now (place + 1) }
+    ensures value { result ≡ big_from place 2 bytes.now }
     ensures small { result < 2 ^ 16 }
 {
     let (_, behind) = bytes.split_at(place);
@@ -125,9 +140,9 @@ fn number_at(bytes: &[u8], place: usize) -> usize
 }
 
 /// What the options say once their end was seen.
-#[tactic(auto, unfolding(crate::specs::Walk::judged_after))]
+#[tactic(auto, unfolding(crate::specs::Walk::judge))]
 fn judge(seen: Seen) -> Result<Prelogin, PreloginFault>
-    ensures { result ≡ judged_after seen }
+    ensures { result ≡ judge seen }
 {
     match seen.refused {
         Some(option) => Err(PreloginFault::Range { option }),

@@ -18,7 +18,7 @@ pub(crate) fn put_type(out: &mut Vec<u8>, kind: SqlType)
     requires room { vec_len out.old + length (type_info kind) ≤ vec_capacity out.old }
     ensures items { out.new.items ≡ out.old.items ++ type_info kind }
     ensures len { vec_len out.new ≡ vec_len out.old + length (type_info kind) }
-    ensures capacity { vec_capacity out.old ≤ vec_capacity out.new }
+    ensures capacity { vec_capacity out.new ≡ vec_capacity out.old }
 {
     match kind {
         SqlType::TinyInt => append(out, &[INTNTYPE, 1]),
@@ -40,7 +40,7 @@ pub(crate) fn put_values(out: &mut Vec<u8>, columns: &[ColumnInfo], values: &[Va
     requires room { vec_len out.old + length (row_bytes columns.now values.now) ≤ vec_capacity out.old }
     ensures items { out.new.items ≡ out.old.items ++ row_bytes columns.now values.now }
     ensures len { vec_len out.new ≡ vec_len out.old + length (row_bytes columns.now values.now) }
-    ensures capacity { vec_capacity out.old ≤ vec_capacity out.new }
+    ensures capacity { vec_capacity out.new ≡ vec_capacity out.old }
 {
     for (column, value) in columns.iter().zip(values) {
         put_value(out, column.kind, value);
@@ -52,7 +52,7 @@ fn put_value(out: &mut Vec<u8>, kind: SqlType, value: &Value)
     requires room { vec_len out.old + length (value_bytes kind value.now) ≤ vec_capacity out.old }
     ensures items { out.new.items ≡ out.old.items ++ value_bytes kind value.now }
     ensures len { vec_len out.new ≡ vec_len out.old + length (value_bytes kind value.now) }
-    ensures capacity { vec_capacity out.old ≤ vec_capacity out.new }
+    ensures capacity { vec_capacity out.new ≡ vec_capacity out.old }
 {
     match value {
         Value::Null => append(out, null_of(kind)),
@@ -79,7 +79,7 @@ fn put_whole(out: &mut Vec<u8>, kind: SqlType, number: i64)
     requires room { vec_len out.old + length (value_bytes kind (Whole number)) ≤ vec_capacity out.old }
     ensures items { out.new.items ≡ out.old.items ++ value_bytes kind (Whole number) }
     ensures len { vec_len out.new ≡ vec_len out.old + length (value_bytes kind (Whole number)) }
-    ensures capacity { vec_capacity out.old ≤ vec_capacity out.new }
+    ensures capacity { vec_capacity out.new ≡ vec_capacity out.old }
 {
     match kind {
         SqlType::TinyInt => append(out, &[1, number as u8]),
@@ -105,7 +105,7 @@ fn put_text(out: &mut Vec<u8>, units: &[u16])
     requires room { vec_len out.old + (2 + 2 * length units.now) ≤ vec_capacity out.old }
     ensures items { out.new.items ≡ out.old.items ++ (to_le_bytes w16 (2 * length units.now) ++ le_bytes_of units.now) }
     ensures len { vec_len out.new ≡ vec_len out.old + (2 + 2 * length units.now) }
-    ensures capacity { vec_capacity out.old ≤ vec_capacity out.new }
+    ensures capacity { vec_capacity out.new ≡ vec_capacity out.old }
 {
     put_u16(out, (2 * units.len()) as u16);
     put_units(out, units);

@@ -12,6 +12,7 @@ use crate::columns::ColumnInfo;
 use crate::notice::Notice;
 use crate::room::{
     append, put_b_varbyte, put_b_varchar, put_i32, put_u16, put_u32_be, put_u64, put_us_varchar,
+    reserve,
 };
 use crate::sizes::{env_bytes_size, env_text_size, login_ack_size, notice_size, token_size};
 use crate::token::{DoneKind, Token};
@@ -36,14 +37,15 @@ pub fn bytes_of_tokens(tokens: &[Token]) -> u64
 }
 
 /// Appends the bytes of the tokens. It reserves the room first, so want of memory leaves `out` as
-/// it was, and no memory is taken where the room is there.
+/// it was; where the room is there it takes no memory, and the capacity stays.
 pub fn write_tokens(tokens: &[Token], out: &mut Vec<u8>) -> Result<(), Memory>
     requires { FitTokens [] tokens.now }
     ensures bytes { OnOk result (out.new.items ≡ out.old.items ++ TokenBytes tokens.now) }
     ensures unchanged { OnErr result (out.new.items ≡ out.old.items) }
     ensures reserved { length (TokenBytes tokens.now) ≤ vec_capacity out.old - vec_len out.old → IsOk result }
+    ensures kept { length (TokenBytes tokens.now) ≤ vec_capacity out.old - vec_len out.old → vec_capacity out.new ≡ vec_capacity out.old }
 {
-    out.reserve(bytes_of_tokens(tokens) as usize)?;
+    reserve(out, bytes_of_tokens(tokens) as usize)?;
     let mut columns: &[ColumnInfo] = &[];
     for token in tokens {
         put_token(out, columns, token);
@@ -57,7 +59,7 @@ fn put_token(out: &mut Vec<u8>, columns: &[ColumnInfo], token: &Token)
     requires room { vec_len out.old + length (token_bytes columns.now token.now) ≤ vec_capacity out.old }
     ensures items { out.new.items ≡ out.old.items ++ token_bytes columns.now token.now }
     ensures len { vec_len out.new ≡ vec_len out.old + length (token_bytes columns.now token.now) }
-    ensures capacity { vec_capacity out.old ≤ vec_capacity out.new }
+    ensures capacity { vec_capacity out.new ≡ vec_capacity out.old }
 {
     match token {
         Token::LoginAck {
@@ -94,7 +96,7 @@ fn put_login_ack(out: &mut Vec<u8>, version: u32, program: &Units, release: u32)
     requires room { vec_len out.old + (13 + 2 * length program.now) ≤ vec_capacity out.old }
     ensures items { out.new.items ≡ out.old.items ++ LOGINACK ∷ with_length (login_ack_bytes version program.now release) }
     ensures len { vec_len out.new ≡ vec_len out.old + (13 + 2 * length program.now) }
-    ensures capacity { vec_capacity out.old ≤ vec_capacity out.new }
+    ensures capacity { vec_capacity out.new ≡ vec_capacity out.old }
 {
     append(out, &[LOGINACK]);
     put_u16(out, login_ack_size(program) as u16);
@@ -109,7 +111,7 @@ fn put_env_text(out: &mut Vec<u8>, kind: u8, fresh: &Units, former: &Units)
     requires room { vec_len out.old + (6 + 2 * length fresh.now + 2 * length former.now) ≤ vec_capacity out.old }
     ensures items { out.new.items ≡ out.old.items ++ ENVCHANGE ∷ with_length (kind ∷ b_varchar fresh.now ++ b_varchar former.now) }
     ensures len { vec_len out.new ≡ vec_len out.old + (6 + 2 * length fresh.now + 2 * length former.now) }
-    ensures capacity { vec_capacity out.old ≤ vec_capacity out.new }
+    ensures capacity { vec_capacity out.new ≡ vec_capacity out.old }
 {
     append(out, &[ENVCHANGE]);
     put_u16(out, env_text_size(fresh, former) as u16);
@@ -123,7 +125,7 @@ fn put_env_bytes(out: &mut Vec<u8>, kind: u8, fresh: &Bytes, former: &Bytes)
     requires room { vec_len out.old + (6 + length fresh.now + length former.now) ≤ vec_capacity out.old }
     ensures items { out.new.items ≡ out.old.items ++ ENVCHANGE ∷ with_length (kind ∷ b_varbyte fresh.now ++ b_varbyte former.now) }
     ensures len { vec_len out.new ≡ vec_len out.old + (6 + length fresh.now + length former.now) }
-    ensures capacity { vec_capacity out.old ≤ vec_capacity out.new }
+    ensures capacity { vec_capacity out.new ≡ vec_capacity out.old }
 {
     append(out, &[ENVCHANGE]);
     put_u16(out, env_bytes_size(fresh, former) as u16);
@@ -137,7 +139,7 @@ fn put_notice(out: &mut Vec<u8>, tag: u8, notice: &Notice)
     requires room { vec_len out.old + (3 + length (notice_bytes notice.now)) ≤ vec_capacity out.old }
     ensures items { out.new.items ≡ out.old.items ++ tag ∷ with_length (notice_bytes notice.now) }
     ensures len { vec_len out.new ≡ vec_len out.old + (3 + length (notice_bytes notice.now)) }
-    ensures capacity { vec_capacity out.old ≤ vec_capacity out.new }
+    ensures capacity { vec_capacity out.new ≡ vec_capacity out.old }
 {
     append(out, &[tag]);
     put_u16(out, notice_size(notice) as u16);
@@ -150,7 +152,7 @@ fn put_notice_body(out: &mut Vec<u8>, notice: &Notice)
     requires room { vec_len out.old + length (notice_bytes notice.now) ≤ vec_capacity out.old }
     ensures items { out.new.items ≡ out.old.items ++ notice_bytes notice.now }
     ensures len { vec_len out.new ≡ vec_len out.old + length (notice_bytes notice.now) }
-    ensures capacity { vec_capacity out.old ≤ vec_capacity out.new }
+    ensures capacity { vec_capacity out.new ≡ vec_capacity out.old }
 {
     put_i32(out, notice.number);
     append(out, &[notice.state, notice.class]);
@@ -166,7 +168,7 @@ fn put_description(out: &mut Vec<u8>, columns: &[ColumnInfo])
     requires room { vec_len out.old + (3 + length (flat_map column_bytes columns.now)) ≤ vec_capacity out.old }
     ensures items { out.new.items ≡ out.old.items ++ (COLMETADATA ∷ to_le_bytes w16 (length columns.now) ++ flat_map column_bytes columns.now) }
     ensures len { vec_len out.new ≡ vec_len out.old + (3 + length (flat_map column_bytes columns.now)) }
-    ensures capacity { vec_capacity out.old ≤ vec_capacity out.new }
+    ensures capacity { vec_capacity out.new ≡ vec_capacity out.old }
 {
     append(out, &[COLMETADATA]);
     put_u16(out, columns.len() as u16);
@@ -178,7 +180,7 @@ fn put_columns(out: &mut Vec<u8>, columns: &[ColumnInfo])
     requires room { vec_len out.old + length (flat_map column_bytes columns.now) ≤ vec_capacity out.old }
     ensures items { out.new.items ≡ out.old.items ++ flat_map column_bytes columns.now }
     ensures len { vec_len out.new ≡ vec_len out.old + length (flat_map column_bytes columns.now) }
-    ensures capacity { vec_capacity out.old ≤ vec_capacity out.new }
+    ensures capacity { vec_capacity out.new ≡ vec_capacity out.old }
 {
     for column in columns {
         put_column(out, column);
@@ -191,7 +193,7 @@ fn put_column(out: &mut Vec<u8>, column: &ColumnInfo)
     requires room { vec_len out.old + length (column_bytes column.now) ≤ vec_capacity out.old }
     ensures items { out.new.items ≡ out.old.items ++ column_bytes column.now }
     ensures len { vec_len out.new ≡ vec_len out.old + length (column_bytes column.now) }
-    ensures capacity { vec_capacity out.old ≤ vec_capacity out.new }
+    ensures capacity { vec_capacity out.new ≡ vec_capacity out.old }
 {
     append(out, &COLUMN_START);
     put_type(out, column.kind);
@@ -203,7 +205,7 @@ fn put_row(out: &mut Vec<u8>, columns: &[ColumnInfo], values: &[Value])
     requires room { vec_len out.old + (1 + length (row_bytes columns.now values.now)) ≤ vec_capacity out.old }
     ensures items { out.new.items ≡ out.old.items ++ ROW ∷ row_bytes columns.now values.now }
     ensures len { vec_len out.new ≡ vec_len out.old + (1 + length (row_bytes columns.now values.now)) }
-    ensures capacity { vec_capacity out.old ≤ vec_capacity out.new }
+    ensures capacity { vec_capacity out.new ≡ vec_capacity out.old }
 {
     append(out, &[ROW]);
     put_values(out, columns, values);
@@ -213,7 +215,7 @@ fn put_return_status(out: &mut Vec<u8>, status: i32)
     requires { vec_len out.old + 5 ≤ vec_capacity out.old }
     ensures items { out.new.items ≡ out.old.items ++ RETURNSTATUS ∷ to_le_bytes w32 (cast_unsigned w32 status) }
     ensures len { vec_len out.new ≡ vec_len out.old + 5 }
-    ensures capacity { vec_capacity out.old ≤ vec_capacity out.new }
+    ensures capacity { vec_capacity out.new ≡ vec_capacity out.old }
 {
     append(out, &[RETURNSTATUS]);
     put_i32(out, status);
@@ -223,7 +225,7 @@ fn put_done(out: &mut Vec<u8>, kind: DoneKind, status: u16, command: u16, rows: 
     requires { vec_len out.old + 13 ≤ vec_capacity out.old }
     ensures items { out.new.items ≡ out.old.items ++ (done_tag kind ∷ to_le_bytes w16 status ++ to_le_bytes w16 command ++ to_le_bytes w64 rows) }
     ensures len { vec_len out.new ≡ vec_len out.old + 13 }
-    ensures capacity { vec_capacity out.old ≤ vec_capacity out.new }
+    ensures capacity { vec_capacity out.new ≡ vec_capacity out.old }
 {
     append(out, &[tag_of(kind)]);
     put_u16(out, status);

@@ -6,3 +6,6 @@ pub mod Digits
 pub mod Openings
 pub mod Sizes
 pub mod Passing
+pub mod Stops
+pub mod QuoteLaws
+pub mod Begins

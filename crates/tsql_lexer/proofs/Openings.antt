@@ -65,5 +65,5 @@ stands text place unit is some = grind (arith, is, get_or_past text place 0)
 pub two_stand : (text : List ℕ) → opening_of (slice_index text 0) (slice_index text 1) ≡ opens.NationalText → 1 < length text
 two_stand text is =
     let said : (eqb (slice_index text 0) 0x4E && eqb (slice_index text 1) 0x27) ≡ true =
-        subst (λ (o : Opening). Says o (slice_index text 0) (slice_index text 1)) is (says (slice_index text 0) (slice_index text 1)) in
+    subst (λ (o : Opening). Says o (slice_index text 0) (slice_index text 1)) is (says (slice_index text 0) (slice_index text 1)) in
     stands text 1 0x27 (eqb-true (slice_index text 1) 0x27 (and_parts _ _ said).1) (omega arith)

@@ -119,7 +119,7 @@ sign_within (Some sign) single most some two = (omega arith, two refl)
 sign_within None (Some sign) most some two = (omega arith, some)
 sign_within None None most some two = tt
 
-and_false : (test : Bool) → (test && false) ≡ false
+pub and_false : (test : Bool) → (test && false) ≡ false
 and_false true = refl
 and_false false = refl
 
@@ -153,7 +153,7 @@ piece_by-within opens.Text text some is said = subst (λ (n : ℕ). IsWithin n (
 piece_by-within opens.NationalText text some is said = subst (λ (n : ℕ). IsWithin n (text_piece 2 text)) (behind_front text 2 (omega (arith, two_stand text is))) (text_within 2 (enclosed 0x27 (drop 2 text)) (length (drop 2 text)) (enclosed_within 0x27 (drop 2 text)))
 piece_by-within opens.Sign text some is said =
     sign_within (double_sign (slice_index text 0) (slice_index text 1)) (single_sign (slice_index text 0)) (length text) (omega arith)
-      (λ double. omega (arith, stands text 1 (slice_index text 1) refl (double_second (slice_index text 0) (slice_index text 1) double)))
+    (λ double. omega (arith, stands text 1 (slice_index text 1) refl (double_second (slice_index text 0) (slice_index text 1) double)))
 
 pub piece_within : (text : List ℕ) → 0 < length text → IsWithin (length text) (piece_of text)
 unfolding piece_of

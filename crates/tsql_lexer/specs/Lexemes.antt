@@ -2,7 +2,7 @@
 -- a lexeme, and where it ends. Names are as long as their units go, doubled closing quotes belong to what they
 -- stand in, and `N'` always opens a text (own). A lexeme is said of its own units here, and of the one behind
 -- them; the code looks at the first two units of a text and goes on from there.
-use Rattle.std.specs.Prelude.{◌≡◌, ◌⊎◌, ℕ, ◌-◌, ◌≤◌, ◌==◌, ◌&&◌, ◌||◌, not, Bool, true, nat_lt, if◌then◌else◌, IsTrue, ℤ, pos, List, [], ◌∷◌, ◌++◌, length, slice_index, Contains, codes}
+use Rattle.std.specs.Prelude.{◌≡◌, ◌⊎◌, ℕ, ◌-◌, ◌≤◌, ◌==◌, ◌&&◌, ◌||◌, not, Bool, true, nat_lt, if◌then◌else◌, IsTrue, ℤ, pos, List, [], ◌∷◌, ◌++◌, length, slice_index, codes}
 use Rattle.std.specs.List.{list_all, list_any}
 use Rattle.value_types.specs.Units.{same_units}
 use Rattle.tsql_lexer.specs.declared.lexeme.Lexeme.{Lexeme}
@@ -44,6 +44,11 @@ is_name name = nat_lt 0 (length name) && not (slice_index name (length name - 1)
 abbrev pub in_quotes : List ℕ → ℕ → List ℕ → List ℕ
 in_quotes opening close value = opening ++ doubled close value ++ close ∷ []
 
+-- the units are one of these texts
+abbrev pub IsOneOf : List (List ℕ) → List ℕ → Type 0
+IsOneOf [] units = ⊥
+IsOneOf (text ∷ texts) units = (units ≡ text) ⊎ IsOneOf texts units
+
 -- the units spell the lexeme
 abbrev pub Spells : List ℕ → Lexeme → Type 0
 Spells units (Word name) = (units ≡ name) × IsWord name
@@ -52,7 +57,7 @@ Spells units (Variable name) = (units ≡ name) × IsVariable name
 Spells units (SystemName name) = (units ≡ name) × IsSystemName name
 Spells units (Number value) = IsNumber units value
 Spells units (Text text) = (units ≡ in_quotes (codes "'") 0x27 text) ⊎ (units ≡ in_quotes (codes "N'") 0x27 text)
-Spells units (Sign sign) = Contains (sign_spellings sign) units
+Spells units (Sign sign) = IsOneOf (sign_spellings sign) units
 
 -- ---- where a lexeme ends
 

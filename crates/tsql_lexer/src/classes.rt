@@ -11,13 +11,21 @@ use value_types::{Memory, Units};
 const LINE_FEED: u16 = 0x0A;
 
 const TAB: u16 = 0x09;
+
 const CARRIAGE_RETURN: u16 = 0x0D;
+
 pub(crate) const SPACE: u16 = 0x20;
+
 pub(crate) const DIGIT_ZERO: u16 = 0x30;
+
 const DIGIT_NINE: u16 = 0x39;
+
 pub(crate) const AT: u16 = 0x40;
+
 const NUMBER_SIGN: u16 = 0x23;
+
 const DOLLAR: u16 = 0x24;
+
 const UNDERSCORE: u16 = 0x5F;
 
 /// Tab, line feed, carriage return and space.

@@ -57,10 +57,7 @@ fn word_piece(alloc: Global, text: &[u16]) -> Result<Piece, Memory>
     ensures { IfOk result (λ piece. piece ≡ word_piece text.now) }
 {
     let size = count_word_units(text);
-    Ok(Piece::Lexeme(
-        Lexeme::Word(front_of(alloc, text, size)?),
-        size,
-    ))
+    Ok(Piece::Lexeme(Lexeme::Word(front_of(alloc, text, size)?), size))
 }
 
 /// A variable: `@` and at least one unit of words.
@@ -72,10 +69,7 @@ fn variable_piece(alloc: Global, text: &[u16]) -> Result<Piece, Memory>
     if size < 2 {
         return Ok(Piece::Flaw(LexKind::BadUnit));
     }
-    Ok(Piece::Lexeme(
-        Lexeme::Variable(front_of(alloc, text, size)?),
-        size,
-    ))
+    Ok(Piece::Lexeme(Lexeme::Variable(front_of(alloc, text, size)?), size))
 }
 
 /// A system name: `@@` and at least one unit of words.
@@ -87,10 +81,7 @@ fn system_name_piece(alloc: Global, text: &[u16]) -> Result<Piece, Memory>
     if size < 3 {
         return Ok(Piece::Flaw(LexKind::BadUnit));
     }
-    Ok(Piece::Lexeme(
-        Lexeme::SystemName(front_of(alloc, text, size)?),
-        size,
-    ))
+    Ok(Piece::Lexeme(Lexeme::SystemName(front_of(alloc, text, size)?), size))
 }
 
 /// A number, as long as its digits go.

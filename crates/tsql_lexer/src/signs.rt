@@ -6,18 +6,31 @@ ghost use Rattle.tsql_lexer.specs.Reading.{double_sign, single_sign};
 use crate::lexeme::Sign;
 
 pub(crate) const HYPHEN: u16 = 0x2D;
+
 pub(crate) const SLASH: u16 = 0x2F;
+
 pub(crate) const STAR: u16 = 0x2A;
+
 const EXCLAMATION: u16 = 0x21;
+
 const PERCENT: u16 = 0x25;
+
 const OPEN: u16 = 0x28;
+
 const CLOSE: u16 = 0x29;
+
 const PLUS: u16 = 0x2B;
+
 const COMMA: u16 = 0x2C;
+
 const DOT: u16 = 0x2E;
+
 const SEMICOLON: u16 = 0x3B;
+
 const LESS: u16 = 0x3C;
+
 const EQUAL: u16 = 0x3D;
+
 const GREATER: u16 = 0x3E;
 
 /// The sign of two units, if they are one.

@@ -17,10 +17,10 @@ pub record DeskState (E : Type 0) : Type 0 where
   pub base : List E
 
 -- the seat at place k among those of a desk, which has made no step
-abbrev pub IsFirstSeen : {C R E : Type 0} → TableId → List E → ℕ → SeatState C R E → Type 0
-IsFirstSeen desk base k seat = (seat.desk ≡ desk) × (seat.number ≡ k + 1) × (seat.steps ≡ []) × (seat.log ≡ base)
+abbrev pub IsNewSeat : {C R E : Type 0} → TableId → List E → ℕ → SeatState C R E → Type 0
+IsNewSeat desk base k seat = (seat.desk ≡ desk) × (seat.number ≡ k + 1) × (seat.steps ≡ []) × (seat.log ≡ base)
 
 -- all the seats of a desk, in the order of their numbers, of which none has made a step
 abbrev pub AreSeatsOf : {C R E : Type 0} → TableId → ℕ → List E → List (SeatState C R E) → Type 0
 AreSeatsOf {C} {R} {E} desk seats base all = (length all ≡ seats)
-    × ((k : ℕ) (d : SeatState C R E) → k < seats → IsFirstSeen desk base k (slice_index_or all k d))
+    × ((k : ℕ) (d : SeatState C R E) → k < seats → IsNewSeat desk base k (slice_index_or all k d))

@@ -7,5 +7,5 @@ abbrev pub invariant-loop-unit : goal.invariant-loop-unit
 invariant-loop-unit l = record {
   items : l.out.items ≡ l.initial.out.items ++ le_bytes_of (take l.unit-index l.units);
   len : vec_len l.out ≡ vec_len l.initial.out + 2 * l.unit-index;
-  capacity : vec_capacity l.initial.out ≤ vec_capacity l.out;
+  capacity : vec_capacity l.out ≡ vec_capacity l.initial.out;
 }

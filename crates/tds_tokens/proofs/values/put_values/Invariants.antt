@@ -11,5 +11,5 @@ invariant-loop-column l = record {
   fits : FitsColumns l.column-iterator.a.rest.now l.column-iterator.b.rest.now;
   items : l.out.items ++ row_bytes l.column-iterator.a.rest.now l.column-iterator.b.rest.now ≡ l.initial.out.items ++ row_bytes l.columns l.values;
   len : vec_len l.out + length (row_bytes l.column-iterator.a.rest.now l.column-iterator.b.rest.now) ≡ vec_len l.initial.out + length (row_bytes l.columns l.values);
-  capacity : vec_capacity l.initial.out ≤ vec_capacity l.out;
+  capacity : vec_capacity l.out ≡ vec_capacity l.initial.out;
 }

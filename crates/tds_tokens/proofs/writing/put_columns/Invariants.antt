@@ -8,5 +8,5 @@ abbrev pub invariant-loop-column : goal.invariant-loop-column
 invariant-loop-column l = record {
   items : l.out.items ++ flat_map column_bytes (drop l.column-index l.columns) ≡ l.initial.out.items ++ flat_map column_bytes l.columns;
   len : vec_len l.out + length (flat_map column_bytes (drop l.column-index l.columns)) ≡ vec_len l.initial.out + length (flat_map column_bytes l.columns);
-  capacity : vec_capacity l.initial.out ≤ vec_capacity l.out;
+  capacity : vec_capacity l.out ≡ vec_capacity l.initial.out;
 }

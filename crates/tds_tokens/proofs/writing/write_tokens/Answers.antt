@@ -25,6 +25,7 @@ loop-token-preserved c =
       fits = rw c.columns_after-columns.ensures (FitTokens-drop columns tokens i token c.loop-token-test.true c.token-item.is c.loop-token.invariant.fits).1;
       items = rw (c.columns_after-columns.ensures, c.put_token.ensures.items) (append_assoc c.loop-token.out.items (token_bytes columns token) left ∙ ap (λ bytes. c.loop-token.out.items ++ bytes) (sym first) ∙ c.loop-token.invariant.items);
       room = rw c.columns_after-columns.ensures (omega (arith, len));
+      capacity = c.put_token.ensures.capacity ∙ c.loop-token.invariant.capacity;
     }
 
 pub returns-clause-bytes : goal.returns-clause-bytes

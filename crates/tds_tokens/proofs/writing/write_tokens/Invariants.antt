@@ -9,4 +9,5 @@ invariant-loop-token l = record {
   fits : FitTokens l.columns (drop l.token-index l.tokens);
   items : l.out.items ++ tokens_bytes l.columns (drop l.token-index l.tokens) ≡ l.fn.out.items ++ TokenBytes l.tokens;
   room : vec_len l.out + length (tokens_bytes l.columns (drop l.token-index l.tokens)) ≤ vec_capacity l.out;
+  capacity : vec_capacity l.out ≡ vec_capacity l.initial.out;
 }

@@ -33,22 +33,22 @@ returns-in-Flaw c =
 
 pub split_at-requires-in-loop-at : goal.split_at-requires-in-loop-at
 split_at-requires-in-loop-at c = elim c.match-branch-2.branch [
-    in-Gap w ↦ omega (arith, w.size-is, (gap_size c.split_at.result.1.now w.in-Gap.size (omega arith) (sym c.in_ok-size.ensures ∙ w.in-Gap.is)).1)
+  | in-Gap w ↦ omega (arith, w.size-is, (gap_size c.split_at.result.1.now w.in-Gap.size (omega arith) (sym c.in_ok-size.ensures ∙ w.in-Gap.is)).1)
   | in-Lexeme+in_ok-push-in-Lexeme w ↦ omega (arith, w.size-is, (token_size c.split_at.result.1.now w.in-Lexeme.lexeme w.in-Lexeme.size (omega arith) (sym c.in_ok-size.ensures ∙ w.in-Lexeme.is)).1)
-  ]
+]
 
 pub loop-at-smaller : goal.loop-at-smaller
 loop-at-smaller c = elim c.match-branch-2.branch [
-    in-Gap w ↦ omega (arith, w.size-is, (gap_size c.split_at.result.1.now w.in-Gap.size (omega arith) (sym c.in_ok-size.ensures ∙ w.in-Gap.is)).0)
+  | in-Gap w ↦ omega (arith, w.size-is, (gap_size c.split_at.result.1.now w.in-Gap.size (omega arith) (sym c.in_ok-size.ensures ∙ w.in-Gap.is)).0)
   | in-Lexeme+in_ok-push-in-Lexeme w ↦ omega (arith, w.size-is, (token_size c.split_at.result.1.now w.in-Lexeme.lexeme w.in-Lexeme.size (omega arith) (sym c.in_ok-size.ensures ∙ w.in-Lexeme.is)).0)
-  ]
+]
 
 pub loop-at-preserved : goal.loop-at-preserved
 loop-at-preserved c =
     let units = c.as_slice-units.result.now in
     let rest = c.split_at.result.1.now in
     let feed : c.count_line_feeds-line.result ≡ feeds (take c.match-branch-2.size (drop c.loop-at.at units)) =
-        c.count_line_feeds-line.ensures ∙ ap feeds (c.split_at-in-loop-at.ensures.front ∙ ap (take c.match-branch-2.size) c.split_at.ensures.back) in
+    c.count_line_feeds-line.ensures ∙ ap feeds (c.split_at-in-loop-at.ensures.front ∙ ap (take c.match-branch-2.size) c.split_at.ensures.back) in
     let few = feeds_within c.split_at-in-loop-at.result.0.now in
     let read : piece_of (drop c.loop-at.at units) ≡ c.in_ok-size.field-0 = ap piece_of (sym c.split_at.ensures.back) ∙ sym c.in_ok-size.ensures in
     let behind = read_on (drop (c.loop-at.at + c.match-branch-2.size) units) 0 (c.loop-at.at + c.match-branch-2.size) (c.loop-at.line + c.count_line_feeds-line.result) in
@@ -56,7 +56,7 @@ loop-at-preserved c =
       within = omega arith;
       low = omega (arith, c.count_line_feeds-line.ensures, few, c.loop-at.invariant.low);
       whole = elim c.match-branch-2.branch [
-          in-Gap w ↦
+        | in-Gap w ↦
             let is : piece_of (drop c.loop-at.at units) ≡ Gap c.match-branch-2.size = read ∙ w.in-Gap.is ∙ ap Gap (sym w.size-is) in
             ap (λ (v : Vec Spanned Global). in_front v.items behind) w.lexemes-is
             ∙ sym (gap_step units c.loop-at.lexemes.items c.loop-at.at c.loop-at.line c.match-branch-2.size c.count_line_feeds-line.result c.loop-at-test.true is feed)
@@ -65,12 +65,12 @@ loop-at-preserved c =
             let lexeme = w.in-Lexeme.lexeme in
             let is : piece_of (drop c.loop-at.at units) ≡ Token lexeme c.match-branch-2.size = read ∙ w.in-Lexeme.is ∙ ap (Token lexeme) (sym w.size-is) in
             let one_more : c.match-branch-2.lexemes.items ≡ c.loop-at.lexemes.items ++ spanned lexeme c.loop-at.at c.match-branch-2.size c.loop-at.line ∷ [] =
-                ap (λ (v : Vec Spanned Global). v.items) w.lexemes-is ∙ w.in_ok-push-in-Lexeme.ensures.items
-                ∙ ap (λ (n : ℕ). c.loop-at.lexemes.items ++ spanned lexeme c.loop-at.at n c.loop-at.line ∷ []) (sym w.size-is) in
+            ap (λ (v : Vec Spanned Global). v.items) w.lexemes-is ∙ w.in_ok-push-in-Lexeme.ensures.items
+            ∙ ap (λ (n : ℕ). c.loop-at.lexemes.items ++ spanned lexeme c.loop-at.at n c.loop-at.line ∷ []) (sym w.size-is) in
             ap (λ (l : List Spanned). in_front l behind) one_more
             ∙ sym (token_step units c.loop-at.lexemes.items lexeme c.loop-at.at c.loop-at.line c.match-branch-2.size c.count_line_feeds-line.result c.loop-at-test.true is feed)
             ∙ c.loop-at.invariant.whole
-        ];
+      ];
     }
 
 pub returns : goal.returns

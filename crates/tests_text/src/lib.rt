@@ -1,0 +1,12 @@
+//! Tests of the lexemes of a text: a table of texts, and hostile texts of 1 MiB.
+#![tactic(auto)]
+
+#[cfg(test)]
+mod hostile;
+#[cfg(test)]
+mod seen;
+#[cfg(test)]
+mod table;
+
+/// The crate has tests alone.
+pub fn nothing() {}

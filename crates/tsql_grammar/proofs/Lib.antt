@@ -1,0 +1,4 @@
+pub mod RuleTests
+pub mod Instance
+pub mod Readings
+pub mod Rows

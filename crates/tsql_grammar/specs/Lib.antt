@@ -1,0 +1,8 @@
+pub mod Productions  -- the grammar, with the tree of each production
+pub mod Trees  -- trees made of trees
+pub mod Terminals  -- the lexemes of a text as the grammar takes them
+pub mod Words  -- the words that the grammar knows, and the kind of a lexeme
+pub mod Kinds  -- all kinds, in one order
+pub mod Noted  -- what is judged of a text that reads
+pub mod Lookahead  -- what one lexeme ahead tells of each rule
+pub mod Language  -- all of it, put together

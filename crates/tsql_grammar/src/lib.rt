@@ -1,0 +1,19 @@
+//! The grammar of Transact-SQL, as far as this server reads it.
+//!
+//! Read `specs/Productions.antt` first, beside `docs/LANGUAGE.md`: it has each production with the
+//! tree that it stands for. `specs/Language.antt` says which texts are of a rule, and where a text
+//! stops; `specs/Noted.antt` what is wrong with a text that reads. The layers above rely on the laws,
+//! which are the `law_` functions: no text stands for two trees, what reads can be cut into the
+//! pieces of its productions, and reading by descent gives its tree. That one lexeme ahead tells
+//! which production to take is tried for every rule and every kind of lexeme (`proofs/RuleTests.antt`).
+#![tactic(auto)]
+
+mod kind;
+mod laws;
+mod noted;
+mod rule;
+
+pub use kind::{Function, Kind, Reserved, Word};
+pub use laws::{law_descent, law_one_reading, law_pieces};
+pub use noted::TextFault;
+pub use rule::{Around, Class, Mark, Rule};
