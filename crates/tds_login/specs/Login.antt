@@ -43,13 +43,15 @@ served_version = 0x74000004
 
 -- ---- the variable part
 
--- where UserName, Password and Database stand: the offset, and behind it the count
+-- where UserName stands: its offset, and behind that its count
 abbrev pub user_place : ℕ
 user_place = 40
 
+-- where Password stands
 abbrev pub password_place : ℕ
 password_place = 44
 
+-- where Database stands
 abbrev pub database_place : ℕ
 database_place = 68
 

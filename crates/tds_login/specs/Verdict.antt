@@ -16,10 +16,11 @@ use Rattle.tds_login.specs.Login.{served_version}
 abbrev pub has_credentials : Login → Config → Bool
 has_credentials login config = same_units login.user config.user && same_units login.password config.password
 
--- the name of the one database, and its other name
+-- the name of the one database
 abbrev pub main_database : List ℕ
 main_database = codes "main"
 
+-- its other name
 abbrev pub master_database : List ℕ
 master_database = codes "master"
 

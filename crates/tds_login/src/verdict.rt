@@ -16,7 +16,7 @@ use std::alloc::Global;
 use tds_packets::{DEFAULT_SIZE, LEAST_SIZE, MOST_SIZE};
 use tds_tokens::{
     Bytes, COLLATION, COMMAND_NONE, DONE_FINAL, DoneKind, ENV_COLLATION, ENV_DATABASE,
-    ENV_PACKET_SIZE, Token,
+    ENV_PACKET_SIZE, Token, server_name,
 };
 use value_types::{Memory, Units};
 
@@ -100,7 +100,7 @@ fn acknowledgement(alloc: Global) -> Result<Token, Memory>
 {
     Ok(Token::LoginAck {
         version: TDS_7_4,
-        program: Units::of_ascii(alloc, b"tsqld")?,
+        program: server_name(alloc)?,
         release: RELEASE,
     })
 }

@@ -42,7 +42,8 @@ impl Reader {
         Reader { taken: 0 }
     }
 
-    /// Reads the next message, and no byte behind it.
+    /// Reads the next message, and no byte behind it. After a fault a reader is not used again: its
+    /// contract would then speak of a stream that begins where the fault left it.
     pub fn next_message<S: Source>(
         &mut self,
         alloc: Global,

@@ -6,7 +6,7 @@ ghost use Rattle.outside_io.specs.Bytes.{HasRisen, StaysHidden};
 ghost use Rattle.tds_packets.specs.Packets.{Packets, packet_at, IsPartSent, least_size, most_size};
 
 use crate::fault::SendFault;
-use crate::header::{HEADER_LEN, header_of};
+use crate::header::{HEADER_LEN, header_bytes};
 use outside_io::{Sink, SinkFault};
 use std::alloc::{AllocError, Global};
 
@@ -69,7 +69,7 @@ fn put_packet(
     let body = &rest[..rest.len().min(room)];
     let last = rest.len() <= room;
     let packet_id = ((k % 256) as u8).wrapping_add(1);
-    let header = header_of(kind, last, body.len() as u16, spid, packet_id);
+    let header = header_bytes(kind, last, body.len() as u16, spid, packet_id);
     packet.extend_from_slice(&header)?;
     packet.extend_from_slice(body)
 }

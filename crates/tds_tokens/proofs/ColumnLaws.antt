@@ -10,7 +10,7 @@ use Rattle.tds_tokens.specs.Spelling.{collation, nvarchartype, type_info, column
 use Rattle.tds_tokens.specs.Fit.{FitsKind}
 use Rattle.tds_tokens.specs.Ranges.{AreUnits}
 use Rattle.tds_tokens.specs.Reading.{strip, this_type_at, text_type_at, type_at, column_at, columns_at}
-use Rattle.tds_tokens.proofs.Readers.{IsBytes, bind_some, or_else_takes, strip_takes, Reads, Reads-both, Reads-made, made_takes, made_again, Reads-behind, Reads-before, Reads-counted, ReadsCount-times}
+use Rattle.tds_tokens.proofs.Readers.{IsBytes, bind_some, option_or_takes, strip_takes, Reads, Reads-both, Reads-made, made_takes, made_again, Reads-behind, Reads-before, Reads-counted, ReadsCount-times}
 use Rattle.tds_tokens.proofs.Numbers.{Reads-16, Reads-half}
 use Rattle.tds_tokens.proofs.Texts.{Reads-b_varchar}
 
@@ -38,11 +38,11 @@ type_takes : (bytes : List ℕ) (x : SqlType × List ℕ) → IsBytes bytes → 
 unfolding type_at
 type_takes bytes x fits e =
     let P : SqlType × List ℕ → Type 0 = IsTypeOf bytes in
-    or_else_takes P (this_type_takes TinyInt bytes tt)
-    (or_else_takes P (this_type_takes SmallInt bytes tt)
-    (or_else_takes P (this_type_takes Int bytes tt)
-    (or_else_takes P (this_type_takes BigInt bytes tt)
-    (or_else_takes P (this_type_takes BitType bytes tt) (text_type_takes bytes fits)))))
+    option_or_takes P (this_type_takes TinyInt bytes tt)
+    (option_or_takes P (this_type_takes SmallInt bytes tt)
+    (option_or_takes P (this_type_takes Int bytes tt)
+    (option_or_takes P (this_type_takes BigInt bytes tt)
+    (option_or_takes P (this_type_takes BitType bytes tt) (text_type_takes bytes fits)))))
     x e
 
 type_again : (kind : SqlType) (rest : List ℕ) → FitsKind kind → type_at (type_info kind ++ rest) ≡ Some (kind, rest)

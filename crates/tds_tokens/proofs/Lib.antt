@@ -1,6 +1,6 @@
 pub mod Lengths
 pub mod Joins
-pub mod Rows
+pub mod RowEnds
 pub mod Tokens
 pub mod Loops
 pub mod Readers
@@ -11,4 +11,4 @@ pub mod ValueLaws
 pub mod Bodies
 pub mod TokenLaws
 pub mod Streams
-pub mod Vectors
+pub mod StandardFacts

@@ -10,7 +10,8 @@ use Rattle.std.proofs.lemmas.Bool.{eqb-true}
 use Rattle.std.proofs.lemmas.Option.{same_Some, cond_some}
 use Rattle.std.proofs.lemmas.Slice.Eq.{bytes_eq-Decides}
 use Rattle.tds_tokens.specs.Spelling.{with_length}
-use Rattle.tds_tokens.specs.Reading.{◌>>=◌, both, made, only, counted, strip, behind, before, or_else, times, at_end, body_at, framed}
+use Rattle.std.specs.Option.{option_or}
+use Rattle.tds_tokens.specs.Reading.{◌>>=◌, both, made, only, counted, strip, behind, before, times, at_end, body_at, framed}
 
 -- ---- bytes are numbers below 256
 
@@ -36,9 +37,9 @@ bind_some None f y e = absurd cc
 bind_some (Some x) f y e = (x, refl, e)
 
 -- what holds of each of two holds of the first that there is
-pub or_else_takes : {A : Type 0} {a b : Option A} (P : A → Type 0) → ((x : A) → a ≡ Some x → P x) → ((x : A) → b ≡ Some x → P x) → (x : A) → or_else a b ≡ Some x → P x
-or_else_takes {a = None} P first second x e = second x e
-or_else_takes {a = Some y} P first second x e = first x e
+pub option_or_takes : {A : Type 0} {a b : Option A} (P : A → Type 0) → ((x : A) → a ≡ Some x → P x) → ((x : A) → b ≡ Some x → P x) → (x : A) → option_or a b ≡ Some x → P x
+option_or_takes {a = None} P first second x e = second x e
+option_or_takes {a = Some y} P first second x e = first x e
 
 pub strip_takes : (text bytes rest : List ℕ) → strip text bytes ≡ Some rest → bytes ≡ text ++ rest
 unfolding strip

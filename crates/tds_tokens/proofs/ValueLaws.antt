@@ -15,7 +15,7 @@ use Rattle.tds_tokens.specs.Spelling.{value_bytes, row_bytes}
 use Rattle.tds_tokens.specs.Fit.{FitsType, FitsColumns}
 use Rattle.tds_tokens.specs.Ranges.{AreUnits, HasUnits}
 use Rattle.tds_tokens.specs.Reading.{◌>>=◌, strip, bit_at, text_at, filled_at, value_at, values_at}
-use Rattle.tds_tokens.proofs.Readers.{IsBytes, IsBytes-rest, bind_some, or_else_takes, strip_takes, Reads, Reads-made, Reads-only, Reads-is, made_takes, made_again, Reads-behind, Reads-counted}
+use Rattle.tds_tokens.proofs.Readers.{IsBytes, IsBytes-rest, bind_some, option_or_takes, strip_takes, Reads, Reads-made, Reads-only, Reads-is, made_takes, made_again, Reads-behind, Reads-counted}
 use Rattle.tds_tokens.proofs.Numbers.{Reads-byte, Reads-signed16, Reads-signed32, Reads-signed64, Reads-half}
 use Rattle.tds_tokens.proofs.Texts.{ReadsCount-units}
 
@@ -94,7 +94,7 @@ filled_takes (NText size) bytes x fits e =
 
 value_takes : (kind : SqlType) (bytes : List ℕ) (x : Value × List ℕ) → IsBytes bytes → value_at kind bytes ≡ Some x → BeginsWith kind bytes x
 unfolding value_at
-value_takes kind bytes x fits e = or_else_takes (BeginsWith kind bytes) (null_takes kind bytes) (λ y given. filled_takes kind bytes y fits given) x e
+value_takes kind bytes x fits e = option_or_takes (BeginsWith kind bytes) (null_takes kind bytes) (λ y given. filled_takes kind bytes y fits given) x e
 
 -- a text's length is even, and NULL's is not
 text_is_not_null : (units rest : List ℕ) → strip (0xFF ∷ 0xFF ∷ []) (to_le_bytes w16 (2 * length units) ++ rest) ≡ None

@@ -12,9 +12,11 @@ use Rattle.tds_tokens.specs.declared.token.Token.TheVariants.{LoginAck, Error, I
 use Rattle.tds_tokens.specs.Spelling.{columns_after}
 use Rattle.tds_tokens.specs.Fit.{FitsToken}
 
+-- units of 16 bits
 abbrev pub AreUnits : List ℕ → Type 0
 AreUnits units = All (λ unit. unit < 2 ^ 16) units
 
+-- bytes
 abbrev pub AreOctets : List ℕ → Type 0
 AreOctets bytes = All (λ byte. byte < 2 ^ 8) bytes
 
@@ -25,6 +27,7 @@ HasUnits (Whole number) = Unit {0}
 HasUnits (Bit bit) = Unit {0}
 HasUnits (Text units) = AreUnits units
 
+-- each number of the notice is of its field's width
 pub record IsNotice (notice : Notice) : Type 0 where
   pub number : FitsSigned w32 notice.number
   pub state : notice.state < 2 ^ 8

@@ -2,6 +2,7 @@
 -- front of the bytes and leaves those behind it, or finds none. The code goes the same way with slices,
 -- and may run out of memory; that these functions undo the spelling is proved of them.
 use Rattle.std.specs.Prelude.{◌≡◌, ℕ, zero, suc, ◌*◌, ◌/◌, ◌%◌, ℤ, pos, Bool, ◌==◌, ◌||◌, ◌&&◌, nat_lt, nat_le, if◌then◌else◌, List, [], ◌∷◌, length, take, drop, slice_get, Option, Some, None, Result, Ok, Err}
+use Rattle.std.specs.Option.{option_and_then, option_or}
 use Rattle.std.specs.Str.{bytes_eq}
 use Rattle.std.specs.Int.{Width, w16, w32, w64, byte_len, from_le_bytes, from_be_bytes, cast_signed}
 use Rattle.value_types.specs.declared.sql_type.SqlType.{SqlType}
@@ -22,19 +23,21 @@ use Rattle.tds_tokens.specs.declared.reading.tag.Tag.TheVariants as kinds
 use Rattle.tds_tokens.specs.Spelling.{b_varchar, server_name, collation, nvarchartype, type_info, value_bytes, column_start, sql_tsql, columns_after}
 use Rattle.tds_tokens.specs.Numbers.{returnstatus_tag, colmetadata_tag, error_tag, info_tag, loginack_tag, row_tag, envchange_tag, done_tag, env_database, env_packet_size, env_collation, env_rollback}
 
--- what a function of the code returned, seen by view, is what reading gives, unless memory ran out
+-- a function of the code failed as reading does, unless memory ran out
 abbrev pub Fails : {Y : Type 0} → ReadFault → Option Y → Type 0
 Fails faults.Absent read = read ≡ None
 Fails faults.Memory read = Unit {0}
 
+-- a function of the code returned what reading gives, seen by `view`, unless memory ran out
 abbrev pub Gives : {X Y : Type 0} → (X → Y) → Result X ReadFault → Option Y → Type 0
 Gives view (Ok x) read = read ≡ Some (view x)
 Gives view (Err fault) read = Fails fault read
 
 infixl 10 ◌>>=◌
+
+-- the first, and then what the second makes of it
 abbrev pub ◌>>=◌ : {A B : Type 0} → Option A → (A → Option B) → Option B
-None >>= f = None
-(Some x) >>= f = f x
+x >>= f = option_and_then f x
 
 -- ---- readers from readers
 
@@ -68,6 +71,7 @@ before text read bytes = read bytes >>= λ a. strip text a.1 >>= λ rest. Some (
 
 -- ---- numbers and texts
 
+-- a byte
 unfoldable pub byte_at : List ℕ → Option (ℕ × List ℕ)
 byte_at [] = None
 byte_at (byte ∷ bytes) = Some (byte, bytes)
@@ -88,12 +92,15 @@ bytes_at count bytes = if nat_lt (length bytes) count then None else Some (take 
 abbrev pub units_at : ℕ → List ℕ → Option (List ℕ × List ℕ)
 units_at count bytes = made units_of (bytes_at (2 * count)) bytes
 
+-- bytes behind a count of one byte
 unfoldable pub b_varbyte_at : List ℕ → Option (List ℕ × List ℕ)
 b_varbyte_at bytes = counted byte_at bytes_at bytes
 
+-- units behind a count of one byte
 unfoldable pub b_varchar_at : List ℕ → Option (List ℕ × List ℕ)
 b_varchar_at bytes = counted byte_at units_at bytes
 
+-- units behind a count of two bytes
 unfoldable pub us_varchar_at : List ℕ → Option (List ℕ × List ℕ)
 us_varchar_at bytes = counted (number_at w16) units_at bytes
 
@@ -107,27 +114,25 @@ half_at bytes = made (λ n. n / 2) (only (λ n. n % 2 == 0) (number_at w16)) byt
 
 -- ---- types and columns
 
--- the first of two that there is
-abbrev pub or_else : {A : Type 0} → Option A → Option A → Option A
-or_else None other = other
-or_else (Some x) other = Some x
-
 -- the type, where its description stands there
 abbrev pub this_type_at : SqlType → List ℕ → Option (SqlType × List ℕ)
 this_type_at kind bytes = strip (type_info kind) bytes >>= λ rest. Some (kind, rest)
 
+-- the type of texts, with the size that it gives and the collation of every text
 unfoldable pub text_type_at : List ℕ → Option (SqlType × List ℕ)
 text_type_at bytes = made NText (before collation (behind (nvarchartype ∷ []) half_at)) bytes
 
+-- a type: the first whose description stands there
 unfoldable pub type_at : List ℕ → Option (SqlType × List ℕ)
 type_at bytes =
-    or_else (this_type_at TinyInt bytes)
-    (or_else (this_type_at SmallInt bytes)
-    (or_else (this_type_at Int bytes)
-    (or_else (this_type_at BigInt bytes)
-    (or_else (this_type_at BitType bytes)
+    option_or (this_type_at TinyInt bytes)
+    (option_or (this_type_at SmallInt bytes)
+    (option_or (this_type_at Int bytes)
+    (option_or (this_type_at BigInt bytes)
+    (option_or (this_type_at BitType bytes)
     (text_type_at bytes)))))
 
+-- a column: what stands before its type, the type and the name
 unfoldable pub column_at : List ℕ → Option (ColumnInfo × List ℕ)
 column_at bytes = made (λ p. record { kind = p.0; name = p.1 }) (behind column_start (both type_at b_varchar_at)) bytes
 
@@ -136,11 +141,13 @@ abbrev pub times : {A : Type 0} → ℕ → (List ℕ → Option (A × List ℕ)
 times zero read bytes = Some ([], bytes)
 times (suc n) read bytes = read bytes >>= λ first. times n read first.1 >>= λ others. Some (first.0 ∷ others.0, others.1)
 
+-- columns behind their count
 unfoldable pub columns_at : List ℕ → Option (List ColumnInfo × List ℕ)
 columns_at bytes = counted (number_at w16) (λ n. times n column_at) bytes
 
 -- ---- values
 
+-- a bit, as a byte that is 0 or 1
 unfoldable pub bit_at : List ℕ → Option (Bool × List ℕ)
 bit_at bytes = made (λ byte. byte == 1) (only (λ byte. nat_lt byte 2) byte_at) bytes
 
@@ -157,8 +164,9 @@ filled_at BigInt bytes = made Whole (behind (8 ∷ []) (signed_at w64)) bytes
 filled_at BitType bytes = made Bit (behind (1 ∷ []) bit_at) bytes
 filled_at (NText size) bytes = made Text (text_at size) bytes
 
+-- a value of the type: NULL, or one that is not
 unfoldable pub value_at : SqlType → List ℕ → Option (Value × List ℕ)
-value_at kind bytes = or_else (strip (value_bytes kind Null) bytes >>= λ rest. Some (Null, rest)) (filled_at kind bytes)
+value_at kind bytes = option_or (strip (value_bytes kind Null) bytes >>= λ rest. Some (Null, rest)) (filled_at kind bytes)
 
 -- a value for each column
 abbrev pub values_at : List ColumnInfo → List ℕ → Option (List Value × List ℕ)
@@ -175,9 +183,11 @@ body_at bytes = counted (number_at w16) bytes_at bytes
 abbrev pub at_end : {A : Type 0} → A → List ℕ → List ℕ → Option (A × List ℕ)
 at_end x left rest = if length left == 0 then Some (x, rest) else None
 
+-- a value that fills the body behind a length
 abbrev pub framed : {A : Type 0} → (List ℕ → Option (A × List ℕ)) → List ℕ → Option (A × List ℕ)
 framed read bytes = body_at bytes >>= λ body. read body.0 >>= λ x. at_end x.0 x.1 body.1
 
+-- LOGINACK: the interface, the version, the program's name and its release
 unfoldable pub login_ack_at : List ℕ → Option (Token × List ℕ)
 login_ack_at bytes = made (λ p. LoginAck p.0 p.1.0 p.1.1) (behind (sql_tsql ∷ []) (both big_number_at (both b_varchar_at big_number_at))) bytes
 
@@ -185,6 +195,7 @@ login_ack_at bytes = made (λ p. LoginAck p.0 p.1.0 p.1.1) (behind (sql_tsql ∷
 unfoldable pub said_at : List ℕ → Option ((List ℕ × (List ℕ × ℤ)) × List ℕ)
 said_at bytes = both us_varchar_at (behind (b_varchar server_name) (both b_varchar_at (signed_at w32))) bytes
 
+-- ERROR or INFO: number, state and class, and what is said
 unfoldable pub notice_at : List ℕ → Option (Notice × List ℕ)
 notice_at bytes =
     made (λ p. record { number = p.0; state = p.1.0; class = p.1.1.0; text = p.1.1.1.0; procedure = p.1.1.1.1.0; line = p.1.1.1.1.1 })
@@ -198,9 +209,11 @@ env_of kind bytes =
     else if nat_le env_collation kind && nat_le kind env_rollback then made (λ p. EnvBytes kind p.0 p.1) (both b_varbyte_at b_varbyte_at) bytes
     else None
 
+-- ENVCHANGE: its kind and the two values
 unfoldable pub env_at : List ℕ → Option (Token × List ℕ)
 env_at bytes = byte_at bytes >>= λ kind. env_of kind.0 kind.1
 
+-- DONE, DONEPROC or DONEINPROC: status, command and count
 unfoldable pub finished_at : DoneKind → List ℕ → Option (Token × List ℕ)
 finished_at kind bytes = made (λ p. Finished kind p.0 p.1.0 p.1.1) (both (number_at w16) (both (number_at w16) (number_at w64))) bytes
 
@@ -235,6 +248,7 @@ abbrev pub look_up : ℕ → List Tag → Option Tag
 look_up byte [] = None
 look_up byte (tag ∷ tags) = if byte == tag_byte tag then Some tag else look_up byte tags
 
+-- the tag with which the bytes begin
 unfoldable pub tag_at : List ℕ → Option (Tag × List ℕ)
 tag_at bytes = byte_at bytes >>= λ first. look_up first.0 tags >>= λ tag. Some (tag, first.1)
 
@@ -255,10 +269,12 @@ token_at columns bytes = tag_at bytes >>= λ tag. tagged_at columns tag.0 tag.1
 
 -- ---- where the latest columns stand among the tokens
 
+-- the columns that a token describes, where there is one
 abbrev pub columns_in : Option Token → List ColumnInfo
 columns_in None = []
 columns_in (Some token) = columns_after [] token
 
+-- the columns that the token at a place describes
 abbrev pub columns_of_place : List Token → Option ℕ → List ColumnInfo
 columns_of_place tokens None = []
 columns_of_place tokens (Some place) = columns_in (slice_get tokens place)

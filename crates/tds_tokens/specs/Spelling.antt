@@ -34,13 +34,15 @@ server_name = codes "tsqld"
 abbrev pub collation : List ℕ
 collation = 0x09 ∷ 0x04 ∷ 0x00 ∷ 0x02 ∷ 0x00 ∷ []
 
--- the type of whole numbers, of bits and of texts (2.2.5.4.2)
+-- the type of whole numbers (2.2.5.4.2)
 abbrev pub intntype : ℕ
 intntype = 0x26
 
+-- the type of bits
 abbrev pub bitntype : ℕ
 bitntype = 0x68
 
+-- the type of texts
 abbrev pub nvarchartype : ℕ
 nvarchartype = 0xE7
 

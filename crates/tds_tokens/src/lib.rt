@@ -46,5 +46,5 @@ pub use fault::TokenFault;
 pub use notice::{Notice, TEXT_LIMIT};
 pub use reading::{law_tokens, read_tokens};
 pub use token::{DoneKind, Token};
-pub use wire::COLLATION;
+pub use wire::{COLLATION, server_name};
 pub use writing::{bytes_of_tokens, write_tokens};

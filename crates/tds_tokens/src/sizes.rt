@@ -61,6 +61,7 @@ pub(crate) fn notice_size(notice: &Notice) -> u64
         .saturating_add(24)
 }
 
+/// How many bytes columns have.
 fn columns_size(columns: &[ColumnInfo]) -> u64
     ensures { result ≡ min (length (flat_map column_bytes columns.now)) (2 ^ 64 - 1) }
 {
@@ -71,6 +72,7 @@ fn columns_size(columns: &[ColumnInfo]) -> u64
     size
 }
 
+/// How many bytes a column has.
 fn column_size(column: &ColumnInfo) -> u64
     ensures { result ≡ min (length (column_bytes column.now)) (2 ^ 64 - 1) }
 {
@@ -79,6 +81,7 @@ fn column_size(column: &ColumnInfo) -> u64
         .saturating_add(7)
 }
 
+/// How many bytes a type has.
 fn type_size(kind: SqlType) -> u64
     ensures { result ≡ length (type_info kind) }
 {
@@ -88,6 +91,7 @@ fn type_size(kind: SqlType) -> u64
     }
 }
 
+/// How many bytes the values of a row have.
 fn row_size(columns: &[ColumnInfo], values: &[Value]) -> u64
     ensures { result ≡ min (length (row_bytes columns.now values.now)) (2 ^ 64 - 1) }
 {
@@ -98,6 +102,7 @@ fn row_size(columns: &[ColumnInfo], values: &[Value]) -> u64
     size
 }
 
+/// How many bytes a value has.
 fn value_size(kind: SqlType, value: &Value) -> u64
     ensures { result ≡ min (length (value_bytes kind value.now)) (2 ^ 64 - 1) }
 {
@@ -115,6 +120,7 @@ fn value_size(kind: SqlType, value: &Value) -> u64
     }
 }
 
+/// How many bytes the units of a text have.
 fn text_size(text: &Units) -> u64
     ensures { result ≡ min (2 * length text.now) (2 ^ 64 - 1) }
 {

@@ -1,4 +1,10 @@
-//! The numbers of the tokens' bytes, under their names in [MS-TDS].
+//! The numbers of the tokens' bytes, under their names in [MS-TDS], and the server's name.
+
+ghost use Rattle.std.specs.Prelude.{◌≡◌, IfOk};
+ghost use Rattle.tds_tokens.specs.Spelling.{server_name};
+
+use std::alloc::Global;
+use value_types::{Memory, Units, units_of_le};
 
 /// The tag of RETURNSTATUS (2.2.7.18).
 pub(crate) const RETURNSTATUS: u8 = 0x79;
@@ -56,3 +62,13 @@ pub(crate) const COLUMN_START: [u8; 6] = [0, 0, 0, 0, 1, 0];
 
 /// The name that the server gives itself, `tsqld`, behind its count.
 pub(crate) const SERVER: [u8; 11] = [5, 0x74, 0, 0x73, 0, 0x71, 0, 0x6C, 0, 0x64, 0];
+
+/// The name that the server gives itself.
+pub fn server_name(alloc: Global) -> Result<Units, Memory>
+    ensures { IfOk result (λ name. name ≡ server_name) }
+{
+    match units_of_le(alloc, &SERVER[1..]) {
+        Ok(name) => Ok(name),
+        Err(_) => Err(Memory),
+    }
+}

@@ -54,6 +54,7 @@ pub fn write_tokens(tokens: &[Token], out: &mut Vec<u8>) -> Result<(), Memory>
     Ok(())
 }
 
+/// Appends a token, where rows have these columns.
 fn put_token(out: &mut Vec<u8>, columns: &[ColumnInfo], token: &Token)
     requires fits { FitsToken columns.now token.now }
     requires room { vec_len out.old + length (token_bytes columns.now token.now) ≤ vec_capacity out.old }
@@ -91,6 +92,7 @@ fn put_token(out: &mut Vec<u8>, columns: &[ColumnInfo], token: &Token)
     }
 }
 
+/// Appends LOGINACK.
 fn put_login_ack(out: &mut Vec<u8>, version: u32, program: &Units, release: u32)
     requires fits { length program.now < 2 ^ 8 }
     requires room { vec_len out.old + (13 + 2 * length program.now) ≤ vec_capacity out.old }
@@ -106,6 +108,7 @@ fn put_login_ack(out: &mut Vec<u8>, version: u32, program: &Units, release: u32)
     put_u32_be(out, release);
 }
 
+/// Appends ENVCHANGE of a text.
 fn put_env_text(out: &mut Vec<u8>, kind: u8, fresh: &Units, former: &Units)
     requires fits { (length fresh.now < 2 ^ 8) × (length former.now < 2 ^ 8) }
     requires room { vec_len out.old + (6 + 2 * length fresh.now + 2 * length former.now) ≤ vec_capacity out.old }
@@ -120,6 +123,7 @@ fn put_env_text(out: &mut Vec<u8>, kind: u8, fresh: &Units, former: &Units)
     put_b_varchar(out, former.as_slice());
 }
 
+/// Appends ENVCHANGE of bytes.
 fn put_env_bytes(out: &mut Vec<u8>, kind: u8, fresh: &Bytes, former: &Bytes)
     requires fits { (length fresh.now < 2 ^ 8) × (length former.now < 2 ^ 8) }
     requires room { vec_len out.old + (6 + length fresh.now + length former.now) ≤ vec_capacity out.old }
@@ -134,6 +138,7 @@ fn put_env_bytes(out: &mut Vec<u8>, kind: u8, fresh: &Bytes, former: &Bytes)
     put_b_varbyte(out, former.as_slice());
 }
 
+/// Appends ERROR or INFO.
 fn put_notice(out: &mut Vec<u8>, tag: u8, notice: &Notice)
     requires fits { FitsNotice notice.now }
     requires room { vec_len out.old + (3 + length (notice_bytes notice.now)) ≤ vec_capacity out.old }
@@ -162,6 +167,7 @@ fn put_notice_body(out: &mut Vec<u8>, notice: &Notice)
     put_i32(out, notice.line);
 }
 
+/// Appends COLMETADATA.
 fn put_description(out: &mut Vec<u8>, columns: &[ColumnInfo])
     requires count { length columns.now < 2 ^ 16 }
     requires fits { All (λ column. FitsKind column.kind × (length column.name < 2 ^ 8)) columns.now }
@@ -175,6 +181,7 @@ fn put_description(out: &mut Vec<u8>, columns: &[ColumnInfo])
     put_columns(out, columns);
 }
 
+/// Appends the columns of COLMETADATA.
 fn put_columns(out: &mut Vec<u8>, columns: &[ColumnInfo])
     requires fits { All (λ column. FitsKind column.kind × (length column.name < 2 ^ 8)) columns.now }
     requires room { vec_len out.old + length (flat_map column_bytes columns.now) ≤ vec_capacity out.old }
@@ -187,6 +194,7 @@ fn put_columns(out: &mut Vec<u8>, columns: &[ColumnInfo])
     }
 }
 
+/// Appends a column.
 fn put_column(out: &mut Vec<u8>, column: &ColumnInfo)
     requires kind { FitsKind column.now.kind }
     requires name { length column.now.name < 2 ^ 8 }
@@ -200,6 +208,7 @@ fn put_column(out: &mut Vec<u8>, column: &ColumnInfo)
     put_b_varchar(out, column.name.as_slice());
 }
 
+/// Appends ROW.
 fn put_row(out: &mut Vec<u8>, columns: &[ColumnInfo], values: &[Value])
     requires fits { FitsColumns columns.now values.now }
     requires room { vec_len out.old + (1 + length (row_bytes columns.now values.now)) ≤ vec_capacity out.old }
@@ -211,6 +220,7 @@ fn put_row(out: &mut Vec<u8>, columns: &[ColumnInfo], values: &[Value])
     put_values(out, columns, values);
 }
 
+/// Appends RETURNSTATUS.
 fn put_return_status(out: &mut Vec<u8>, status: i32)
     requires { vec_len out.old + 5 ≤ vec_capacity out.old }
     ensures items { out.new.items ≡ out.old.items ++ RETURNSTATUS ∷ to_le_bytes w32 (cast_unsigned w32 status) }
@@ -221,6 +231,7 @@ fn put_return_status(out: &mut Vec<u8>, status: i32)
     put_i32(out, status);
 }
 
+/// Appends DONE, DONEPROC or DONEINPROC.
 fn put_done(out: &mut Vec<u8>, kind: DoneKind, status: u16, command: u16, rows: u64)
     requires { vec_len out.old + 13 ≤ vec_capacity out.old }
     ensures items { out.new.items ≡ out.old.items ++ (done_tag kind ∷ to_le_bytes w16 status ++ to_le_bytes w16 command ++ to_le_bytes w64 rows) }
@@ -233,6 +244,7 @@ fn put_done(out: &mut Vec<u8>, kind: DoneKind, status: u16, command: u16, rows: 
     put_u64(out, rows);
 }
 
+/// The tag of a DONE.
 fn tag_of(kind: DoneKind) -> u8
     ensures { result ≡ done_tag kind }
 {

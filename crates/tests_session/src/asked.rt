@@ -1,12 +1,11 @@
 //! What each statement asks of its port, in order, and what it tells by the answers.
 
+ghost use Rattle.std.specs.Prelude.{◌≡◌, IfOk};
+
 use crate::rows::Cell::{Text, Whole};
-use crate::rows::{CREATE, Cell, DEFINED, Keyed, key_of, put_rows};
-use crate::served::Told::{Columns, Done, Error, Row};
-use crate::served::{Told, batch, response, serve};
+use crate::rows::{CREATE, Cell, DEFINED, Keyed, key_of, port_with};
+use crate::served::{assert_lines, reply_to};
 use crate::watched::Watched;
-use engine_core::SoloPort;
-use session_server::End;
 use std::alloc::Global;
 use std::process::Abort;
 use std::test::Fail;
@@ -20,10 +19,10 @@ struct Statement {
     /// The key of a row that is answered as Gone, or none.
     hidden: &'static [Cell],
     /// The command of its DONE.
-    command: u8,
+    command: &'static str,
     text: &'static str,
     asked: &'static [&'static str],
-    told: &'static [Told],
+    told: &'static [&'static str],
 }
 
 const ROWS: &[Keyed] = &[
@@ -40,7 +39,7 @@ static STATEMENTS: [Statement; 12] = [
         objects: &[],
         rows: &[],
         hidden: &[],
-        command: 0,
+        command: "0",
         text: CREATE,
         asked: &[
             "Begin",
@@ -49,13 +48,13 @@ static STATEMENTS: [Statement; 12] = [
             "Relax",
             "Commit",
         ],
-        told: &[Done(0x00, 0, 0)],
+        told: &["DONE(00,0,0)"],
     },
     Statement {
         objects: DEFINED,
         rows: &[],
         hidden: &[],
-        command: 0,
+        command: "0",
         text: CREATE,
         asked: &[
             "Begin",
@@ -65,15 +64,15 @@ static STATEMENTS: [Statement; 12] = [
             "Rollback",
         ],
         told: &[
-            Error(2714, 16, "There is already an object named 't'."),
-            Done(0x02, 0, 0),
+            "ERROR 2714 class 16 state 1 line 1: There is already an object named 't'.",
+            "DONE(02,0,0)",
         ],
     },
     Statement {
         objects: DEFINED,
         rows: ROWS,
         hidden: &[],
-        command: 0xC3,
+        command: "C3",
         text: "INSERT INTO t VALUES (4, 40)",
         asked: &[
             "Begin",
@@ -85,13 +84,13 @@ static STATEMENTS: [Statement; 12] = [
             "Relax",
             "Commit",
         ],
-        told: &[Done(0x11, 0xC3, 1), Done(0x00, 0, 0)],
+        told: &["DONE(11,C3,1)", "DONE(00,0,0)"],
     },
     Statement {
         objects: DEFINED,
         rows: ROWS,
         hidden: &[],
-        command: 0xC3,
+        command: "C3",
         text: "INSERT INTO t VALUES (2, 30)",
         asked: &[
             "Begin",
@@ -104,25 +103,28 @@ static STATEMENTS: [Statement; 12] = [
             "Rollback",
         ],
         told: &[
-            Error(2627, 14, "Violation of constraint 'PK_t'. Duplicate key."),
-            Done(0x03, 0xC3, 0),
-            Done(0x00, 0, 0),
+            "ERROR 2627 class 14 state 1 line 1: Violation of constraint 'PK_t'. Duplicate key.",
+            "DONE(03,C3,0)",
+            "DONE(00,0,0)",
         ],
     },
     Statement {
         objects: &[],
         rows: &[],
         hidden: &[],
-        command: 0xC3,
+        command: "C3",
         text: "INSERT INTO t VALUES (2, 30)",
         asked: &["Begin", LOOK_UP, "Relax", "Rollback"],
-        told: &[Error(208, 16, "Invalid object name 't'."), Done(0x02, 0, 0)],
+        told: &[
+            "ERROR 208 class 16 state 1 line 1: Invalid object name 't'.",
+            "DONE(02,0,0)",
+        ],
     },
     Statement {
         objects: DEFINED,
         rows: ROWS,
         hidden: &[],
-        command: 0xC1,
+        command: "C1",
         text: "SELECT k, v FROM t",
         asked: &[
             "Begin",
@@ -135,19 +137,19 @@ static STATEMENTS: [Statement; 12] = [
             "Commit",
         ],
         told: &[
-            Columns,
-            Row(Some(1), Some(10)),
-            Row(Some(2), Some(20)),
-            Row(Some(3), Some(30)),
-            Done(0x11, 0xC1, 3),
-            Done(0x00, 0, 0),
+            "COL(k INT, v INT)",
+            "ROW(1, 10)",
+            "ROW(2, 20)",
+            "ROW(3, 30)",
+            "DONE(11,C1,3)",
+            "DONE(00,0,0)",
         ],
     },
     Statement {
         objects: DEFINED,
         rows: ROWS,
         hidden: &[Whole(2)],
-        command: 0xC1,
+        command: "C1",
         text: "SELECT k, v FROM t",
         asked: &[
             "Begin",
@@ -160,18 +162,18 @@ static STATEMENTS: [Statement; 12] = [
             "Commit",
         ],
         told: &[
-            Columns,
-            Row(Some(1), Some(10)),
-            Row(Some(3), Some(30)),
-            Done(0x11, 0xC1, 2),
-            Done(0x00, 0, 0),
+            "COL(k INT, v INT)",
+            "ROW(1, 10)",
+            "ROW(3, 30)",
+            "DONE(11,C1,2)",
+            "DONE(00,0,0)",
         ],
     },
     Statement {
         objects: DEFINED,
         rows: ROWS,
         hidden: &[Whole(3)],
-        command: 0xC1,
+        command: "C1",
         text: "SELECT k, v FROM t",
         asked: &[
             "Begin",
@@ -184,109 +186,119 @@ static STATEMENTS: [Statement; 12] = [
             "Commit",
         ],
         told: &[
-            Columns,
-            Row(Some(1), Some(10)),
-            Row(Some(2), Some(20)),
-            Done(0x11, 0xC1, 2),
-            Done(0x00, 0, 0),
+            "COL(k INT, v INT)",
+            "ROW(1, 10)",
+            "ROW(2, 20)",
+            "DONE(11,C1,2)",
+            "DONE(00,0,0)",
         ],
     },
     Statement {
         objects: DEFINED,
         rows: ROWS,
         hidden: &[Text("t")],
-        command: 0xC1,
+        command: "C1",
         text: "SELECT k, v FROM t",
         asked: &["Begin", LOOK_UP, "Relax", "Rollback"],
-        told: &[Error(208, 16, "Invalid object name 't'."), Done(0x02, 0, 0)],
+        told: &[
+            "ERROR 208 class 16 state 1 line 1: Invalid object name 't'.",
+            "DONE(02,0,0)",
+        ],
     },
     Statement {
         objects: &[],
         rows: &[],
         hidden: &[],
-        command: 0xC1,
+        command: "C1",
         text: "SELECT k, v FROM t",
         asked: &["Begin", LOOK_UP, "Relax", "Rollback"],
-        told: &[Error(208, 16, "Invalid object name 't'."), Done(0x02, 0, 0)],
-    },
-    Statement {
-        objects: DEFINED,
-        rows: &[],
-        hidden: &[],
-        command: 0xC3,
-        text: "INSERT INTO objects VALUES (2, 30)",
-        asked: &[],
         told: &[
-            Error(208, 16, "Invalid object name 'objects'."),
-            Done(0x02, 0, 0),
+            "ERROR 208 class 16 state 1 line 1: Invalid object name 't'.",
+            "DONE(02,0,0)",
         ],
     },
     Statement {
         objects: DEFINED,
         rows: &[],
         hidden: &[],
-        command: 0xC1,
+        command: "C3",
+        text: "INSERT INTO objects VALUES (2, 30)",
+        asked: &[],
+        told: &[
+            "ERROR 208 class 16 state 1 line 1: Invalid object name 'objects'.",
+            "DONE(02,0,0)",
+        ],
+    },
+    Statement {
+        objects: DEFINED,
+        rows: &[],
+        hidden: &[],
+        command: "C1",
         text: "SELECT k, v FROM objects",
         asked: &[],
         told: &[
-            Error(208, 16, "Invalid object name 'objects'."),
-            Done(0x02, 0, 0),
+            "ERROR 208 class 16 state 1 line 1: Invalid object name 'objects'.",
+            "DONE(02,0,0)",
         ],
     },
 ];
 
-/// A port over an engine that has what the statement is to find.
-fn port_for(rt: &impl Abort, alloc: Global, statement: &Statement) -> Result<Watched, Fail> {
-    let mut solo = SoloPort::new(alloc, 1);
-    put_rows(rt, alloc, &mut solo, "objects", statement.objects)?;
-    put_rows(rt, alloc, &mut solo, "t", statement.rows)?;
-    let mut port = Watched::new(alloc, solo);
-    if !statement.hidden.is_empty() {
-        port.hidden = Some(key_of(rt, alloc, statement.hidden)?);
-    }
-    Ok(port)
+/// A port over an engine that has what the statement is to find, of which the operation of this number wants
+/// memory.
+fn port_for(
+    rt: &impl Abort,
+    alloc: Global,
+    statement: &Statement,
+    lacking: usize,
+) -> Result<Watched, Fail>
+    ensures { IfOk result (λ port. port.port.session ≡ 1) }
+{
+    let hidden = match statement.hidden {
+        [] => None,
+        cells => Some(key_of(rt, alloc, cells)?),
+    };
+    Ok(Watched {
+        port: port_with(rt, alloc, statement.objects, statement.rows)?,
+        asked: Vec::new(alloc),
+        lacking,
+        hidden,
+        alloc,
+    })
 }
 
-/// Asserts what a batch asks of a port, the response, and that no transaction is open.
+/// Asserts what a statement asks of a port and the reply, and that no transaction is open then.
 fn assert_asks(
     rt: &impl Abort,
     alloc: Global,
     port: &mut Watched,
     text: &str,
     asked: &[&str],
-    told: &[Told],
-) -> Result<(), Fail> {
-    let input = batch(alloc, text)?;
-    let expected = response(alloc, told)?;
+    told: &[&str],
+) -> Result<(), Fail>
+    requires { port.old.port.session ≡ 1 }
+    ensures { port.new.port.session ≡ 1 }
+{
     port.asked.clear();
-    assert!(rt; !port.in_transaction());
-    let (end, written) = serve(alloc, port, input);
-    assert!(rt; !port.in_transaction());
-    assert_eq!(rt; end, End::Closed);
-    for (line, wanted) in port.asked.iter().zip(asked) {
-        assert_eq!(rt; line.as_str(), *wanted, "{text}");
-    }
-    assert_eq!(rt; port.asked.len(), asked.len(), "{text}");
-    assert_eq!(rt; written, expected, "{text}");
+    let is_open = port.in_transaction();
+    assert!(rt; !is_open);
+    let lines = reply_to(rt, alloc, port, text)?;
+    assert_lines(rt, &lines, told, text);
+    assert_lines(rt, &port.asked, asked, text);
     Ok(())
 }
 
 /// Asserts that a statement for which memory is wanting, at each operation in turn, is refused and has
 /// done nothing.
 fn assert_refuses(rt: &impl Abort, alloc: Global, statement: &Statement) -> Result<(), Fail> {
+    let command = statement.command;
+    let done = format!(in alloc; "DONE(03,{command},0)")?;
     let told = [
-        Error(
-            701,
-            17,
-            "There is insufficient memory to run this statement.",
-        ),
-        Done(0x03, statement.command, 0),
-        Done(0x00, 0, 0),
+        "ERROR 701 class 17 state 1 line 1: There is insufficient memory to run this statement.",
+        done.as_str(),
+        "DONE(00,0,0)",
     ];
-    let last = statement.asked.len().saturating_sub(2);
-    for count in 1..=last {
-        let mut port = port_for(rt, alloc, statement)?;
-        port.lacking = count;
+    for count in 1..=statement.asked.len().saturating_sub(2) {
+        let mut port = port_for(rt, alloc, statement, count)?;
         let asked = asked_until(alloc, statement.asked, count)?;
         assert_asks(rt, alloc, &mut port, statement.text, &asked, &told)?;
         port.lacking = 0;
@@ -323,7 +335,7 @@ fn asked_until(
 fn statements_ask_these_operations(rt: HostRuntime) -> Result<(), Fail> {
     let alloc = rt.alloc();
     for statement in &STATEMENTS {
-        let mut port = port_for(&rt, alloc, statement)?;
+        let mut port = port_for(&rt, alloc, statement, 0)?;
         assert_asks(
             &rt,
             alloc,

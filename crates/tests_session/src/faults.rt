@@ -1,43 +1,29 @@
-//! A source or a sink that fails around a login, and batches behind one that can't be read.
+//! A source or a sink that fails around a login.
 
-use crate::logins::{LOGIN, LOGIN_RESPONSE, assert_talk, changed, config_of, refused};
-use crate::prelogins::{PRELOGIN, PRELOGIN_RESPONSE};
 use crate::rows::CREATE;
-use crate::served::Told::Done;
-use crate::served::{batch, message, response};
+use crate::served::with_login;
 use engine_core::SoloPort;
 use outside_io::{MemorySink, MemorySource};
-use session_server::{BatchFault, End, serve_on_port};
+use session_server::{End, serve_on_port};
 use std::alloc::Global;
 use std::process::Abort;
 use std::test::Fail;
+use tests_kit::{LOGIN, LOGIN_REPLY, PRELOGIN, PRELOGIN_REPLY, batch, message};
 
-/// Payloads of batches that can't be read: 3 bytes; a length of ALL_HEADERS of 3, and of 4,294,967,295;
-/// and one byte behind ALL_HEADERS of 22.
-static BATCHES: [(&[u8], BatchFault); 4] = [
-    (&[4, 0, 0], BatchFault::HeadersShort),
-    (&[3, 0, 0, 0], BatchFault::HeadersTotal),
-    (&[0xFF, 0xFF, 0xFF, 0xFF], BatchFault::HeadersTotal),
-    (
-        &[
-            22, 0, 0, 0, 18, 0, 0, 0, 2, 0, 0, 0, 0, 0, 0, 0, 0, 0, 1, 0, 0, 0, 0x53,
-        ],
-        BatchFault::OddText,
-    ),
+/// The reply to a batch that is done: DONE in one packet.
+const DONE_REPLY: [u8; 21] = [
+    0x04, 0x01, 0x00, 0x15, 0x00, 0x33, 0x01, 0x00, 0xFD, 0x00, 0x00, 0x00, 0x00, 0x00, 0x00, 0x00,
+    0x00, 0x00, 0x00, 0x00, 0x00,
 ];
 
-#[test]
-fn batches_behind_a_login_may_be_bad(rt: HostRuntime) -> Result<(), Fail> {
-    let alloc = rt.alloc();
-    let config = config_of(alloc, "sa", "A")?;
-    for (row, (payload, fault)) in BATCHES.iter().enumerate() {
-        let mut input = message(alloc, 0x10, &LOGIN)?;
-        input.extend_from_slice(&message(alloc, 0x01, payload)?)?;
-        let end = End::BadBatch { fault: *fault };
-        assert_talk(&rt, alloc, &config, input, end, &LOGIN_RESPONSE, row);
-    }
-    Ok(())
-}
+/// The reply to a login by another password: ERROR 18456 `Login failed.` and DONE in one packet.
+const FAILED_REPLY: [u8; 74] = [
+    0x04, 0x01, 0x00, 0x4A, 0x00, 0x33, 0x01, 0x00, 0xAA, 0x32, 0x00, 0x18, 0x48, 0x00, 0x00, 0x01,
+    0x0E, 0x0D, 0x00, 0x4C, 0x00, 0x6F, 0x00, 0x67, 0x00, 0x69, 0x00, 0x6E, 0x00, 0x20, 0x00, 0x66,
+    0x00, 0x61, 0x00, 0x69, 0x00, 0x6C, 0x00, 0x65, 0x00, 0x64, 0x00, 0x2E, 0x00, 0x05, 0x74, 0x00,
+    0x73, 0x00, 0x71, 0x00, 0x6C, 0x00, 0x64, 0x00, 0x00, 0x01, 0x00, 0x00, 0x00, 0xFD, 0x02, 0x00,
+    0x00, 0x00, 0x00, 0x00, 0x00, 0x00, 0x00, 0x00, 0x00, 0x00,
+];
 
 /// The end of a connection of session 1 over a new port, of which these reads, of one byte each, and these
 /// writes, of at most seven, fail; and what it wrote.
@@ -48,16 +34,17 @@ fn serve_failing(
     reads: Vec<u32>,
     writes: Vec<u32>,
 ) -> Result<(End, Vec<u8>), Fail> {
-    let config = config_of(alloc, "sa", "A")?;
+    let config = with_login(alloc)?;
     let mut port = SoloPort::new(alloc, 1);
-    assert!(rt; !port.in_transaction());
+    let is_open = port.in_transaction();
+    assert!(rt; !is_open);
     let mut source = MemorySource::new(input, 1, reads);
     let mut sink = MemorySink::new(alloc, 7, writes);
     let end = serve_on_port(alloc, 1, &mut port, &config, &mut source, &mut sink);
     Ok((end, sink.into_bytes()))
 }
 
-/// A PRELOGIN, a login and a batch of 26, 108 and 130 bytes. Where a byte can't be read, the messages
+/// A PRELOGIN, a login and a batch of 26, 108 and 148 bytes. Where a byte can't be read, the messages
 /// before it are answered.
 #[test]
 fn a_source_may_fail_at_each_byte(rt: HostRuntime) -> Result<(), Fail> {
@@ -68,9 +55,9 @@ fn a_source_may_fail_at_each_byte(rt: HostRuntime) -> Result<(), Fail> {
         batch(alloc, CREATE)?,
     ];
     let responses = [
-        Vec::from_slice(alloc, &PRELOGIN_RESPONSE)?,
-        Vec::from_slice(alloc, &LOGIN_RESPONSE)?,
-        response(alloc, &[Done(0x00, 0, 0)])?,
+        PRELOGIN_REPLY.as_slice(),
+        LOGIN_REPLY.as_slice(),
+        DONE_REPLY.as_slice(),
     ];
     let mut input = Vec::new(alloc);
     for message in &messages {
@@ -88,7 +75,7 @@ fn a_source_may_fail_at_each_byte(rt: HostRuntime) -> Result<(), Fail> {
         }
         written.extend_from_slice(response)?;
     }
-    assert_eq!(rt; read, 265);
+    assert_eq!(rt; read, 283);
     let (end, bytes) = serve_failing(&rt, alloc, input, vec![in alloc; read]?, Vec::new(alloc))?;
     assert_eq!(rt; end, End::ReadFault);
     assert_eq!(rt; bytes, written);
@@ -124,19 +111,24 @@ fn assert_fails_at_each_write(
     Ok(())
 }
 
-/// A PRELOGIN and a login that is refused, with responses of 43 and 74 bytes; and one that is granted, and
-/// a batch, with 91 and 21 bytes.
+/// A PRELOGIN and a login that is refused, with replies of 43 and 74 bytes; and one that is granted, and a
+/// batch, with 91 and 21 bytes.
 #[test]
 fn a_sink_may_fail_at_each_write(rt: HostRuntime) -> Result<(), Fail> {
     let alloc = rt.alloc();
+    let mut other = LOGIN;
+    other[98] = 0xB0;
     let mut input = message(alloc, 0x12, &PRELOGIN)?;
-    let wrong = changed(alloc, &LOGIN, 98, 100, &[0xB0, 0xA5])?;
-    input.extend_from_slice(&message(alloc, 0x10, &wrong)?)?;
-    let (end, error) = refused(alloc, 18456, 14, "Login failed.")?;
-    assert_eq!(rt; error.len(), 74);
-    assert_fails_at_each_write(&rt, alloc, &input, &[&PRELOGIN_RESPONSE, &error], end)?;
+    input.extend_from_slice(&message(alloc, 0x10, &other)?)?;
+    let end = End::LoginRefused { number: 18456 };
+    assert_fails_at_each_write(&rt, alloc, &input, &[&PRELOGIN_REPLY, &FAILED_REPLY], end)?;
     let mut input = message(alloc, 0x10, &LOGIN)?;
     input.extend_from_slice(&batch(alloc, CREATE)?)?;
-    let done = response(alloc, &[Done(0x00, 0, 0)])?;
-    assert_fails_at_each_write(&rt, alloc, &input, &[&LOGIN_RESPONSE, &done], End::Closed)
+    assert_fails_at_each_write(
+        &rt,
+        alloc,
+        &input,
+        &[&LOGIN_REPLY, &DONE_REPLY],
+        End::Closed,
+    )
 }

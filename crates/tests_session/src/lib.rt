@@ -1,20 +1,16 @@
-//! Tests of a connection over a port: logins, granted and refused, which message has its place where, its
-//! ends, what its port keeps for the next one, rows that are read as no row, and what each statement asks
-//! of the port, also where memory is wanting.
+//! Tests of a connection over a port, of what no row of `tests_rows` can say: a source or a sink that fails
+//! at each call, rows that are read as no row, what each statement asks of its port, also where memory is
+//! wanting, and the limits of a result and of a range.
 #![tactic(auto)]
 
 #[cfg(test)]
 mod asked;
 #[cfg(test)]
-mod connections;
+mod counting;
 #[cfg(test)]
 mod faults;
 #[cfg(test)]
-mod logins;
-#[cfg(test)]
-mod places;
-#[cfg(test)]
-mod prelogins;
+mod limits;
 #[cfg(test)]
 mod rows;
 #[cfg(test)]

@@ -1,16 +1,14 @@
 //! Rows that are read as no row, put into an engine by hand.
 
-ghost use Rattle.std.specs.Prelude.{◌≡◌, ℕ, List, true};
+ghost use Rattle.std.specs.Prelude.{◌≡◌, ℕ, List, true, false, IfOk};
 ghost use Rattle.step_model.specs.Exchange.{MayAsk, MayCome};
 ghost use Rattle.engine_core.specs.Solo.{solo_open, solo_marks};
 
 use self::Cell::{Bit, Null, Text, Whole};
-use crate::served::Told::{Columns, Done, Error, Row as Read};
-use crate::served::{Told, batch, response, serve};
+use crate::served::{assert_lines, reply_to};
 use crate::watched::MANNER;
 use engine_core::SoloPort;
 use lock_modes::KeyPart;
-use session_server::End;
 use std::alloc::Global;
 use std::process::Abort;
 use std::test::Fail;
@@ -126,7 +124,9 @@ fn may_ask(port: &SoloPort, op: &Op) -> bool
 }
 
 /// Asks an operation, which is to succeed.
-fn ask(rt: &impl Abort, port: &mut SoloPort, op: &Op) {
+fn ask(rt: &impl Abort, port: &mut SoloPort, op: &Op)
+    ensures { port.new.session ≡ port.old.session }
+{
     let may = may_ask(port, op);
     assert!(rt; may);
     let reply = port.ask(op, MANNER);
@@ -140,7 +140,9 @@ pub(crate) fn put_rows(
     port: &mut SoloPort,
     table: &str,
     rows: &[Keyed],
-) -> Result<(), Memory> {
+) -> Result<(), Memory>
+    ensures { port.new.session ≡ port.old.session }
+{
     ask(rt, port, &Op::Begin);
     for keyed in rows {
         ask(rt, port, &insertion(rt, alloc, table, *keyed)?);
@@ -149,50 +151,55 @@ pub(crate) fn put_rows(
     Ok(())
 }
 
-/// Asserts the response to a batch.
-fn assert_told(
+/// A port over an engine with these rows of `objects`, and these of `t`.
+pub(crate) fn port_with(
     rt: &impl Abort,
     alloc: Global,
-    port: &mut SoloPort,
-    text: &str,
-    told: &[Told],
-) -> Result<(), Fail> {
-    let input = batch(alloc, text)?;
-    let expected = response(alloc, told)?;
-    assert!(rt; !port.in_transaction());
-    let (end, written) = serve(alloc, port, input);
-    assert_eq!(rt; end, End::Closed);
-    assert_eq!(rt; written, expected, "{text}");
-    Ok(())
+    objects: &[Keyed],
+    rows: &[Keyed],
+) -> Result<SoloPort, Memory>
+    ensures { IfOk result (λ port. (port.session ≡ 1) × (solo_open port ≡ false)) }
+{
+    let mut port = SoloPort::new(alloc, 1);
+    put_rows(rt, alloc, &mut port, "objects", objects)?;
+    put_rows(rt, alloc, &mut port, "t", rows)?;
+    let is_open = port.in_transaction();
+    assert!(rt; !is_open);
+    Ok(port)
 }
 
 #[test]
 fn rows_that_do_not_fit_are_left_out(rt: HostRuntime) -> Result<(), Fail> {
     let alloc = rt.alloc();
-    let mut port = SoloPort::new(alloc, 1);
-    put_rows(&rt, alloc, &mut port, "objects", DEFINED)?;
-    put_rows(&rt, alloc, &mut port, "t", &ROWS)?;
-    let told = [
-        Columns,
-        Read(None, None),
-        Read(Some(-2_147_483_648), Some(1)),
-        Read(Some(1), Some(10)),
-        Read(Some(11), Some(2_147_483_647)),
-        Done(0x11, 0xC1, 4),
-        Done(0x00, 0, 0),
+    let mut port = port_with(&rt, alloc, DEFINED, &ROWS)?;
+    let wanted = [
+        "COL(k INT, v INT)",
+        "ROW(NULL, NULL)",
+        "ROW(-2147483648, 1)",
+        "ROW(1, 10)",
+        "ROW(11, 2147483647)",
+        "DONE(11,C1,4)",
+        "DONE(00,0,0)",
     ];
-    assert_told(&rt, alloc, &mut port, "SELECT k, v FROM t", &told)
+    let text = "SELECT k, v FROM t";
+    let given = reply_to(&rt, alloc, &mut port, text)?;
+    assert_lines(&rt, &given, &wanted, text);
+    Ok(())
 }
 
 #[test]
 fn a_table_is_known_by_its_definition_alone(rt: HostRuntime) -> Result<(), Fail> {
     let alloc = rt.alloc();
-    let told = [Error(208, 16, "Invalid object name 't'."), Done(0x02, 0, 0)];
+    let wanted = [
+        "ERROR 208 class 16 state 1 line 1: Invalid object name 't'.",
+        "DONE(02,0,0)",
+    ];
     for keyed in &UNKNOWN {
-        let mut port = SoloPort::new(alloc, 1);
-        put_rows(&rt, alloc, &mut port, "objects", &[*keyed])?;
-        assert_told(&rt, alloc, &mut port, "SELECT k, v FROM t", &told)?;
-        assert_told(&rt, alloc, &mut port, "INSERT INTO t VALUES (1, 10)", &told)?;
+        let mut port = port_with(&rt, alloc, &[*keyed], &[])?;
+        let selected = reply_to(&rt, alloc, &mut port, "SELECT k, v FROM t")?;
+        assert_lines(&rt, &selected, &wanted, "a selection");
+        let inserted = reply_to(&rt, alloc, &mut port, "INSERT INTO t VALUES (1, 10)")?;
+        assert_lines(&rt, &inserted, &wanted, "an insertion");
     }
     Ok(())
 }

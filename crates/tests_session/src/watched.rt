@@ -24,28 +24,17 @@ pub(crate) const MANNER: Manner = Manner {
 /// A port over another one. It has a line for each operation that it was asked.
 #[derive(Drop)]
 pub(crate) struct Watched {
-    port: SoloPort,
+    pub(crate) port: SoloPort,
     /// The operations asked, a line each.
     pub(crate) asked: Vec<String>,
     /// At which of these, counted from 1, memory is wanting.
     pub(crate) lacking: usize,
     /// The key at which a row is answered as Gone.
     pub(crate) hidden: Option<Key>,
-    alloc: Global,
+    pub(crate) alloc: Global,
 }
 
 impl Watched {
-    /// A port over this one that hides nothing.
-    pub(crate) fn new(alloc: Global, port: SoloPort) -> Watched {
-        Watched {
-            port,
-            asked: Vec::new(alloc),
-            lacking: 0,
-            hidden: None,
-            alloc,
-        }
-    }
-
     /// Whether a transaction is open.
     pub(crate) fn in_transaction(&self) -> bool
         ensures { result ≡ solo_open self.now.port }

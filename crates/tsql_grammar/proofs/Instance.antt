@@ -19,7 +19,7 @@ use Rattle.tsql_grammar.specs.declared.rule.Mark.{Mark}
 use Rattle.tsql_grammar.specs.declared.rule.Rule.{Rule}
 use Rattle.tsql_grammar.specs.declared.rule.Rule.TheVariants as r
 use Rattle.tsql_grammar.specs.Kinds.{kinds, kind_place, same_kind}
-use Rattle.tsql_grammar.specs.Words.{kind_of, spellings, system_spellings}
+use Rattle.tsql_grammar.specs.Words.{kind_of, word_kind, system_kind, spellings, system_spellings}
 use Rattle.tsql_grammar.specs.Terminals.{Terminal, kind, admits}
 use Rattle.tsql_grammar.specs.Lookahead.{binding, first}
 use Rattle.tsql_grammar.specs.Noted.{Noted}
@@ -104,6 +104,7 @@ terminal a = record { spanned = record { lexeme = example a; start = 0; end = 0;
 
 -- each kind has a lexeme
 examples_ok : tests.each (λ a. same_kind a (kind (terminal a))) kinds ≡ true
+unfolding word_kind system_kind
 examples_ok = refl
 
 abbrev sample : Class → Terminal
@@ -114,6 +115,7 @@ sample c.PlainName = terminal k.Name
 sample c.Semicolon = terminal (k.Sign s.Semicolon)
 
 sample_admitted : (a : Class) → admits a (kind (sample a)) ≡ true
+unfolding word_kind
 sample_admitted (c.One a) = tests.each_so (λ a. same_kind a (kind (terminal a))) kinds a (known a) examples_ok
 sample_admitted c.Name = refl
 sample_admitted c.OtherName = refl
@@ -122,12 +124,14 @@ sample_admitted c.Semicolon = refl
 
 -- what begins an ELSE is binding
 else_ok : (a : Around) → tests.each (λ a'. implies (not (binding (c.One a'))) (not (first (r.Else a) (kind (terminal a'))))) kinds ≡ true
+unfolding word_kind system_kind
 else_ok a = refl
 
 not_binding : (b : Bool) → b ≡ false → not b ≡ true
 not_binding b e = rw e
 
 sample_no_else : (a : Around) (b : Class) → binding b ≡ false → not (first (r.Else a) (kind (sample b))) ≡ true
+unfolding word_kind
 sample_no_else a (c.One a') e =
     implied _ _ (tests.each_so (λ a'. implies (not (binding (c.One a'))) (not (first (r.Else a) (kind (terminal a'))))) kinds a' (known a') (else_ok a)) (not_binding _ e)
 sample_no_else a c.Name e = refl
@@ -404,6 +408,7 @@ unbound text r.Batch = refl
 unbound text _ = refl
 
 allowed : (text : List ℕ) (a : Rule) (b : Class) → binding b ≡ false → may_take (language text) a (shortest text a) (Some (kind (sample b))) ≡ true
+unfolding word_kind
 allowed text (r.Else a) b e = sample_no_else a b e
 allowed text r.Batch b e = refl
 allowed text _ b e = refl

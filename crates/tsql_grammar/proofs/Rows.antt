@@ -21,6 +21,7 @@ use Rattle.tsql_grammar.specs.declared.rule.Rule.TheVariants as r
 use Rattle.tsql_grammar.specs.Language.{read_rule}
 use Rattle.tsql_grammar.specs.Productions.{Tree}
 use Rattle.tsql_grammar.specs.Terminals.{terminals}
+use Rattle.tsql_grammar.specs.Words.{word_kind}
 use Rattle.grammar_laws.specs.Descent.{read}
 
 -- lexemes that stand in line 1
@@ -43,31 +44,31 @@ one = expr.Number (pos 1)
 sums : IsRead r.Expr (number 1 ∷ sign s.Plus ∷ number 2 ∷ sign s.Star ∷ number 3 ∷ sign s.Minus ∷ number 4 ∷ [])
     (expr.Sum one (roll-Term (record { sign = add.Plus; operand = expr.Product (expr.Number (pos 2)) (roll-Factor (record { sign = multiply.Times; operand = expr.Number (pos 3) }) ∷ []) })
     ∷ roll-Term (record { sign = add.Minus; operand = expr.Number (pos 4) }) ∷ []))
-unfolding read
+unfolding read word_kind
 sums = refl
 
 -- - - 1
 signs : IsRead r.Expr (sign s.Minus ∷ sign s.Minus ∷ number 1 ∷ []) (expr.Signed (add.Minus ∷ add.Minus ∷ []) one)
-unfolding read
+unfolding read word_kind
 signs = refl
 
 -- len ( dbo . len )
 functions : IsRead r.Expr (x.Word (codes "len") ∷ sign s.Open ∷ x.Word (codes "dbo") ∷ sign s.Dot ∷ x.Word (codes "len") ∷ sign s.Close ∷ [])
     (expr.Length (expr.Column (Some (codes "dbo")) (codes "len")))
-unfolding read
+unfolding read word_kind
 functions = refl
 
 -- ( ( 1 ) = 1 ): the outer parentheses enclose a test, the inner ones an expression
 parentheses : IsRead r.Test (sign s.Open ∷ sign s.Open ∷ number 1 ∷ sign s.Close ∷ sign s.Equal ∷ number 1 ∷ sign s.Close ∷ [])
     (test.Parens (test.Compare (expr.Parens one) compare.Equal one))
-unfolding read
+unfolding read word_kind
 parentheses = refl
 
 -- not not 1 = 1 or 1 <> 1 and 1 is not null
 connectives : IsRead r.Test (x.Word (codes "not") ∷ x.Word (codes "NOT") ∷ number 1 ∷ sign s.Equal ∷ number 1 ∷ x.Word (codes "Or") ∷ number 1 ∷ sign s.NotEqual ∷ number 1
     ∷ x.Word (codes "and") ∷ number 1 ∷ x.Word (codes "is") ∷ x.Word (codes "not") ∷ x.Word (codes "null") ∷ [])
     (test.Or (test.Not 2 (test.Compare one compare.Equal one)) (test.And (test.Compare one compare.NotEqual one) (test.IsNull one true ∷ []) ∷ []))
-unfolding read
+unfolding read word_kind
 connectives = refl
 
 -- if 1 = 1 if 1 = 1 break ; else continue: ELSE belongs to the inner IF
@@ -82,5 +83,5 @@ nearest_else : IsRead (r.Statement (record { in_while = true; in_catch = false }
                 (roll-Statement (record { line = 1; form = form.Break })) (Some (roll-Statement (record { line = 1; form = form.Continue })));
           })) None;
     }))
-unfolding read
+unfolding read word_kind
 nearest_else = refl

@@ -6,3 +6,4 @@ pub mod Kinds  -- all kinds, in one order
 pub mod Noted  -- what is judged of a text that reads
 pub mod Lookahead  -- what one lexeme ahead tells of each rule
 pub mod Language  -- all of it, put together
+pub mod Stack

@@ -2,8 +2,8 @@
 -- knows, each by its capitals, and the kind of each lexeme. Words are compared without case, names
 -- with case; a quoted name is never a word. That THROW, UNION, EXCEPT, INTERSECT, RIGHT and FULL are
 -- reserved is own (the forms that the last five begin are left out).
-use Rattle.std.specs.Prelude.{ℕ, ◌-◌, ◌&&◌, Bool, nat_le, nat_eq, List, [], ◌∷◌, ◌++◌, map, codes, if◌then◌else◌}
-use Rattle.std.specs.Cmp.Lexicographic.{pointwise}
+use Rattle.std.specs.Prelude.{ℕ, ◌-◌, ◌&&◌, Bool, nat_le, List, [], ◌∷◌, ◌++◌, map, codes, if◌then◌else◌}
+use Rattle.value_types.specs.Units.{same_units}
 use Rattle.tsql_lexer.specs.declared.lexeme.Lexeme.{Lexeme}
 use Rattle.tsql_lexer.specs.declared.lexeme.Lexeme.TheVariants as x
 use Rattle.tsql_tree.specs.declared.option.FixedOption.TheVariants as o
@@ -186,9 +186,6 @@ system_spellings =
 abbrev pub capital : ℕ → ℕ
 capital unit = if nat_le 97 unit && nat_le unit 122 then unit - 32 else unit
 
-abbrev pub same_units : List ℕ → List ℕ → Bool
-same_units = pointwise nat_eq
-
 -- the kind that a list gives to a word, or the one for all others
 abbrev pub look_up : List (List ℕ × Kind) → List ℕ → Kind → Kind
 look_up [] word other = other
@@ -198,11 +195,18 @@ look_up (row ∷ more) word other = if same_units row.0 word then row.1 else loo
 abbrev pub name_kind : List ℕ → Kind
 name_kind name = if same_units (codes "dbo") name then k.Dbo else k.Name
 
+-- the kind of a word, and of a system name
+unfoldable pub word_kind : List ℕ → Kind
+word_kind u = look_up spellings (map capital u) (name_kind u)
+
+unfoldable pub system_kind : List ℕ → Kind
+system_kind u = look_up system_spellings (map capital u) k.OtherSystem
+
 abbrev pub kind_of : Lexeme → Kind
-kind_of (x.Word u) = look_up spellings (map capital u) (name_kind u)
+kind_of (x.Word u) = word_kind u
 kind_of (x.Quoted u) = name_kind u
 kind_of (x.Variable u) = k.Variable
-kind_of (x.SystemName u) = look_up system_spellings (map capital u) k.OtherSystem
+kind_of (x.SystemName u) = system_kind u
 kind_of (x.Number n) = k.Number
 kind_of (x.Text u) = k.Text
 kind_of (x.Sign a) = k.Sign a

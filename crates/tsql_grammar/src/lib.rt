@@ -4,16 +4,23 @@
 //! tree that it stands for. `specs/Language.antt` says which texts are of a rule, and where a text
 //! stops; `specs/Noted.antt` what is wrong with a text that reads. The layers above rely on the laws,
 //! which are the `law_` functions: no text stands for two trees, what reads can be cut into the
-//! pieces of its productions, and reading by descent gives its tree. That one lexeme ahead tells
-//! which production to take is tried for every rule and every kind of lexeme (`proofs/RuleTests.antt`).
+//! pieces of its productions, and reading by descent gives its tree; and on [`kind_of`], which says
+//! what a lexeme is to the grammar. That one lexeme ahead tells which production to take is tried for
+//! every rule and every kind of lexeme (`proofs/RuleTests.antt`).
 #![tactic(auto)]
 
+mod choice;
+mod first;
 mod kind;
 mod laws;
 mod noted;
+mod place;
 mod rule;
+mod symbol;
+mod words;
 
 pub use kind::{Function, Kind, Reserved, Word};
 pub use laws::{law_descent, law_one_reading, law_pieces};
 pub use noted::TextFault;
 pub use rule::{Around, Class, Mark, Rule};
+pub use words::kind_of;

@@ -22,6 +22,7 @@ use Rattle.tsql_lexer.specs.Parts.{AreBlanks, IsLineComment, IsComment, Is}
 use Rattle.tsql_lexer.specs.Reading.{opening_of, double_sign, single_sign, at_name_piece, number_of, number_by, number_piece, name_by, name_piece, text_by, text_piece, comment_by, comment_piece, token_of, sign_piece, piece_by, piece_of}
 use Rattle.tsql_lexer.proofs.Stops.{run_stops, run_all, run_some, unlike}
 use Rattle.tsql_lexer.proofs.Digits.{fits}
+use Rattle.tsql_lexer.proofs.CommentLaws.{closing_front}
 use Rattle.tsql_lexer.proofs.Sizes.{and_false}
 use Rattle.tsql_lexer.proofs.QuoteLaws.{not_true, enclosed_of}
 
@@ -61,11 +62,11 @@ begins_line_comment units behind comment =
           ∙ ap Gap (run_stops stays_in_line text behind comment.2 comment.3),
     )
 
-begins_comment : (units behind : List ℕ) → IsComment units behind → Begins None units behind
+begins_comment : (units behind : List ℕ) → IsComment units → Begins None units behind
 unfolding piece_by opening_of comment_piece
 begins_comment units behind comment =
     let text : List ℕ = codes "/*" ++ comment.0 in
-    let sized : comment_size (text ++ behind) ≡ Some (length text) = subst (λ (l : List ℕ). comment_size (l ++ behind) ≡ Some (length l)) comment.1 comment.2 in
+    let sized : comment_size (text ++ behind) ≡ Some (length text) = subst (λ (l : List ℕ). comment_size (l ++ behind) ≡ Some (length l)) comment.1 (closing_front units behind 0 (length units) comment.2) in
     subst (λ (l : List ℕ). Begins None l behind) (sym comment.1) (
       omega arith,
       opened (text ++ behind) opens.Comment refl
@@ -175,7 +176,7 @@ begins_system_name units behind name stopped =
 
 -- ---- numbers
 
-digit_bounds : (unit : ℕ) → is_digit unit ≡ true → (0x30 ≤ unit) × (unit ≤ 0x39)
+pub digit_bounds : (unit : ℕ) → is_digit unit ≡ true → (0x30 ≤ unit) × (unit ≤ 0x39)
 digit_bounds unit digit = let parts = and_parts (nat_le 0x30 unit) (nat_le unit 0x39) digit in (leb-true 0x30 unit parts.0, leb-true unit 0x39 parts.1)
 
 digit_starts_no_word : (unit : ℕ) → is_digit unit ≡ true → is_word_start unit ≡ false

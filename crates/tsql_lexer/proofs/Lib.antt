@@ -8,4 +8,7 @@ pub mod Sizes
 pub mod Passing
 pub mod Stops
 pub mod QuoteLaws
+pub mod CommentLaws
 pub mod Begins
+pub mod Found
+pub mod Whole

@@ -19,7 +19,7 @@ use Rattle.tsql_lexer.specs.Reading.{opening_of, double_sign, single_sign, at_na
 use Rattle.tsql_lexer.proofs.Runs.{run_within}
 use Rattle.tsql_lexer.proofs.Openings.{Says, says, stands, two_stand}
 
-abbrev SizeWithin : ℕ → Option ℕ → Type 0
+abbrev pub SizeWithin : ℕ → Option ℕ → Type 0
 SizeWithin most None = Unit {0}
 SizeWithin most (Some size) = (1 ≤ size) × (size ≤ most)
 
@@ -124,7 +124,7 @@ and_false true = refl
 and_false false = refl
 
 -- a sign of two units has a second one
-double_second : (first second : ℕ) → is_some (double_sign first second) ≡ true → 0 < second
+pub double_second : (first second : ℕ) → is_some (double_sign first second) ≡ true → 0 < second
 unfolding double_sign
 double_second first zero is =
     let absent = rw (and_false (eqb first 0x3C), and_false (eqb first 0x21), and_false (eqb first 0x3E)) at is in

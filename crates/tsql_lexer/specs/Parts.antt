@@ -23,8 +23,8 @@ abbrev pub IsLineComment : List ℕ → List ℕ → Type 0
 IsLineComment units behind = (inside : List ℕ) × (units ≡ codes "--" ++ inside) × IsTrue (list_all stays_in_line inside) × IsTrue (stops stays_in_line behind)
 
 -- `/*` and the units up to the `*/` that closes it
-abbrev pub IsComment : List ℕ → List ℕ → Type 0
-IsComment units behind = (inside : List ℕ) × (units ≡ codes "/*" ++ inside) × (comment_size (units ++ behind) ≡ Some (length units))
+abbrev pub IsComment : List ℕ → Type 0
+IsComment units = (inside : List ℕ) × (units ≡ codes "/*" ++ inside) × (comment_size units ≡ Some (length units))
 
 -- ---- the parts of a text
 
@@ -35,7 +35,7 @@ pub record Part : Type 0 where
 
 -- the units are this, where the others stand behind them
 abbrev pub Is : Option Lexeme → List ℕ → List ℕ → Type 0
-Is None units behind = AreBlanks units behind ⊎ (IsLineComment units behind ⊎ IsComment units behind)
+Is None units behind = AreBlanks units behind ⊎ (IsLineComment units behind ⊎ IsComment units)
 Is (Some lexeme) units behind = IsLexeme units behind lexeme
 
 -- the units of parts, one after another

@@ -3,20 +3,26 @@
 ghost use Rattle.std.specs.Prelude.{◌≡◌};
 ghost use Rattle.tsql_lexer.specs.declared.fault.LexFault.TheVariants.{Memory as NoMemory};
 
+use thiserror::Error;
 use value_types::Memory;
 
 /// Which rule no text keeps that goes on as this one does.
-#[derive(Clone, Copy, Debug, PartialEq, Eq)]
+#[derive(Clone, Copy, Debug, PartialEq, Eq, Error)]
 pub enum LexKind {
     /// A text that no quote closes.
+    #[error("a text is not closed")]
     OpenText,
     /// A comment that no `*/` closes.
+    #[error("a comment is not closed")]
     OpenComment,
     /// A quoted name that nothing closes, that is empty, or that ends in a space.
+    #[error("a quoted name is not closed, empty, or ends in a space")]
     OpenName,
     /// A number above 9223372036854775807.
+    #[error("a number is too big")]
     NumberTooBig,
     /// A unit that begins no lexeme and no comment where it stands.
+    #[error("a unit begins nothing")]
     BadUnit,
 }
 
@@ -32,9 +38,10 @@ pub struct Flaw {
 }
 
 /// Why a text has no list of lexemes.
-#[derive(Clone, Copy, Debug, PartialEq, Eq)]
+#[derive(Clone, Copy, Debug, PartialEq, Eq, Error)]
 pub enum LexFault {
     /// The lexical rules fail, at this place first.
+    #[error("{kind}, at unit {at} in line {line}")]
     Bad {
         /// How many units stand before it.
         at: u32,
@@ -44,6 +51,7 @@ pub enum LexFault {
         kind: LexKind,
     },
     /// Memory was wanting.
+    #[error("memory was wanting")]
     Memory,
 }
 

@@ -1,4 +1,4 @@
--- Lists: prefixes, a place that was set, and pasts of which none is of a number.
+-- Lists: fronts, a place that was set, and pasts of which none is of a number.
 use Rattle.std.proofs.Common.{◌≡◌, ℕ, zero, suc, ◌≢◌, List, [], ◌∷◌, ◌++◌, set, sym, refl, ap, ◌∙◌, arith, eq-eqb, ne_eqb, append_assoc}
 use Rattle.std.specs.Prelude.{if◌then◌else◌}
 use Rattle.std.specs.List.{All}

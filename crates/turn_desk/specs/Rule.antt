@@ -17,7 +17,7 @@ IsFree made n = (n ≡ 0) ⊎ (made < n)
 
 module _ {C R E M : Type 0} (story : M → List E) (knows : M → ℕ → List (C × R) → Type 0) (within : List E → ℕ → List (C × R) → Type 0) where
   -- The content agrees with what a number did. The number is one of those made; the content knows
-  -- its steps; its log is a prefix of the story; and its steps are within its log.
+  -- its steps; its log is a front of the story; and its steps are within its log.
   pub record AgreesWith (content : M) (made : ℕ) (p : Past C R E) : Type 0 where
     pub numbered : (0 < p.number) × (p.number ≤ made)
     pub known : knows content p.number p.steps

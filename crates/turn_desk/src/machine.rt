@@ -41,7 +41,7 @@ pub trait Machine: Drop {
         requires allowed { (steps : List (Self.Call × Self.Reply)) × knows self.old number steps × ready number steps call.now }
         ensures moved { moved self.old number call.now result self.new };
 
-    // A step's story has the old one as a prefix.
+    // The story before a step is a front of the one after it.
     ghost story_grows: { (a b : Self) (number : ℕ) (call : Self.Call) (reply : Self.Reply)
         → moved a number call reply b → IsPrefix (story a) (story b) };
 

@@ -20,6 +20,7 @@ pub(super) fn columns_at(alloc: Global, bytes: &[u8]) -> Result<(ColumnList, &[u
     Ok((ColumnList::from(columns), rest))
 }
 
+/// So many columns.
 fn columns_of(
     alloc: Global,
     count: u16,
@@ -37,6 +38,7 @@ fn columns_of(
     Ok((columns, rest))
 }
 
+/// A column: what stands before its type, the type and the name.
 #[tactic(auto, unfolding(crate::specs::Reading::column_at))]
 fn column_at(alloc: Global, bytes: &[u8]) -> Result<(ColumnInfo, &[u8]), ReadFault>
     ensures { Gives (λ x. (x.0, x.1.now)) result (column_at bytes.now) }
@@ -47,6 +49,7 @@ fn column_at(alloc: Global, bytes: &[u8]) -> Result<(ColumnInfo, &[u8]), ReadFau
     Ok((ColumnInfo { kind, name }, rest))
 }
 
+/// A type.
 #[tactic(auto, unfolding(crate::specs::Reading::type_at))]
 fn type_at(bytes: &[u8]) -> Result<(SqlType, &[u8]), ReadFault>
     ensures { Gives (λ x. (x.0, x.1.now)) result (type_at bytes.now) }
@@ -69,6 +72,7 @@ fn type_at(bytes: &[u8]) -> Result<(SqlType, &[u8]), ReadFault>
     text_type_at(bytes)
 }
 
+/// The type of texts, with its size.
 #[tactic(auto, unfolding(crate::specs::Reading::text_type_at))]
 fn text_type_at(bytes: &[u8]) -> Result<(SqlType, &[u8]), ReadFault>
     ensures { Gives (λ x. (x.0, x.1.now)) result (text_type_at bytes.now) }

@@ -35,6 +35,7 @@ pub(super) fn tag_at(bytes: &[u8]) -> Result<(Tag, &[u8]), ReadFault>
     }
 }
 
+/// The tag that the byte is.
 fn tag_of(byte: u8) -> Option<Tag>
     ensures { result ≡ look_up byte tags }
 {

@@ -28,6 +28,7 @@ pub(super) fn row_at<'a>(
     Ok((Row::from(values), rest))
 }
 
+/// A value of the type, which may be NULL.
 #[tactic(auto, unfolding(crate::specs::Reading::value_at))]
 fn value_at(alloc: Global, kind: SqlType, bytes: &[u8]) -> Result<(Value, &[u8]), ReadFault>
     ensures { Gives (λ x. (x.0, x.1.now)) result (value_at kind bytes.now) }
@@ -71,6 +72,7 @@ fn filled_at(alloc: Global, kind: SqlType, bytes: &[u8]) -> Result<(Value, &[u8]
     }
 }
 
+/// A bit.
 #[tactic(auto, unfolding(crate::specs::Reading::bit_at))]
 fn bit_at(bytes: &[u8]) -> Result<(bool, &[u8]), ReadFault>
     ensures { Gives (λ x. (x.0, x.1.now)) result (bit_at bytes.now) }

@@ -1,6 +1,6 @@
 use Rattle.std.proofs.Common.{◌≡◌, [], inl, inr, length, ap, arith}
 use Rattle.tds_tokens.specs.Spelling.{row_bytes}
-use Rattle.tds_tokens.proofs.Rows.{row_bytes-no_columns, row_bytes-no_values}
+use Rattle.tds_tokens.proofs.RowEnds.{row_bytes-no_columns, row_bytes-no_values}
 use Rattle.tds_tokens.proofs.sizes.row_size.Goals as goal
 
 pub returns : goal.returns

@@ -1,7 +1,7 @@
 use Rattle.std.proofs.Common.{◌≡◌, ◌++◌, [], inl, inr, length, sym, ap, ◌∙◌, arith}
 use Rattle.std.proofs.lemmas.List.{append-nil}
 use Rattle.tds_tokens.specs.Spelling.{row_bytes}
-use Rattle.tds_tokens.proofs.Rows.{row_bytes-no_columns, row_bytes-no_values}
+use Rattle.tds_tokens.proofs.RowEnds.{row_bytes-no_columns, row_bytes-no_values}
 use Rattle.tds_tokens.proofs.values.put_values.Goals as goal
 use Rattle.tds_tokens.proofs.values.put_values.Goals.{In-None}
 

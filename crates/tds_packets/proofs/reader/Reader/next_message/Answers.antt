@@ -3,7 +3,7 @@ use Rattle.std.proofs.lemmas.Result.{err_from_is_err_and}
 use Rattle.outside_io.specs.Bytes.{Takes}
 use Rattle.tds_packets.specs.Stream.{bytes_of}
 use Rattle.tds_packets.proofs.Taken.{Takes-nil, took_both}
-use Rattle.tds_packets.proofs.Draft.{IsDraft, no_packet, more_room, one_more, message_ends, bytes_of-more, draft_stops}
+use Rattle.tds_packets.proofs.MessageDraft.{IsDraft, no_packet, more_room, one_more, message_ends, bytes_of-more, draft_stops}
 use Rattle.tds_packets.proofs.reader.Reader.next_message.Goals as goal
 
 pub packets-init : goal.packets-init

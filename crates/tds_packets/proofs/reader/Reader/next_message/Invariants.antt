@@ -2,7 +2,7 @@ use Rattle.std.proofs.Common.{◌≡◌, ◌+◌, ◌-◌, ◌≤◌, ℕ, List,
 use Rattle.outside_io.specs.Bytes.{Takes}
 use Rattle.tds_packets.specs.Stream.{bytes_of, payload_limit}
 use Rattle.tds_packets.specs.Reading.{byte_limit}
-use Rattle.tds_packets.proofs.Draft.{IsDraft}
+use Rattle.tds_packets.proofs.MessageDraft.{IsDraft}
 use Rattle.tds_packets.proofs.reader.Reader.next_message.Given as goal
 
 -- the packets so far end no message, and were taken from its beginning on

@@ -1,0 +1,109 @@
+//! A port whose tables have as many keys as it is told, without keeping one.
+
+ghost use Rattle.std.specs.Prelude.{◌≡◌, true, None, IsTrue};
+ghost use Rattle.lock_modes.specs.declared.KeyPart.{KeyPart};
+ghost use Rattle.step_model.specs.Exchange.{CanReply};
+ghost use Rattle.step_model.specs.Database.{is_within};
+ghost use Rattle.step_model.specs.declared.op.Hold.{Hold};
+ghost use Rattle.value_types.specs.declared.table_name.TableName.{TableName as Name};
+ghost use Rattle.engine_core.specs.Solo.{solo_open, solo_marks};
+
+use engine_core::SoloPort;
+use std::alloc::Global;
+use std::cmp::Ordering;
+use step_model::{Manner, Op, Port, Reply, Start, Stop};
+use value_types::{Key, Memory, Row, TableName, Value, prefix_order};
+
+/// A port over another one, but for fetches of the table `t`, which has the keys from 1 to a last one.
+#[derive(Drop)]
+pub(crate) struct Counting {
+    pub(crate) port: SoloPort,
+    /// The last key.
+    pub(crate) last: i64,
+    /// Whether there are rows at the keys, of which each has its key as its value.
+    pub(crate) has_rows: bool,
+    pub(crate) alloc: Global,
+}
+
+impl Counting {
+    /// What is at the first key of a range.
+    fn first(&self, start: &Start, stop: &Stop) -> Reply
+        ensures { (table : Name) (hold : Hold) (part : KeyPart) → CanReply (Op.Fetch table start.now stop.now hold part) result }
+    {
+        let number = next_number(start);
+        if number > self.last {
+            return Reply::End { at: 0 };
+        }
+        let Ok(key) = key_of(self.alloc, number) else {
+            return Reply::Memory;
+        };
+        if !is_within(start, stop, &key) {
+            return Reply::End { at: 0 };
+        }
+        if !self.has_rows {
+            return Reply::Gone { key, at: 0 };
+        }
+        match row_of(self.alloc, number) {
+            Ok(row) => Reply::Row { key, row, at: 0 },
+            Err(_) => Reply::Memory,
+        }
+    }
+}
+
+impl Port for Counting {
+    ghost past = { λ _. record { told = None; led_by = λ _. Unit {0} } };
+
+    ghost session = { λ counting. counting.port.session };
+
+    ghost in_transaction = { λ counting. solo_open counting.port };
+
+    ghost marks = { λ counting. solo_marks counting.port };
+
+    fn ask(&mut self, op: &Op, manner: Manner) -> Reply {
+        match op {
+            Op::Fetch {
+                table,
+                start,
+                stop,
+                ..
+            } if is_counted(table) => self.first(start, stop),
+            _ => self.port.ask(op, manner),
+        }
+    }
+}
+
+/// Whether it is the table `t`.
+fn is_counted(table: &TableName) -> bool {
+    table.object.as_slice() == [0x74].as_slice()
+}
+
+/// The number behind that where a range starts.
+fn next_number(start: &Start) -> i64 {
+    match start {
+        Start::First => 1,
+        Start::At(key) | Start::Past(key) => match key.as_slice() {
+            [Value::Whole(number)] => number.saturating_add(1),
+            _ => 1,
+        },
+    }
+}
+
+/// Whether the key is one of a range from the first key, or from behind another, on.
+fn is_within(start: &Start, stop: &Stop, key: &Key) -> bool
+    ensures { result ≡ true → IsTrue (is_within start.now stop.now key.now) }
+{
+    let starts = match start {
+        Start::First => true,
+        Start::Past(before) => prefix_order(key, before) == Ordering::Greater,
+        Start::At(_) => false,
+    };
+    starts && matches!(stop, Stop::Last)
+}
+
+fn key_of(alloc: Global, number: i64) -> Result<Key, Memory> {
+    Ok(Key::new(vec![in alloc; Value::Whole(number)]?))
+}
+
+fn row_of(alloc: Global, number: i64) -> Result<Row, Memory> {
+    Ok(Row::from(vec![in alloc; Value::Whole(number), Value::Whole(number)]?))
+}
