@@ -9,6 +9,7 @@ docs/ROWS.md has the form of the files. What only the inside of the server sees 
 sessions than the first, and the settings `again`, `messages` and `tokens`.
 """
 import argparse
+import os
 import re
 import socket
 import struct
@@ -397,6 +398,8 @@ def main():
     words.add_argument("--batch", action="append", default=[], metavar="TEXT", help="prints the reply to it")
     words.add_argument("files", nargs="*", metavar="FILE")
     said = words.parse_args()
+    if not said.port and not os.path.exists(said.bin):
+        sys.exit(f"{said.bin} is not there: ./tsqld builds it")
     if said.batch:
         written, _status = run(said, {}, b"".join(batch(text) for text in said.batch))
         for _whole, payload in replies_of(written):

@@ -11,8 +11,6 @@ mod entries;
 mod entry;
 mod prefix;
 mod solo;
-#[cfg(test)]
-mod tests;
 mod transaction;
 
 pub use engine::Engine;

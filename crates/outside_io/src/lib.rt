@@ -1,9 +1,10 @@
 //! What the server reads from and writes to: sources and sinks of bytes, each with a count of its
 //! faults, so that a contract can say which bytes went through and whose fault an end was.
 //!
-//! Read `specs/Bytes.antt` first. The layers above rely on the clauses of [`Source::read`] and
-//! [`Sink::write`] alone: which bytes a call moved where they are told, and that a failure comes
-//! only with a risen count.
+//! `specs/Lib.antt` says in which order to read. The layers above rely on the clauses of
+//! [`Source::read`] and [`Sink::write`] alone: which bytes a call moved where they are told, and that a
+//! failure comes only with a risen count. What a std reader or writer gives no clause can name: that
+//! [`ReadSource`] and [`WriteSink`] try nothing twice and flush is shown by tests.
 #![tactic(auto)]
 
 mod adapters;

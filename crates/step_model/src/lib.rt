@@ -13,8 +13,6 @@ mod op;
 mod port;
 mod range;
 mod reply;
-#[cfg(test)]
-mod tests;
 
 pub use change::Change;
 pub use manner::{LAST_SESSION, Manner, Patience};

@@ -1,7 +1,7 @@
 //! The messages of a login, PRELOGIN and LOGIN7 of [MS-TDS], and what is answered to them.
 //!
-//! Read `specs/Login.antt` first, what a payload says as a LOGIN7 or why it is refused, then
-//! `specs/Prelogin.antt` and `specs/Verdict.antt`. The layers above rely on each function giving
+//! `specs/Lib.antt` says in which order to read: what a payload says as a LOGIN7 or why it is refused,
+//! then the same of a PRELOGIN, and who may log in. The layers above rely on each function giving
 //! exactly what those definitions give. [`read_prelogin`] and [`judge_login`] take no memory; for
 //! [`read_login`] memory is wanting only where the payload is not refused. Bytes behind the Length
 //! field of a login of at least 94 bytes change nothing ([`law_login_length`]).

@@ -34,6 +34,14 @@ impl Model for Reader {
     ghost invariant = { λ reader. reader.taken ≤ byte_limit };
 }
 
+impl Default for Reader {
+    ghost is_default = { λ reader. reader ≡ 0 };
+
+    fn default() -> Reader {
+        Reader::new()
+    }
+}
+
 impl Reader {
     /// A reader at the beginning of a stream.
     pub fn new() -> Reader

@@ -40,6 +40,12 @@ done_tag Done = 0xFD
 done_tag Proc = 0xFE
 done_tag InProc = 0xFF
 
+-- ---- ERROR and INFO
+
+-- the most units of a message that are sent (own)
+abbrev pub text_limit : ℕ
+text_limit = 2000
+
 -- ---- Status of a DONE (2.2.7.6): a sum of those bits that hold
 
 -- DONE_FINAL: no bit, the last DONE of a request

@@ -34,7 +34,6 @@ Gives view (Ok x) read = read ≡ Some (view x)
 Gives view (Err fault) read = Fails fault read
 
 infixl 10 ◌>>=◌
-
 -- the first, and then what the second makes of it
 abbrev pub ◌>>=◌ : {A B : Type 0} → Option A → (A → Option B) → Option B
 x >>= f = option_and_then f x

@@ -1,16 +1,21 @@
 //! The tokens in which a server answers, and their bytes, written and read.
 //!
-//! Read `specs/Spelling.antt` first, the bytes that [MS-TDS] gives each token; `specs/Fit.antt` and
-//! `specs/Ranges.antt` say which tokens there are. The layers above rely on two functions:
-//! [`write_tokens`] appends exactly those bytes, and [`read_tokens`] gives the one list of tokens
-//! that has the bytes, or the first place where no token stands. So that a client finds where a
+//! `specs/Lib.antt` says in which order to read: the bytes that [MS-TDS] gives each token, then which
+//! tokens there are. A caller writes only tokens that have a spelling. The layers above rely on two
+//! functions: [`write_tokens`] appends exactly those bytes, and [`read_tokens`] gives the one list of
+//! tokens that has the bytes, or the first place where no token stands. So that a client finds where a
 //! token ends, no token's bytes begin another's ([`law_tokens`]).
 //!
 //! ```text
 //! let text = Units::of_ascii(alloc, b"Divide by zero error encountered.")?;
 //! let reply = vec![in alloc;
 //!     Token::Error(Notice::new(8134, 1, 16, text, Units::new(alloc), 1)),
-//!     Token::Finished { kind: DoneKind::Done, status: DONE_ERROR, command: COMMAND_SELECT, rows: 0 },
+//!     Token::Finished {
+//!         kind: DoneKind::Done,
+//!         status: DONE_ERROR,
+//!         command: COMMAND_SELECT,
+//!         rows: 0,
+//!     },
 //! ]?;
 //! let mut out = Vec::new(alloc);
 //! write_tokens(&reply, &mut out)?;

@@ -1,6 +1,7 @@
 //! What an ERROR or INFO token says.
 
 ghost use Rattle.std.specs.Prelude.{◌≡◌, take};
+ghost use Rattle.tds_tokens.specs.Numbers.{text_limit};
 
 use value_types::Units;
 
@@ -34,7 +35,7 @@ impl Notice {
         procedure: Units,
         line: i32,
     ) -> Notice
-        ensures text { result.text ≡ take 2000 text }
+        ensures text { result.text ≡ take text_limit text }
         ensures procedure { result.procedure ≡ procedure }
         ensures number { result.number ≡ number }
         ensures state { result.state ≡ state }

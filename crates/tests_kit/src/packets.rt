@@ -13,7 +13,7 @@ const END_OF_MESSAGE: u8 = 0x01;
 const SQL_BATCH: u8 = 0x01;
 
 /// ALL_HEADERS with a transaction descriptor ([MS-TDS] 2.2.5.3): 22 bytes.
-pub const ALL_HEADERS: [u8; 22] = [
+const ALL_HEADERS: [u8; 22] = [
     0x16, 0x00, 0x00, 0x00, 0x12, 0x00, 0x00, 0x00, 0x02, 0x00, 0x00, 0x00, 0x00, 0x00, 0x00, 0x00,
     0x00, 0x00, 0x01, 0x00, 0x00, 0x00,
 ];
@@ -40,7 +40,7 @@ pub fn batch(alloc: Global, text: &str) -> Result<Vec<u8>, AllocError> {
 }
 
 /// Appends a text in UTF-16LE.
-pub fn put_units(bytes: &mut Vec<u8>, text: &str) -> Result<(), AllocError> {
+fn put_units(bytes: &mut Vec<u8>, text: &str) -> Result<(), AllocError> {
     for unit in text.encode_utf16() {
         bytes.extend_from_slice(&unit.to_le_bytes())?;
     }

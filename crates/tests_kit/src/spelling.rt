@@ -16,17 +16,8 @@ pub fn lines_of(alloc: Global, tokens: &[Token]) -> Result<Vec<String>, AllocErr
     Ok(lines)
 }
 
-/// Appends the tokens, a line each with a line feed behind it.
-pub fn put_lines(text: &mut String, tokens: &[Token]) -> Result<(), AllocError> {
-    for token in tokens {
-        put_token(text, token)?;
-        text.push('\n')?;
-    }
-    Ok(())
-}
-
 /// Appends the line of a token.
-pub fn put_token(line: &mut String, token: &Token) -> Result<(), AllocError> {
+fn put_token(line: &mut String, token: &Token) -> Result<(), AllocError> {
     match token {
         Token::LoginAck {
             version,
@@ -171,7 +162,7 @@ fn put_values(line: &mut String, values: &[Value]) -> Result<(), AllocError> {
 }
 
 /// Appends a value.
-pub fn put_value(line: &mut String, value: &Value) -> Result<(), AllocError> {
+fn put_value(line: &mut String, value: &Value) -> Result<(), AllocError> {
     match value {
         Value::Null => line.push_str("NULL"),
         Value::Whole(number) => write!(line, "{number}"),
@@ -181,7 +172,7 @@ pub fn put_value(line: &mut String, value: &Value) -> Result<(), AllocError> {
 }
 
 /// Appends a text in single quotes. A quote within it stands twice.
-pub fn put_quoted(line: &mut String, text: &Units) -> Result<(), AllocError> {
+fn put_quoted(line: &mut String, text: &Units) -> Result<(), AllocError> {
     line.push('\'')?;
     for unit in text.as_slice() {
         if *unit == 0x27 {
@@ -193,7 +184,7 @@ pub fn put_quoted(line: &mut String, text: &Units) -> Result<(), AllocError> {
 }
 
 /// Appends a text.
-pub fn put_text(line: &mut String, text: &Units) -> Result<(), AllocError> {
+fn put_text(line: &mut String, text: &Units) -> Result<(), AllocError> {
     for unit in text.as_slice() {
         put_unit(line, *unit)?;
     }

@@ -91,6 +91,11 @@ pub(crate) struct Step<'a> {
 }
 
 impl Step<'_> {
+    /// Whether it is a batch by its text, which has one reply whatever is wanted for it.
+    pub(crate) fn is_batch(&self) -> bool {
+        matches!(self.input, Input::Text(_))
+    }
+
     /// The bytes that are sent.
     pub(crate) fn bytes(&self, alloc: Global) -> Result<Vec<u8>, RowFault> {
         match &self.input {

@@ -122,7 +122,7 @@ impl Differences {
         for step in steps {
             last = step.line;
             self.compare_fault(step)?;
-            if !step.wanted.iter().any(is_of_reply) {
+            if !step.is_batch() && !step.wanted.iter().any(is_of_reply) {
                 continue;
             }
             match given.next() {
@@ -343,7 +343,10 @@ fn hold(
         Manner::Messages => read(alloc, differences, &conversation.settings, steps, bytes)?,
         Manner::Tokens => return spell(alloc, differences, steps),
     };
-    differences.compare(conversation.end_line, front.end, &given)
+    let end = front.end;
+    let wanted = format!(in alloc; "END {end}")?;
+    let given = format!(in alloc; "END {given}")?;
+    differences.compare(conversation.end_line, &wanted, &given)
 }
 
 /// Serves a connection, and says how it ends.

@@ -54,9 +54,14 @@ fn try_files(rt: &(impl Env + Files + Print + AllocGlobal)) -> io::Result<u8> {
 
 /// Tries a file, prints what came of it, and gives its status.
 fn try_file(rt: &(impl Files + Print + AllocGlobal), name: &str) -> io::Result<u8> {
-    let text = fs::read_to_string(rt, name)?;
-    let alloc = rt.alloc();
-    match agreement_of(alloc, &text) {
+    let text = match fs::read_to_string(rt, name) {
+        Ok(text) => text,
+        Err(error) => {
+            println!(rt; "{name}: {error}")?;
+            return Ok(UNREAD);
+        }
+    };
+    match agreement_of(rt.alloc(), &text) {
         Ok(Agreement { rows, differences }) if differences.is_empty() => {
             println!(rt; "{name}: {rows} rows agree")?;
             Ok(0)

@@ -1,186 +1,96 @@
 //! Texts of 1 MiB, 524,288 units, that would take long or nest deep if they were read badly.
 
-use crate::seen::{put, read};
-use std::alloc::Global;
+use crate::described::read;
+use std::alloc::{AllocError, Global};
+use std::process::Abort;
 use std::test::*;
-use tsql_lexer::{LexKind, Lexeme, Sign};
-use value_types::{Memory, Units};
+use value_types::Units;
 
 /// How many units 1 MiB has.
 const UNITS: usize = 524_288;
 
-/// What a hostile text is expected to be read as.
-struct Hostile {
-    /// What stands in front.
-    front: &'static [u8],
-    /// What is repeated up to 524,288 units.
-    part: &'static [u8],
-    /// What stands behind.
-    back: &'static [u8],
-    /// How many lexemes there are.
-    count: usize,
-    /// The place and the line of the last.
-    last: Option<(u32, u32, u32)>,
-    /// The place, the line and the kind of the flaw.
-    flaw: Option<(u32, u32, LexKind)>,
+fn put(units: &mut Vec<u16>, text: &str) -> Result<(), AllocError> {
+    for byte in text.as_bytes() {
+        units.push(u16::from(*byte))?;
+    }
+    Ok(())
 }
 
-static TEXTS: [Hostile; 14] = [
-    Hostile {
-        front: b"",
-        part: b"(",
-        back: b"",
-        count: 524_288,
-        last: Some((524_287, 524_288, 1)),
-        flaw: None,
-    },
-    Hostile {
-        front: b"",
-        part: b"- ",
-        back: b"",
-        count: 262_144,
-        last: Some((524_286, 524_287, 1)),
-        flaw: None,
-    },
-    Hostile {
-        front: b"",
-        part: b"NOT ",
-        back: b"",
-        count: 131_072,
-        last: Some((524_284, 524_287, 1)),
-        flaw: None,
-    },
-    Hostile {
-        front: b"",
-        part: b"1+",
-        back: b"1",
-        count: 524_289,
-        last: Some((524_288, 524_289, 1)),
-        flaw: None,
-    },
-    Hostile {
-        front: b"",
-        part: b"\n",
-        back: b"a",
-        count: 1,
-        last: Some((524_288, 524_289, 524_289)),
-        flaw: None,
-    },
-    Hostile {
-        front: b"",
-        part: b"/*",
-        back: b"",
-        count: 0,
-        last: None,
-        flaw: Some((0, 1, LexKind::OpenComment)),
-    },
-    Hostile {
-        front: b"a ",
-        part: b"/*",
-        back: b"*/",
-        count: 1,
-        last: Some((0, 1, 1)),
-        flaw: Some((2, 1, LexKind::OpenComment)),
-    },
-    Hostile {
-        front: b"",
-        part: b"/**/",
-        back: b"a",
-        count: 1,
-        last: Some((524_288, 524_289, 1)),
-        flaw: None,
-    },
-    Hostile {
-        front: b"[",
-        part: b"]]",
-        back: b"]",
-        count: 1,
-        last: Some((0, 524_290, 1)),
-        flaw: None,
-    },
-    Hostile {
-        front: b"'",
-        part: b"a",
-        back: b"",
-        count: 0,
-        last: None,
-        flaw: Some((0, 1, LexKind::OpenText)),
-    },
-    Hostile {
-        front: b"",
-        part: b"''",
-        back: b"",
-        count: 1,
-        last: Some((0, 524_288, 1)),
-        flaw: None,
-    },
-    Hostile {
-        front: b"",
-        part: b"0",
-        back: b"7",
-        count: 1,
-        last: Some((0, 524_289, 1)),
-        flaw: None,
-    },
-    Hostile {
-        front: b"",
-        part: b"9",
-        back: b"",
-        count: 0,
-        last: None,
-        flaw: Some((0, 1, LexKind::NumberTooBig)),
-    },
-    Hostile {
-        front: b"",
-        part: b"@",
-        back: b"",
-        count: 1,
-        last: Some((0, 524_288, 1)),
-        flaw: None,
-    },
-];
-
-fn text_of(alloc: Global, hostile: &Hostile) -> Result<Units, Memory> {
-    let mut units = Vec::new(alloc);
-    put(&mut units, hostile.front)?;
-    for _ in 0..UNITS / hostile.part.len().max(1) {
-        put(&mut units, hostile.part)?;
+/// The part again and again, up to so many units.
+fn put_many(units: &mut Vec<u16>, part: &str, most: usize) -> Result<(), AllocError> {
+    for _ in 0..most / part.len().max(1) {
+        put(units, part)?;
     }
-    put(&mut units, hostile.back)?;
-    Ok(Units::from(units))
+    Ok(())
+}
+
+/// How many lexemes there are, where the last one stands, and the flaw.
+fn summary(rt: &impl Abort, alloc: Global, units: Vec<u16>) -> Result<String, Fail> {
+    let lexing = read(rt, alloc, &Units::from(units))?;
+    let mut line = format!(in alloc; "{}", lexing.lexemes.len())?;
+    if let Some(last) = lexing.lexemes.last() {
+        line.push_str(format!(in alloc; " {}-{}:{}", last.start, last.end, last.line)?.as_str())?;
+    }
+    if let Some(flaw) = lexing.flaw {
+        line.push_str(format!(in alloc; " {}:{} {:?}", flaw.at, flaw.line, flaw.kind)?.as_str())?;
+    }
+    Ok(line)
+}
+
+/// Asserts what is read of a text with a part of it again and again up to 1 MiB.
+fn assert_summary(
+    rt: &impl Abort,
+    alloc: Global,
+    front: &str,
+    part: &str,
+    back: &str,
+    expected: &str,
+) -> Result<(), Fail> {
+    let mut units = Vec::new(alloc);
+    put(&mut units, front)?;
+    put_many(&mut units, part, UNITS)?;
+    put(&mut units, back)?;
+    assert_eq!(rt; summary(rt, alloc, units)?.as_str(), expected);
+    Ok(())
 }
 
 #[test]
 fn hostile_texts_are_read_to_their_end(rt: HostRuntime) -> Result<(), Fail> {
-    for hostile in &TEXTS {
-        let text = text_of(rt.alloc(), hostile)?;
-        let lexing = read(&rt, rt.alloc(), &text)?;
-        assert_eq!(rt; lexing.lexemes.len(), hostile.count, "{:?}", hostile.part);
-        let last = lexing
-            .lexemes
-            .last()
-            .map(|last| (last.start, last.end, last.line));
-        assert_eq!(rt; last, hostile.last, "{:?}", hostile.part);
-        let flaw = lexing.flaw.map(|flaw| (flaw.at, flaw.line, flaw.kind));
-        assert_eq!(rt; flaw, hostile.flaw, "{:?}", hostile.part);
-    }
+    let alloc = rt.alloc();
+    assert_summary(&rt, alloc, "", "(", "", "524288 524287-524288:1")?;
+    assert_summary(&rt, alloc, "", "- ", "", "262144 524286-524287:1")?;
+    assert_summary(&rt, alloc, "", "NOT ", "", "131072 524284-524287:1")?;
+    assert_summary(&rt, alloc, "", "1+", "1", "524289 524288-524289:1")?;
+    assert_summary(&rt, alloc, "", "\n", "a", "1 524288-524289:524289")?;
+    assert_summary(&rt, alloc, "", "/**/", "a", "1 524288-524289:1")?;
+    assert_summary(&rt, alloc, "[", "]]", "]", "1 0-524290:1")?;
+    assert_summary(&rt, alloc, "", "''", "", "1 0-524288:1")?;
+    assert_summary(&rt, alloc, "", "0", "7", "1 0-524289:1")?;
+    assert_summary(&rt, alloc, "", "@", "", "1 0-524288:1")?;
+    Ok(())
+}
+
+#[test]
+fn hostile_texts_fail_at_their_place(rt: HostRuntime) -> Result<(), Fail> {
+    let alloc = rt.alloc();
+    assert_summary(&rt, alloc, "", "/*", "", "0 0:1 OpenComment")?;
+    assert_summary(&rt, alloc, "a ", "/*", "*/", "1 0-1:1 2:1 OpenComment")?;
+    assert_summary(&rt, alloc, "'", "a", "", "0 0:1 OpenText")?;
+    assert_summary(&rt, alloc, "[", "a", "", "0 0:1 OpenName")?;
+    assert_summary(&rt, alloc, "", "9", "", "0 0:1 NumberTooBig")?;
+    assert_summary(&rt, alloc, "", "\n", "#", "0 524288:524289 BadUnit")?;
     Ok(())
 }
 
 #[test]
 fn comments_nest_as_deep_as_the_text_goes(rt: HostRuntime) -> Result<(), Fail> {
     let mut units = Vec::new(rt.alloc());
-    for _ in 0..UNITS / 4 {
-        put(&mut units, b"/*")?;
-    }
-    for _ in 0..UNITS / 4 {
-        put(&mut units, b"*/")?;
-    }
-    put(&mut units, b"%")?;
-    let lexing = read(&rt, rt.alloc(), &Units::from(units))?;
-    assert_eq!(rt; lexing.lexemes.len(), 1);
-    let is_percent = matches!(lexing.lexemes[0].lexeme, Lexeme::Sign(Sign::Percent));
-    assert!(rt; is_percent);
-    assert!(rt; lexing.flaw.is_none());
+    put_many(&mut units, "/*", UNITS / 2)?;
+    put_many(&mut units, "*/", UNITS / 2)?;
+    put(&mut units, "%")?;
+    assert_eq!(rt;
+        summary(&rt, rt.alloc(), units)?.as_str(),
+        "1 524288-524289:1"
+    );
     Ok(())
 }

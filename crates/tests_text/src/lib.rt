@@ -2,9 +2,9 @@
 #![tactic(auto)]
 
 #[cfg(test)]
-mod hostile;
+mod described;
 #[cfg(test)]
-mod seen;
+mod hostile;
 #[cfg(test)]
 mod table;
 

@@ -58,6 +58,148 @@ fn a_writer_is_a_sink(rt: HostRuntime) {
     );
 }
 
+/// A reader whose call of this number fails, counted from 1, and which gives a byte at each other one.
+#[derive(Drop)]
+struct FailsOnce {
+    call: u32,
+    fails: u32,
+}
+
+impl Read for FailsOnce {
+    fn read(&mut self, into: &mut [u8]) -> io::Result<usize> {
+        self.call = self.call.saturating_add(1);
+        if self.call == self.fails {
+            return Err(io::Error::from(ErrorKind::Interrupted));
+        }
+        match into.first_mut() {
+            Some(first) => {
+                *first = 7;
+                Ok(1)
+            }
+            None => Ok(0),
+        }
+    }
+}
+
+/// Even where the reader says that it was only interrupted: no call is made twice for one read.
+#[test]
+fn a_reader_may_fail_once_and_go_on(rt: HostRuntime) {
+    let mut source = ReadSource::new(FailsOnce { call: 0, fails: 2 });
+    let mut into = [0; 4];
+    assert!(rt; matches!(source.read(&mut into), Ok(1)));
+    assert!(rt; source.read(&mut into).is_err());
+    assert!(rt; matches!(source.read(&mut into), Ok(1)));
+    assert!(rt; matches!(source.read(&mut []), Ok(0)));
+    assert_eq!(rt; into, [7, 0, 0, 0]);
+}
+
+/// What one call of a writer answers.
+#[derive(Clone, Copy)]
+enum Answer {
+    /// It takes at most so many bytes.
+    Takes(usize),
+    /// It fails.
+    Fails,
+    /// It takes at most so many bytes, and then can't be flushed.
+    StaysFull(usize),
+}
+
+/// A writer that answers by a table, and behind it takes all.
+#[derive(Drop)]
+struct Scripted {
+    answers: &'static [Answer],
+    taken: Vec<u8>,
+    is_full: bool,
+}
+
+impl Write for Scripted {
+    fn write(&mut self, from: &[u8]) -> io::Result<usize> {
+        let mut answer = Answer::Takes(usize::MAX);
+        if let Some((first, behind)) = self.answers.split_first() {
+            answer = *first;
+            self.answers = behind;
+        }
+        let count = match answer {
+            Answer::Takes(count) => count,
+            Answer::Fails => return Err(io::Error::from(ErrorKind::Interrupted)),
+            Answer::StaysFull(count) => {
+                self.is_full = true;
+                count
+            }
+        };
+        let front = from.get(..count).unwrap_or(from);
+        self.taken.extend_from_slice(front)?;
+        Ok(front.len())
+    }
+
+    fn flush(&mut self) -> io::Result<()> {
+        if self.is_full {
+            self.is_full = false;
+            return Err(io::Error::from(ErrorKind::BrokenPipe));
+        }
+        Ok(())
+    }
+}
+
+/// Writes of three bytes, of which each answers as the writer's call and flush do.
+#[test]
+fn a_writer_may_fail_once_and_go_on(rt: HostRuntime) {
+    let answers = &[
+        Answer::Takes(3),
+        Answer::Fails,
+        Answer::Takes(2),
+        Answer::StaysFull(3),
+        Answer::Takes(0),
+        Answer::Takes(1),
+        Answer::StaysFull(0),
+    ];
+    let mut sink = WriteSink::new(Scripted {
+        answers,
+        taken: Vec::new(rt.alloc()),
+        is_full: false,
+    });
+    for wanted in [Some(3), None, Some(2), None, None, Some(1), None, Some(3)] {
+        assert_eq!(rt; sink.write(&[1, 2, 3]).ok(), wanted);
+    }
+}
+
+/// A message goes out by a writer that takes a byte at a time, or now two and now all; where a flush fails the
+/// message ends there, though the writer would go on.
+#[test]
+fn a_message_is_sent_to_a_writer_that_takes_part(rt: HostRuntime) -> Result<(), Fail> {
+    let alloc = rt.alloc();
+    let table: [(&'static [Answer], Result<(), SendFault>, usize); 5] = [
+        (&[Answer::Takes(1); 10], Ok(()), 10),
+        (&[Answer::Takes(2), Answer::Takes(1)], Ok(()), 10),
+        (
+            &[Answer::Takes(4), Answer::Fails],
+            Err(SendFault::WriteFault),
+            4,
+        ),
+        (
+            &[Answer::Takes(4), Answer::Takes(0)],
+            Err(SendFault::WriteFault),
+            4,
+        ),
+        (&[Answer::StaysFull(10)], Err(SendFault::WriteFault), 10),
+    ];
+    for (answers, wanted, count) in table {
+        let mut writer = Scripted {
+            answers,
+            taken: Vec::new(alloc),
+            is_full: false,
+        };
+        let mut sink = WriteSink::new(&mut writer);
+        assert_eq!(rt;
+            send_message(alloc, &mut sink, TABULAR_RESULT, 51, 4096, b"ab"),
+            wanted
+        );
+        let whole = [0x04, 0x01, 0x00, 0x0A, 0x00, 0x33, 0x01, 0x00, 0x61, 0x62];
+        assert_eq!(rt; Some(writer.taken.as_slice()), whole.get(..count));
+    }
+    Ok(())
+}
+
 /// A message of two packets, and one of one: 11 and 10, and 9 bytes.
 static STREAM: [Part; 3] = [
     Packet(0x10, 0x00, b"abc"),

@@ -1,5 +1,5 @@
-//! Tests of the crates below the server: worked streams of packets, the same messages however the
-//! bytes come, what is sent and how it is read again, texts, and sources and sinks that fail.
+//! Tests of the crates below the server, of what no row of `tests_rows` can say: the same messages however
+//! the bytes come, what is sent and how it is read again, texts, and sources and sinks that fail.
 #![tactic(auto)]
 
 #[cfg(test)]
@@ -10,8 +10,6 @@ mod parts;
 mod pieces;
 #[cfg(test)]
 mod sending;
-#[cfg(test)]
-mod streams;
 #[cfg(test)]
 mod texts;
 

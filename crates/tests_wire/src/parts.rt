@@ -14,39 +14,16 @@ pub(crate) enum Part {
     Header(u8, u8, u16),
     /// These bytes.
     Bytes(&'static [u8]),
-    /// This byte, so many times.
-    Fill(u8, u32),
-    /// Sixteen packets of type 0x01, status 0 and Length 65535: 1,048,560 bytes, the data of each
-    /// being one letter, from A to P.
-    SixteenPackets,
-    /// The data of those packets: 1,048,432 bytes.
-    SixteenData,
 }
 
 /// A message that is expected: its type, where it begins and what it carries.
 pub(crate) struct Seen(pub(crate) u8, pub(crate) u64, pub(crate) &'static [Part]);
-
-/// A stream, and the messages and the end that it has.
-pub(crate) struct Case {
-    pub(crate) name: &'static str,
-    pub(crate) stream: &'static [Part],
-    pub(crate) messages: &'static [Seen],
-    pub(crate) end: MessageFault,
-}
-
-/// The letters of the sixteen packets.
-const LETTERS: &[u8] = b"ABCDEFGHIJKLMNOP";
 
 /// Appends a header, with SPID 0, PacketID 1 and Window 0.
 fn put_header(bytes: &mut Vec<u8>, kind: u8, status: u8, length: u16) -> Result<(), AllocError> {
     let high = (length / 256) as u8;
     let low = (length % 256) as u8;
     bytes.extend_from_slice(&[kind, status, high, low, 0, 0, 1, 0])
-}
-
-/// Appends a byte so many times.
-fn put_fill(bytes: &mut Vec<u8>, byte: u8, count: u32) -> Result<(), AllocError> {
-    bytes.resize(bytes.len() + count as usize, byte)
 }
 
 fn put_part(bytes: &mut Vec<u8>, part: Part) -> Result<(), AllocError> {
@@ -58,20 +35,6 @@ fn put_part(bytes: &mut Vec<u8>, part: Part) -> Result<(), AllocError> {
         }
         Part::Header(kind, status, length) => put_header(bytes, kind, status, length),
         Part::Bytes(given) => bytes.extend_from_slice(given),
-        Part::Fill(byte, count) => put_fill(bytes, byte, count),
-        Part::SixteenPackets => {
-            for letter in LETTERS {
-                put_header(bytes, 0x01, 0x00, 65535)?;
-                put_fill(bytes, *letter, 65527)?;
-            }
-            Ok(())
-        }
-        Part::SixteenData => {
-            for letter in LETTERS {
-                put_fill(bytes, *letter, 65527)?;
-            }
-            Ok(())
-        }
     }
 }
 

@@ -94,16 +94,6 @@ fn in_pieces(alloc: Global, piece: u32, failing: &[u32]) -> Result<MemorySource,
 }
 
 #[test]
-fn pieces_of_any_size_give_the_same_messages(rt: HostRuntime) -> Result<(), Fail> {
-    let alloc = rt.alloc();
-    for piece in [1, 2, 3, 5, 7, 8, 9, 4096] {
-        let mut source = in_pieces(alloc, piece, &[])?;
-        assert_reads(&rt, alloc, &mut source, &SEEN, Closed, "pieces of one size")?;
-    }
-    Ok(())
-}
-
-#[test]
 fn a_cut_anywhere_gives_the_same_messages(rt: HostRuntime) -> Result<(), Fail> {
     let alloc = rt.alloc();
     for cut in 0..=END + 1 {
@@ -117,29 +107,6 @@ fn a_cut_anywhere_gives_the_same_messages(rt: HostRuntime) -> Result<(), Fail> {
             &SEEN,
             Closed,
             "a stream in two pieces",
-        )?;
-    }
-    Ok(())
-}
-
-#[test]
-fn a_stream_that_ends_anywhere_has_its_whole_messages(rt: HostRuntime) -> Result<(), Fail> {
-    let alloc = rt.alloc();
-    for end in 0..=END {
-        let mut bytes = bytes_of(alloc, &STREAM)?;
-        bytes.truncate(end);
-        let fault = match end {
-            0 | 23 | 33 | 41 => Closed,
-            _ => Cut { at: end as u64 },
-        };
-        let mut source = CutSource::new(bytes, 5, false);
-        assert_reads(
-            &rt,
-            alloc,
-            &mut source,
-            &SEEN[..whole(end)],
-            fault,
-            "a stream cut short",
         )?;
     }
     Ok(())

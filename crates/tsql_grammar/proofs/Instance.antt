@@ -1,5 +1,5 @@
 -- The grammar is predictive, productive and ranked, so the laws of grammars hold of it.
-use Rattle.std.specs.Prelude.{◌≡◌, ℕ, zero, suc, ◌+◌, ◌*◌, ◌==◌, Bool, true, false, not, ◌||◌, ◌&&◌, List, [], ◌∷◌, Option, Some, None, pos, codes, if◌then◌else◌, refl}
+use Rattle.std.specs.Prelude.{◌≡◌, ℕ, zero, suc, ◌+◌, ◌*◌, ◌==◌, Bool, true, false, not, List, [], ◌∷◌, Option, Some, None, pos, codes, if◌then◌else◌, refl}
 use Rattle.std.proofs.Common.{ap, sym, ◌∙◌, arith, inl, inr}
 use Rattle.std.proofs.lemmas.Bool.Decides.{nat_tests}
 use Rattle.tsql_lexer.specs.declared.lexeme.Lexeme.{Lexeme}
@@ -8,7 +8,6 @@ use Rattle.tsql_lexer.specs.declared.lexeme.Sign.TheVariants as s
 use Rattle.tsql_tree.specs.declared.option.FixedOption.TheVariants as o
 use Rattle.tsql_grammar.specs.declared.kind.Kind.{Kind}
 use Rattle.tsql_grammar.specs.declared.kind.Kind.TheVariants as k
-use Rattle.tsql_grammar.specs.declared.kind.Function.{Function}
 use Rattle.tsql_grammar.specs.declared.kind.Function.TheVariants as f
 use Rattle.tsql_grammar.specs.declared.kind.Word.TheVariants as v
 use Rattle.tsql_grammar.specs.declared.kind.Reserved.TheVariants as w
@@ -19,17 +18,17 @@ use Rattle.tsql_grammar.specs.declared.rule.Mark.{Mark}
 use Rattle.tsql_grammar.specs.declared.rule.Rule.{Rule}
 use Rattle.tsql_grammar.specs.declared.rule.Rule.TheVariants as r
 use Rattle.tsql_grammar.specs.Kinds.{kinds, kind_place, same_kind}
-use Rattle.tsql_grammar.specs.Words.{kind_of, word_kind, system_kind, spellings, system_spellings}
+use Rattle.tsql_grammar.specs.Words.{word_kind, system_kind, spellings}
 use Rattle.tsql_grammar.specs.Terminals.{Terminal, kind, admits}
 use Rattle.tsql_grammar.specs.Lookahead.{binding, first}
 use Rattle.tsql_grammar.specs.Noted.{Noted}
 use Rattle.tsql_grammar.specs.Language.{language, top}
 use Rattle.tsql_grammar.proofs.RuleTests.{ok}
-use Rattle.grammar_laws.specs.Grammar.{Symbol, Grammar}
-use Rattle.grammar_laws.specs.Lookahead.{Lookahead, HasNoBinding}
+use Rattle.grammar_laws.specs.Grammar.{Grammar}
+use Rattle.grammar_laws.specs.Lookahead.{Lookahead}
 use Rattle.grammar_laws.specs.Alternatives.{AlternativeOf, symbols_of, grammar_of, lookahead_of, may_take}
 use Rattle.grammar_laws.specs.Predictive.{IsPredictive, IsProductive, IsRanked, total}
-use Rattle.grammar_laws.proofs.Booleans.{implies, implied, and_true}
+use Rattle.grammar_laws.proofs.Booleans.{implies, implied}
 use Rattle.grammar_laws.proofs.KindTests as tests
 
 -- the members of a list by their places

@@ -3,3 +3,5 @@ pub mod Instance
 pub mod Readings
 pub mod Rows
 pub mod Spellings
+pub mod Picks
+pub mod Counted

@@ -1,8 +1,8 @@
 -- The laws of grammars at this one.
-use Rattle.std.specs.Prelude.{◌≡◌, ℕ, zero, suc, ◌+◌, ◌*◌, ◌≤◌, List, [], ◌∷◌, length, Option, Some, None, refl}
-use Rattle.std.proofs.Common.{ap, sym, ◌∙◌, arith}
+use Rattle.std.specs.Prelude.{◌≡◌, ℕ, ◌+◌, ◌*◌, List, [], ◌∷◌, length, Some}
+use Rattle.std.proofs.Common.{ap, ◌∙◌, arith}
 use Rattle.tsql_grammar.specs.declared.rule.Rule.{Rule}
-use Rattle.tsql_grammar.specs.Language.{language, top, ReadsAs, IsCut, read_rule}
+use Rattle.tsql_grammar.specs.Language.{top, ReadsAs, IsCut, read_rule}
 use Rattle.tsql_grammar.specs.Noted.{Noted}
 use Rattle.tsql_grammar.specs.Productions.{Tree}
 use Rattle.tsql_grammar.specs.Terminals.{Terminal}

@@ -1,5 +1,5 @@
 -- Texts and the trees that they are read as.
-use Rattle.std.specs.Prelude.{◌≡◌, ℕ, zero, suc, Bool, true, false, List, [], ◌∷◌, ◌++◌, map, Option, Some, None, pos, codes, refl}
+use Rattle.std.specs.Prelude.{◌≡◌, ℕ, true, false, List, [], ◌∷◌, map, Some, None, pos, codes, refl}
 use Rattle.tsql_lexer.specs.declared.lexeme.Lexeme.{Lexeme}
 use Rattle.tsql_lexer.specs.declared.lexeme.Lexeme.TheVariants as x
 use Rattle.tsql_lexer.specs.declared.lexeme.Sign.{Sign}
@@ -12,7 +12,6 @@ use Rattle.tsql_tree.specs.declared.query.Expr.TheVariants as expr
 use Rattle.tsql_tree.specs.declared.query.Factor.{roll-Factor}
 use Rattle.tsql_tree.specs.declared.query.MultiplySign.TheVariants as multiply
 use Rattle.tsql_tree.specs.declared.query.Term.{roll-Term}
-use Rattle.tsql_tree.specs.declared.query.Test.{Test}
 use Rattle.tsql_tree.specs.declared.query.Test.TheVariants as test
 use Rattle.tsql_tree.specs.declared.statement.Form.TheVariants as form
 use Rattle.tsql_tree.specs.declared.statement.Statement.{roll-Statement}

@@ -1,6 +1,5 @@
 -- The tables of the code are those of the definitions.
-use Rattle.std.specs.Prelude.{◌≡◌, ℕ, List, map, refl}
-use Rattle.tsql_grammar.specs.declared.kind.Kind.{Kind}
+use Rattle.std.specs.Prelude.{◌≡◌, map, refl}
 use Rattle.tsql_grammar.specs.declared.words.TheConstants.{SPELLINGS, SYSTEM_SPELLINGS}
 use Rattle.tsql_grammar.specs.Words.{spellings, system_spellings}
 

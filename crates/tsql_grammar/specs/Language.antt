@@ -1,5 +1,5 @@
 -- Own: the grammar of Transact-SQL, put together: which texts are of a rule, and what they stand for.
-use Rattle.std.specs.Prelude.{ℕ, ◌+◌, ◌*◌, ◌≤◌, Bool, List, [], ◌∷◌, length, take, drop, Option}
+use Rattle.std.specs.Prelude.{ℕ, ◌+◌, ◌*◌, ◌≤◌, List, [], ◌∷◌, length, take, drop, Option}
 use Rattle.tsql_grammar.specs.declared.kind.Kind.{Kind}
 use Rattle.tsql_grammar.specs.declared.rule.Class.{Class}
 use Rattle.tsql_grammar.specs.declared.rule.Mark.{Mark}

@@ -4,25 +4,22 @@
 -- beginning stands once and the rest is a rule of its own, named After..; a list is its first member
 -- and a rule More.. that takes a comma and a further one. Code has no such table: it reads by a
 -- stack, and then by descent.
-use Rattle.std.specs.Prelude.{ℕ, zero, suc, ◌+◌, Bool, true, false, List, [], ◌∷◌, ◌++◌, map, Option, Some, None, ℤ, neg_ℤ, if◌then◌else◌}
+use Rattle.std.specs.Prelude.{ℕ, zero, suc, Bool, true, false, List, [], ◌∷◌, map, Option, Some, None, ℤ, neg_ℤ, if◌then◌else◌}
 use Rattle.value_types.specs.declared.sql_type.SqlType.{SqlType}
 use Rattle.value_types.specs.declared.sql_type.SqlType.TheVariants as kind
 use Rattle.value_types.specs.declared.value.Value.TheVariants as value
 use Rattle.tsql_lexer.specs.declared.lexeme.Sign.{Sign}
 use Rattle.tsql_lexer.specs.declared.lexeme.Sign.TheVariants as s
-use Rattle.tsql_tree.specs.declared.definition.ColumnTree.{ColumnTree}
 use Rattle.tsql_tree.specs.declared.definition.Definition.{Definition}
 use Rattle.tsql_tree.specs.declared.definition.Definition.TheVariants as definition
 use Rattle.tsql_tree.specs.declared.definition.Event.{Event}
 use Rattle.tsql_tree.specs.declared.definition.Event.TheVariants as event
 use Rattle.tsql_tree.specs.declared.definition.Parameter.{Parameter}
 use Rattle.tsql_tree.specs.declared.definition.TableTree.{TableTree}
-use Rattle.tsql_tree.specs.declared.option.FixedOption.{FixedOption}
 use Rattle.tsql_tree.specs.declared.option.IsolationLevel.{IsolationLevel}
 use Rattle.tsql_tree.specs.declared.option.IsolationLevel.TheVariants as level
 use Rattle.tsql_tree.specs.declared.option.PriorityWord.{PriorityWord}
 use Rattle.tsql_tree.specs.declared.option.PriorityWord.TheVariants as priority
-use Rattle.tsql_tree.specs.declared.option.SessionOption.{SessionOption}
 use Rattle.tsql_tree.specs.declared.option.SessionOption.TheVariants as option
 use Rattle.tsql_tree.specs.declared.query.AddSign.{AddSign}
 use Rattle.tsql_tree.specs.declared.query.AddSign.TheVariants as add

@@ -6,6 +6,7 @@ use Rattle.tsql_grammar.specs.declared.kind.Kind.{Kind}
 use Rattle.tsql_grammar.specs.declared.rule.Class.{Class}
 use Rattle.tsql_grammar.specs.declared.rule.Mark.{Mark}
 use Rattle.tsql_grammar.specs.declared.rule.Rule.{Rule}
+use Rattle.tsql_grammar.specs.declared.rule.Rule.TheVariants as r
 use Rattle.tsql_grammar.specs.declared.symbol.Symbol.{Symbol as CodeSymbol}
 use Rattle.tsql_grammar.specs.declared.symbol.Symbol.TheVariants as code
 use Rattle.tsql_grammar.specs.Productions.{Symbols, productions}
@@ -59,3 +60,20 @@ symbols_of_rule a = map (λ p. p.symbols) (productions [] a)
 abbrev pub Opens : Option Symbols → Bool → Symbols → Symbols → Type 0
 Opens None found old new = found ≡ false
 Opens (Some is) found old new = (found ≡ true) × (new ≡ is ++ old)
+
+-- rules without a parameter
+abbrev pub is_plain : Rule → Bool
+is_plain (r.Body a) = false
+is_plain (r.Statement a) = false
+is_plain (r.OtherStatement a) = false
+is_plain (r.AfterBegin a) = false
+is_plain (r.Else a) = false
+is_plain (r.ThrowArguments a) = false
+is_plain (r.AfterItemFunction a) = false
+is_plain (r.Opened n) = false
+is_plain (r.Operand n) = false
+is_plain (r.Compared n) = false
+is_plain (r.Tested n) = false
+is_plain (r.AfterFunction a) = false
+is_plain (r.FunctionArguments a) = false
+is_plain _ = true

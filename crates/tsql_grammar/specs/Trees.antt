@@ -1,11 +1,10 @@
 -- Transact-SQL reference (expressions, search conditions, CREATE TABLE), own names of constraints:
 -- how the trees of a production's parts make its tree, where that is more than one constructor.
-use Rattle.std.specs.Prelude.{ℕ, zero, suc, ◌+◌, ◌-◌, Bool, true, false, List, [], ◌∷◌, ◌++◌, take, drop, Option, Some, None, ℤ, codes, decimal}
-use Rattle.value_types.specs.declared.sql_type.SqlType.{SqlType}
+use Rattle.std.specs.Prelude.{ℕ, zero, suc, ◌-◌, Bool, false, List, [], ◌∷◌, ◌++◌, take, drop, Option, Some, None, codes, decimal}
 use Rattle.tsql_tree.specs.declared.query.Expr.{Expr}
 use Rattle.tsql_tree.specs.declared.query.Expr.TheVariants as expr
-use Rattle.tsql_tree.specs.declared.query.Factor.{Factor, roll-Factor}
-use Rattle.tsql_tree.specs.declared.query.Term.{Term, roll-Term}
+use Rattle.tsql_tree.specs.declared.query.Factor.{Factor}
+use Rattle.tsql_tree.specs.declared.query.Term.{Term}
 use Rattle.tsql_tree.specs.declared.query.Test.{Test}
 use Rattle.tsql_tree.specs.declared.query.Test.TheVariants as test
 use Rattle.tsql_tree.specs.declared.query.AddSign.{AddSign}

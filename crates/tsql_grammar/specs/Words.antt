@@ -2,7 +2,7 @@
 -- knows, each by its capitals, and the kind of each lexeme. Words are compared without case, names
 -- with case; a quoted name is never a word. That THROW, UNION, EXCEPT, INTERSECT, RIGHT and FULL are
 -- reserved is own (the forms that the last five begin are left out).
-use Rattle.std.specs.Prelude.{ℕ, ◌-◌, ◌&&◌, Bool, nat_le, List, [], ◌∷◌, ◌++◌, map, codes, if◌then◌else◌}
+use Rattle.std.specs.Prelude.{ℕ, ◌-◌, ◌&&◌, nat_le, List, [], ◌∷◌, ◌++◌, map, codes, if◌then◌else◌}
 use Rattle.value_types.specs.Units.{same_units}
 use Rattle.tsql_lexer.specs.declared.lexeme.Lexeme.{Lexeme}
 use Rattle.tsql_lexer.specs.declared.lexeme.Lexeme.TheVariants as x

@@ -18,7 +18,7 @@ use Rattle.tsql_lexer.specs.Signs.{sign_spellings}
 use Rattle.tsql_lexer.specs.Quotes.{doubled, enclosed}
 use Rattle.tsql_lexer.specs.Comments.{comment_size}
 use Rattle.tsql_lexer.specs.Lexemes.{IsWord, IsVariable, IsSystemName, IsNumber, is_name, in_quotes, IsOneOf, Spells, goes_on, stops}
-use Rattle.tsql_lexer.specs.Parts.{AreBlanks, IsLineComment, IsComment, Is}
+use Rattle.tsql_lexer.specs.Parts.{AreBlanks, IsLineComment, IsComment, IsPart}
 use Rattle.tsql_lexer.specs.Reading.{opening_of, double_sign, single_sign, at_name_piece, number_of, number_by, number_piece, name_by, name_piece, text_by, text_piece, comment_by, comment_piece, token_of, sign_piece, piece_by, piece_of}
 use Rattle.tsql_lexer.proofs.Stops.{run_stops, run_all, run_some, unlike}
 use Rattle.tsql_lexer.proofs.Digits.{fits}
@@ -324,7 +324,7 @@ begins_lexeme (Text text) units behind spelled stopped = elim spelled [
 begins_lexeme (Sign sign) units behind spelled stopped = begins_sign sign units behind spelled stopped
 
 -- a part is read as that part, whatever stands behind it
-pub begins : (lexeme : Option Lexeme) (units behind : List ℕ) → Is lexeme units behind → Begins lexeme units behind
+pub begins : (lexeme : Option Lexeme) (units behind : List ℕ) → IsPart lexeme units behind → Begins lexeme units behind
 begins None units behind is = elim is [
   | inl blanks ↦ begins_blanks units behind blanks
   | inr comment ↦ elim comment [ inl line ↦ begins_line_comment units behind line | inr nested ↦ begins_comment units behind nested ]

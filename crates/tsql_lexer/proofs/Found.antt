@@ -21,7 +21,7 @@ use Rattle.tsql_lexer.specs.Numbers.{number_value, number_limit}
 use Rattle.tsql_lexer.specs.Quotes.{doubled, enclosed}
 use Rattle.tsql_lexer.specs.Comments.{more, closing_size, comment_size}
 use Rattle.tsql_lexer.specs.Lexemes.{is_name, in_quotes, IsOneOf, goes_on, stops, IsLexeme}
-use Rattle.tsql_lexer.specs.Parts.{Is, kind_at}
+use Rattle.tsql_lexer.specs.Parts.{IsPart, kind_at}
 use Rattle.tsql_lexer.specs.Reading.{opening_of, double_sign, single_sign, at_name_piece, number_of, number_by, number_piece, name_by, name_piece, text_by, text_piece, comment_by, comment_piece, token_of, word_piece, sign_by, sign_piece, piece_by, piece_of}
 use Rattle.tsql_lexer.proofs.Runs.{run_passes}
 use Rattle.tsql_lexer.proofs.Stops.{run_stopped, is_run}
@@ -37,7 +37,7 @@ pub record Stands (text : List ℕ) (lexeme : Option Lexeme) (size : ℕ) : Type
   pub behind : List ℕ
   pub joined : text ≡ units ++ behind
   pub size_is : size ≡ length units
-  pub is : Is lexeme units behind
+  pub is : IsPart lexeme units behind
 
 -- the piece is a part that begins the text, or the rule that fails
 abbrev pub Found : List ℕ → Piece → Type 0

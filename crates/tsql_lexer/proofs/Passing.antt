@@ -10,7 +10,7 @@ use Rattle.tsql_lexer.specs.declared.fault.LexKind.{LexKind}
 use Rattle.tsql_lexer.specs.declared.piece.Piece.TheVariants.{Gap, Lexeme as Token, Flaw as Failure}
 use Rattle.tsql_lexer.specs.Classes.{line_feed}
 use Rattle.tsql_lexer.proofs.Sizes.{gap_size, token_size}
-use Rattle.tsql_lexer.specs.Reading.{piece_of, line_after, before, read_on}
+use Rattle.tsql_lexer.specs.Reading.{piece_of, line_after, put_before, read_on}
 
 -- how many line feeds the units have
 abbrev pub feeds : List ℕ → ℕ
@@ -50,12 +50,12 @@ gap_passed (unit ∷ units) zero at line some within is = absurd (omega arith)
 gap_passed (unit ∷ units) (suc size) at line some within is = rw is (ap (λ (n : ℕ). read_on units n (suc at) (line_after line unit)) (omega arith))
 
 pub token_passed : (text : List ℕ) (lexeme : Lexeme) (size at line : ℕ) → 1 ≤ size → size ≤ length text → piece_of text ≡ Token lexeme size
-    → read_on text 0 at line ≡ before (record { lexeme = lexeme; start = at; end = at + size; line = line }) (read_on text size at line)
+    → read_on text 0 at line ≡ put_before (record { lexeme = lexeme; start = at; end = at + size; line = line }) (read_on text size at line)
 unfolding read_on
 token_passed [] lexeme size at line some within is = absurd (omega arith)
 token_passed (unit ∷ units) lexeme zero at line some within is = absurd (omega arith)
 token_passed (unit ∷ units) lexeme (suc size) at line some within is =
-    rw is (ap (λ (n : ℕ). before (record { lexeme = lexeme; start = at; end = at + suc size; line = line }) (read_on units n (suc at) (line_after line unit))) (omega arith))
+    rw is (ap (λ (n : ℕ). put_before (record { lexeme = lexeme; start = at; end = at + suc size; line = line }) (read_on units n (suc at) (line_after line unit))) (omega arith))
 
 pub failed : (text : List ℕ) (kind : LexKind) (at line : ℕ) → 0 < length text → piece_of text ≡ Failure kind → read_on text 0 at line ≡ ([], Some (record { at = at; line = line; kind = kind }))
 unfolding read_on
@@ -81,8 +81,8 @@ gap_step text lexemes at line size feed some is same =
     let sized = gap_size (drop at text) size (omega (arith, length-drop at text)) is in
     ap (in_front lexemes) (gap_passed (drop at text) size at line sized.0 sized.1 is ∙ behind_part text at line size feed sized.1 same)
 
-in_front-before : (lexemes : List Spanned) (lexeme : Spanned) (read : List Spanned × Option Flaw) → in_front lexemes (before lexeme read) ≡ in_front (lexemes ++ lexeme ∷ []) read
-in_front-before lexemes lexeme read = ap (λ (l : List Spanned). (l, read.1)) (sym (append_assoc lexemes (lexeme ∷ []) read.0))
+in_front-put_before : (lexemes : List Spanned) (lexeme : Spanned) (read : List Spanned × Option Flaw) → in_front lexemes (put_before lexeme read) ≡ in_front (lexemes ++ lexeme ∷ []) read
+in_front-put_before lexemes lexeme read = ap (λ (l : List Spanned). (l, read.1)) (sym (append_assoc lexemes (lexeme ∷ []) read.0))
 
 -- one part more: a lexeme
 pub token_step : (text : List ℕ) (lexemes : List Spanned) (lexeme : Lexeme) (at line size feed : ℕ) → at < length text → piece_of (drop at text) ≡ Token lexeme size → feed ≡ feeds (take size (drop at text))
@@ -91,8 +91,8 @@ pub token_step : (text : List ℕ) (lexemes : List Spanned) (lexeme : Lexeme) (a
 token_step text lexemes lexeme at line size feed some is same =
     let sized = token_size (drop at text) lexeme size (omega (arith, length-drop at text)) is in
     let spanned : Spanned = record { lexeme = lexeme; start = at; end = at + size; line = line } in
-    ap (in_front lexemes) (token_passed (drop at text) lexeme size at line sized.0 sized.1 is ∙ ap (before spanned) (behind_part text at line size feed sized.1 same))
-    ∙ in_front-before lexemes spanned (read_on (drop (at + size) text) 0 (at + size) (line + feed))
+    ap (in_front lexemes) (token_passed (drop at text) lexeme size at line sized.0 sized.1 is ∙ ap (put_before spanned) (behind_part text at line size feed sized.1 same))
+    ∙ in_front-put_before lexemes spanned (read_on (drop (at + size) text) 0 (at + size) (line + feed))
 
 -- a place where nothing is read
 pub flaw_step : (text : List ℕ) (lexemes : List Spanned) (kind : LexKind) (at line : ℕ) → at < length text → piece_of (drop at text) ≡ Failure kind

@@ -10,7 +10,7 @@ use Rattle.tsql_lexer.specs.declared.piece.Piece.{Piece}
 use Rattle.tsql_lexer.specs.declared.piece.Piece.TheVariants.{Gap, Lexeme as Token, Flaw as Failure}
 use Rattle.tsql_lexer.specs.Classes.{line_feed}
 use Rattle.tsql_lexer.specs.Lexemes.{Spells, goes_on, stops, IsLexeme}
-use Rattle.tsql_lexer.specs.Parts.{Part, Is, units_of, AreParts, BeginsNoPart, line_behind, span_behind, spans_behind, Ends, Lexes}
+use Rattle.tsql_lexer.specs.Parts.{Part, IsPart, text_of, AreParts, BeginsNoPart, line_behind, span_behind, spans_behind, Ends, Lexes}
 use Rattle.tsql_lexer.specs.Reading.{piece_of, read_on, lexing_of}
 use Rattle.tsql_lexer.proofs.Passing.{feeds, passed, gap_passed, token_passed, failed, nothing_read}
 use Rattle.tsql_lexer.proofs.Begins.{piece_for, Begins, begins}
@@ -60,13 +60,13 @@ no_part text kind fails part behind joined is =
 record Parted (before text : List ℕ) (read : List Spanned × Option Flaw) : Type 0 where
   parts : List Part
   tail : List ℕ
-  joined : text ≡ units_of parts ++ tail
+  joined : text ≡ text_of parts ++ tail
   right : AreParts parts tail
   spans : read.0 ≡ spans_behind before parts
-  end : Ends (before ++ units_of parts) tail read.1
+  end : Ends (before ++ text_of parts) tail read.1
 
 -- one part more in front
-part_more : (lexeme : Option Lexeme) (before units behind : List ℕ) → Is lexeme units behind
+part_more : (lexeme : Option Lexeme) (before units behind : List ℕ) → IsPart lexeme units behind
     → Parted (before ++ units) behind (read_on behind 0 (length (before ++ units)) (line_behind (before ++ units)))
     → Parted before (units ++ behind) (read_on (units ++ behind) 0 (length before) (line_behind before))
 part_more lexeme before units behind is rest =
@@ -75,11 +75,11 @@ part_more lexeme before units behind is rest =
     record {
       parts = part ∷ rest.parts;
       tail = rest.tail;
-      joined = ap (λ (l : List ℕ). units ++ l) rest.joined ∙ sym (append_assoc units (units_of rest.parts) rest.tail);
-      right = (subst (Is lexeme units) rest.joined is, rest.right);
+      joined = ap (λ (l : List ℕ). units ++ l) rest.joined ∙ sym (append_assoc units (text_of rest.parts) rest.tail);
+      right = (subst (IsPart lexeme units) rest.joined is, rest.right);
       spans = ap (λ (r : List Spanned × Option Flaw). r.0) read ∙ ap (λ (l : List Spanned). span_behind before units lexeme ++ l) rest.spans;
-      end = subst (λ (l : List ℕ). Ends l rest.tail (read_on (units ++ behind) 0 (length before) (line_behind before)).1) (append_assoc before units (units_of rest.parts))
-          (subst (Ends ((before ++ units) ++ units_of rest.parts) rest.tail) (sym (ap (λ (r : List Spanned × Option Flaw). r.1) read)) rest.end);
+      end = subst (λ (l : List ℕ). Ends l rest.tail (read_on (units ++ behind) 0 (length before) (line_behind before)).1) (append_assoc before units (text_of rest.parts))
+          (subst (Ends ((before ++ units) ++ text_of rest.parts) rest.tail) (sym (ap (λ (r : List Spanned × Option Flaw). r.1) read)) rest.end);
     }
 
 -- the same at a text that begins with the part
@@ -144,14 +144,14 @@ end_read before (unit ∷ units) flaw end = by (piece_of (unit ∷ units)) refl 
         ∙ ap (λ (k : LexKind). ([], Some (record { at = length before; line = line_behind before; kind = k }))) named
         ∙ ap (λ (f : Option Flaw). ([], f)) (sym end.1)
 
-parts_read : (before : List ℕ) (parts : List Part) (tail : List ℕ) (flaw : Option Flaw) → AreParts parts tail → Ends (before ++ units_of parts) tail flaw
-    → read_on (units_of parts ++ tail) 0 (length before) (line_behind before) ≡ (spans_behind before parts, flaw)
+parts_read : (before : List ℕ) (parts : List Part) (tail : List ℕ) (flaw : Option Flaw) → AreParts parts tail → Ends (before ++ text_of parts) tail flaw
+    → read_on (text_of parts ++ tail) 0 (length before) (line_behind before) ≡ (spans_behind before parts, flaw)
 parts_read before [] tail flaw right end = end_read before tail flaw (subst (λ (l : List ℕ). Ends l tail flaw) (append-nil before) end)
 parts_read before (part ∷ parts) tail flaw right end =
-    ap (λ (l : List ℕ). read_on l 0 (length before) (line_behind before)) (append_assoc part.units (units_of parts) tail)
-    ∙ part_read part.lexeme before part.units (units_of parts ++ tail) (begins part.lexeme part.units (units_of parts ++ tail) right.0)
+    ap (λ (l : List ℕ). read_on l 0 (length before) (line_behind before)) (append_assoc part.units (text_of parts) tail)
+    ∙ part_read part.lexeme before part.units (text_of parts ++ tail) (begins part.lexeme part.units (text_of parts ++ tail) right.0)
     ∙ ap (spanned before part.units part.lexeme) (parts_read (before ++ part.units) parts tail flaw right.1
-    (subst (λ (l : List ℕ). Ends l tail flaw) (sym (append_assoc before part.units (units_of parts))) end))
+    (subst (λ (l : List ℕ). Ends l tail flaw) (sym (append_assoc before part.units (text_of parts))) end))
 
 -- what a text lexes as is what is read of it
 pub lexes_once : (text : List ℕ) (lexemes : List Spanned) (flaw : Option Flaw) → Lexes text lexemes flaw → lexing_of text ≡ (lexemes, flaw)

@@ -7,9 +7,37 @@ use Rattle.std.specs.Prelude.{ℕ, Bool, ◌==◌, ◌||◌, ◌&&◌, not, nat_
 abbrev pub line_feed : ℕ
 line_feed = 0x0A
 
+-- units that have a meaning of their own, by their characters
+abbrev pub space : ℕ
+space = 0x20
+
+abbrev pub double_quote : ℕ
+double_quote = 0x22
+
+abbrev pub quote : ℕ
+quote = 0x27
+
+abbrev pub star : ℕ
+star = 0x2A
+
+abbrev pub hyphen : ℕ
+hyphen = 0x2D
+
+abbrev pub slash : ℕ
+slash = 0x2F
+
+abbrev pub at_sign : ℕ
+at_sign = 0x40
+
+abbrev pub bracket : ℕ
+bracket = 0x5B
+
+abbrev pub closing_bracket : ℕ
+closing_bracket = 0x5D
+
 -- tab, line feed, carriage return and space
 abbrev pub is_blank : ℕ → Bool
-is_blank unit = unit == 0x09 || unit == line_feed || unit == 0x0D || unit == 0x20
+is_blank unit = unit == 0x09 || unit == line_feed || unit == 0x0D || unit == space
 
 -- a unit that ends no line
 abbrev pub stays_in_line : ℕ → Bool
@@ -25,4 +53,4 @@ is_word_start unit = (nat_le 0x41 unit && nat_le unit 0x5A) || (nat_le 0x61 unit
 
 -- what a word may begin with, the digits, and @, $ and #
 abbrev pub is_word_unit : ℕ → Bool
-is_word_unit unit = is_word_start unit || is_digit unit || unit == 0x40 || unit == 0x24 || unit == 0x23
+is_word_unit unit = is_word_start unit || is_digit unit || unit == at_sign || unit == 0x24 || unit == 0x23

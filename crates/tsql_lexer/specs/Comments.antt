@@ -2,14 +2,15 @@
 -- lexemes. Comments in /* and */ nest: their units are read from left to right, two at a time where two
 -- open or close a comment. The code counts with a place in the whole text.
 use Rattle.std.specs.Prelude.{ℕ, suc, ◌+◌, ◌-◌, ◌==◌, ◌&&◌, nat_le, if◌then◌else◌, List, [], ◌∷◌, Option, None, Some}
+use Rattle.tsql_lexer.specs.Classes.{slash, star}
 use Rattle.tsql_lexer.specs.declared.comments.Mark.{Mark}
 use Rattle.tsql_lexer.specs.declared.comments.Mark.TheVariants.{Opener, Closer, Plain}
 
 -- what two units one behind the other are to a comment: `/*` opens one, `*/` closes one
 abbrev pub mark_of : ℕ → ℕ → Mark
 mark_of unit next =
-    if unit == 0x2F && next == 0x2A then Opener
-    else if unit == 0x2A && next == 0x2F then Closer
+    if unit == slash && next == star then Opener
+    else if unit == star && next == slash then Closer
     else Plain
 
 -- so many units more

@@ -6,4 +6,4 @@ pub mod Comments  -- how far a comment goes
 pub mod Lexemes  -- which units spell a lexeme, and where it ends
 pub mod Parts  -- which lexemes a text has, and where the rules fail
 pub mod Reading  -- how a text is read from left to right
-pub mod Answer  -- what a fault tells
+pub mod Answer  -- which flaw a fault is of

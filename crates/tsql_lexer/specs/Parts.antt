@@ -34,22 +34,22 @@ pub record Part : Type 0 where
   pub units : List ℕ
 
 -- the units are this, where the others stand behind them
-abbrev pub Is : Option Lexeme → List ℕ → List ℕ → Type 0
-Is None units behind = AreBlanks units behind ⊎ (IsLineComment units behind ⊎ IsComment units)
-Is (Some lexeme) units behind = IsLexeme units behind lexeme
+abbrev pub IsPart : Option Lexeme → List ℕ → List ℕ → Type 0
+IsPart None units behind = AreBlanks units behind ⊎ (IsLineComment units behind ⊎ IsComment units)
+IsPart (Some lexeme) units behind = IsLexeme units behind lexeme
 
--- the units of parts, one after another
-abbrev pub units_of : List Part → List ℕ
-units_of parts = flat_map (λ part. part.units) parts
+-- the text that parts make, one after another
+abbrev pub text_of : List Part → List ℕ
+text_of parts = flat_map (λ part. part.units) parts
 
 -- each part is what it is said to be, where this tail stands behind the last
 abbrev pub AreParts : List Part → List ℕ → Type 0
 AreParts [] tail = Unit {0}
-AreParts (part ∷ parts) tail = Is part.lexeme part.units (units_of parts ++ tail) × AreParts parts tail
+AreParts (part ∷ parts) tail = IsPart part.lexeme part.units (text_of parts ++ tail) × AreParts parts tail
 
 -- no part begins the tail
 abbrev pub BeginsNoPart : List ℕ → Type 0
-BeginsNoPart tail = (part : Part) (behind : List ℕ) → tail ≡ part.units ++ behind → Is part.lexeme part.units behind → ⊥
+BeginsNoPart tail = (part : Part) (behind : List ℕ) → tail ≡ part.units ++ behind → IsPart part.lexeme part.units behind → ⊥
 
 -- ---- places
 
@@ -88,7 +88,7 @@ Ends before (unit ∷ units) flaw =
 pub record Lexes (text : List ℕ) (lexemes : List Spanned) (flaw : Option Flaw) : Type 0 where
   pub parts : List Part
   pub tail : List ℕ
-  pub joined : text ≡ units_of parts ++ tail
+  pub joined : text ≡ text_of parts ++ tail
   pub right : AreParts parts tail
   pub spans : lexemes ≡ spans_behind [] parts
-  pub end : Ends (units_of parts) tail flaw
+  pub end : Ends (text_of parts) tail flaw

@@ -14,7 +14,7 @@ use Rattle.tsql_lexer.specs.declared.opening.Opening.{Opening}
 use Rattle.tsql_lexer.specs.declared.opening.Opening.TheVariants as opens
 use Rattle.tsql_lexer.specs.declared.piece.Piece.{Piece}
 use Rattle.tsql_lexer.specs.declared.piece.Piece.TheVariants.{Gap, Lexeme as Token, Flaw as Failure}
-use Rattle.tsql_lexer.specs.Classes.{line_feed, is_blank, is_digit, is_word_start, is_word_unit, stays_in_line}
+use Rattle.tsql_lexer.specs.Classes.{hyphen, slash, star, quote, double_quote, at_sign, bracket, closing_bracket, line_feed, is_blank, is_digit, is_word_start, is_word_unit, stays_in_line}
 use Rattle.tsql_lexer.specs.Numbers.{number_value, number_limit}
 use Rattle.tsql_lexer.specs.Comments.{comment_size}
 use Rattle.tsql_lexer.specs.Quotes.{enclosed}
@@ -25,16 +25,16 @@ use Rattle.tsql_lexer.specs.Lexemes.{is_name}
 unfoldable pub opening_of : ℕ → ℕ → Opening
 opening_of first second =
     if is_blank first then opens.Blank
-    else if first == 0x2D && second == 0x2D then opens.LineComment
-    else if first == 0x2F && second == 0x2A then opens.Comment
-    else if first == 0x4E && second == 0x27 then opens.NationalText
+    else if first == hyphen && second == hyphen then opens.LineComment
+    else if first == slash && second == star then opens.Comment
+    else if first == 0x4E && second == quote then opens.NationalText
     else if is_word_start first then opens.Word
     else if is_digit first then opens.Number
-    else if first == 0x5B then opens.Bracket
-    else if first == 0x22 then opens.DoubleQuote
-    else if first == 0x27 then opens.Text
-    else if first == 0x40 && second == 0x40 then opens.SystemName
-    else if first == 0x40 then opens.Variable
+    else if first == bracket then opens.Bracket
+    else if first == double_quote then opens.DoubleQuote
+    else if first == quote then opens.Text
+    else if first == at_sign && second == at_sign then opens.SystemName
+    else if first == at_sign then opens.Variable
     else opens.Sign
 
 -- the sign of two units
@@ -105,7 +105,7 @@ text_by front None = Failure OpenText
 text_by front (Some text) = Token (lexemes.Text text.0) (front + text.1)
 
 unfoldable pub text_piece : ℕ → List ℕ → Piece
-text_piece front text = text_by front (enclosed 0x27 (drop front text))
+text_piece front text = text_by front (enclosed quote (drop front text))
 
 abbrev pub comment_by : Option ℕ → Piece
 comment_by None = Failure OpenComment
@@ -129,8 +129,8 @@ piece_by opens.LineComment text = Gap (prefix_len stays_in_line text)
 piece_by opens.Comment text = comment_piece text
 piece_by opens.Word text = word_piece text
 piece_by opens.Number text = number_piece text
-piece_by opens.Bracket text = name_piece 0x5D text
-piece_by opens.DoubleQuote text = name_piece 0x22 text
+piece_by opens.Bracket text = name_piece closing_bracket text
+piece_by opens.DoubleQuote text = name_piece double_quote text
 piece_by opens.Variable text = at_name_piece lexemes.Variable 2 text
 piece_by opens.SystemName text = at_name_piece lexemes.SystemName 3 text
 piece_by opens.Text text = text_piece 1 text
@@ -153,14 +153,14 @@ IsWithin most (Failure kind) = Unit {0}
 abbrev pub line_after : ℕ → ℕ → ℕ
 line_after line unit = if unit == line_feed then suc line else line
 
--- the lexeme, before those that are read behind it
-abbrev pub before : Spanned → List Spanned × Option Flaw → List Spanned × Option Flaw
-before lexeme read = (lexeme ∷ read.0, read.1)
+-- the lexeme, in front of those that are read behind it
+abbrev pub put_before : Spanned → List Spanned × Option Flaw → List Spanned × Option Flaw
+put_before lexeme read = (lexeme ∷ read.0, read.1)
 
 -- what a piece makes of what is read from the unit behind its first one on, with so many units to pass over
 abbrev pub goes_by : Piece → ℕ → ℕ → (ℕ → List Spanned × Option Flaw) → List Spanned × Option Flaw
 goes_by (Gap size) at line behind = behind (size - 1)
-goes_by (Token lexeme size) at line behind = before (record { lexeme = lexeme; start = at; end = at + size; line = line }) (behind (size - 1))
+goes_by (Token lexeme size) at line behind = put_before (record { lexeme = lexeme; start = at; end = at + size; line = line }) (behind (size - 1))
 goes_by (Failure kind) at line behind = ([], Some (record { at = at; line = line; kind = kind }))
 
 -- the lexemes from a unit on and the first flaw behind it, where so many units still belong to the part before

@@ -2,7 +2,7 @@
 
 ghost use Rattle.std.specs.Prelude.{◌≡◌, ◌<◌, ◌^◌, IfOk, IfErr, None, length};
 ghost use Rattle.tsql_lexer.specs.Reading.{lexing_of};
-ghost use Rattle.tsql_lexer.specs.Answer.{Tells};
+ghost use Rattle.tsql_lexer.specs.Answer.{IsFaultOf};
 
 use crate::classes::count_line_feeds;
 use crate::fault::{Flaw, LexFault};
@@ -68,7 +68,7 @@ pub fn lexing_of(alloc: Global, text: &Units) -> Result<Lexing, Memory>
 pub fn lex(alloc: Global, text: &Units) -> Result<Vec<Spanned>, LexFault>
     requires { length text.now < 2 ^ 31 }
     ensures lexemes { IfOk result (λ lexemes. (lexemes.items, None) ≡ lexing_of text.now) }
-    ensures fault { IfErr result (λ fault. Tells fault (lexing_of text.now).1) }
+    ensures fault { IfErr result (λ fault. IsFaultOf fault (lexing_of text.now).1) }
 {
     let lexing = lexing_of(alloc, text)?;
     match lexing.flaw {

@@ -1,4 +1,4 @@
-use Rattle.std.proofs.Common.{◌≡◌, ◌+◌, ◌≤◌, ◌++◌, length, vec_len, vec_capacity}
+use Rattle.std.proofs.Common.{◌≡◌, ◌+◌, ◌++◌, length, vec_len, vec_capacity}
 use Rattle.tds_tokens.specs.Spelling.{row_bytes}
 use Rattle.tds_tokens.specs.Fit.{FitsColumns}
 use Rattle.tds_tokens.proofs.values.put_values.Given as goal

@@ -1,4 +1,4 @@
-use Rattle.std.proofs.Common.{◌≡◌, ◌+◌, ◌≤◌, ◌++◌, length, drop, vec_len, vec_capacity}
+use Rattle.std.proofs.Common.{◌≡◌, ◌+◌, ◌++◌, length, drop, vec_len, vec_capacity}
 use Rattle.std.specs.List.{flat_map}
 use Rattle.tds_tokens.specs.Spelling.{column_bytes}
 use Rattle.tds_tokens.proofs.writing.put_columns.Given as goal

@@ -1,4 +1,4 @@
-use Rattle.std.proofs.Common.{◌≡◌, ◌∙◌, map}
+use Rattle.std.proofs.Common.{◌∙◌, map}
 use Rattle.tsql_grammar.specs.declared.kind.Kind.TheVariants.{OtherSystem}
 use Rattle.tsql_grammar.specs.Words.{capital, look_up, system_kind}
 use Rattle.tsql_grammar.proofs.Spellings.{systems_same}

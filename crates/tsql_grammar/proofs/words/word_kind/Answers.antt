@@ -1,4 +1,4 @@
-use Rattle.std.proofs.Common.{◌≡◌, ◌∙◌, map}
+use Rattle.std.proofs.Common.{◌∙◌, map}
 use Rattle.tsql_grammar.specs.Words.{capital, look_up, word_kind}
 use Rattle.tsql_grammar.proofs.Spellings.{words_same}
 use Rattle.tsql_grammar.proofs.words.word_kind.Goals as goal

@@ -1,7 +1,7 @@
 use Rattle.std.proofs.Common.{Bool, rules, subst}
 use Rattle.step_model.specs.Exchange.{MayCome}
 use Rattle.step_model.specs.Step.{marks_of}
-use Rattle.engine_core.proofs.tests.may_attempt.Goals as goal
+use Rattle.tests_engine.proofs.answers.may_attempt.Goals as goal
 
 pub returns : goal.returns
 returns c may =
