@@ -1,5 +1,5 @@
 //! The engine: entries in order of table and key, open transactions, and the log of commits. Each of its
-//! steps is one of `Step` of `step_model`; so far one session steps at a time and there are no locks.
+//! steps is one of `Step` of `step_model`, where one session steps at a time and there are no locks.
 //!
 //! Read `specs/State.antt` first. The layers above rely on [`Engine::attempt`], or on [`SoloPort`],
 //! which is an engine with one session behind a port, whose exchanges fit its log.

@@ -1,4 +1,4 @@
--- Own: the tables that batches speak of so far, each with two INT columns, k, its key, and v; and the
+-- Own: the tables that batches speak of, each with two INT columns, k, its key, and v; and the
 -- table `objects`, which has a row for each of them: its name, and the text of its definition. What is
 -- no row is told by tests on values; the code makes the same tests on borrowed rows.
 use Rattle.std.specs.Prelude.{ℕ, pos, negsuc, ◌&&◌, Bool, true, false, List, [], ◌∷◌, Option, None, Some, codes, int_le}

@@ -1,4 +1,4 @@
--- The texts of batches that are read so far (own): with single spaces as shown, a name of one to eight
+-- The texts of batches that are read (own): with single spaces as shown, a name of one to eight
 -- letters a to z, and numbers of one to nine digits.
 --
 --     SELECT number

@@ -1,6 +1,5 @@
--- What a list of changes comes to: the last change at each key, in order of table and key. So far
--- every change is an insertion; with erasures an absence whose first change was an insertion is left
--- out, and the lists say of each change what was done.
+-- What a list of changes, each an insertion, comes to: the last change at each key, in order of table
+-- and key.
 use Rattle.std.specs.Prelude.{List, [], ◌∷◌, fold}
 use Rattle.std.specs.declared.cmp.Ordering.{Ordering}
 use Rattle.std.specs.declared.cmp.Ordering.TheVariants.{Less, Equal, Greater}

@@ -1,4 +1,4 @@
--- Own: one step of the engine, as a relation by cases on plain lists, one case for each rule. So far one
+-- Own: one step of the engine, as a relation by cases on plain lists, one case for each rule. One
 -- session steps at a time and there are no locks. The engine has sorted vectors, and changes them in place.
 use Rattle.std.specs.Prelude.{◌≡◌, ℕ, ◌+◌, ◌==◌, ◌&&◌, ◌||◌, not, Bool, true, List, [], ◌∷◌, ◌++◌, map, filter, length, Option, None, Some, IsSome, is_some, if◌then◌else◌}
 use Rattle.std.specs.List.{filter_map, find, list_any, list_all}
@@ -187,7 +187,7 @@ Step old session op manner reply new = ⊥
 abbrev pub opening : Engine
 opening = record { entries = []; active = []; log = [] }
 
--- an operation may be asked by a session; so far, only while no other one has a transaction open
+-- an operation may be asked by a session while no other one has a transaction open
 abbrev pub MayStep : Engine → ℕ → Op → Manner → Type 0
 MayStep engine session op manner = IsSession session × (is_alone session engine.active ≡ true)
     × MayAsk (is_open session engine.active) (marks_of session engine.active) op manner

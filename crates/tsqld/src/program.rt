@@ -24,7 +24,7 @@ pub(crate) const NO_MEMORY: u8 = 6;
 /// The session that `pipe` serves.
 const SESSION: u32 = 1;
 
-/// Does all that the program does, for the words after its name. So far they are `pipe`,
+/// Does all that the program does, for the words after its name. They are `pipe`,
 /// `pipe --user U --password P` and `pipe --bare`, which serve one connection of session 1 over an engine
 /// of its own; all other words are no command. The first two ask the client to log in, as user `sa` with
 /// the password `A`, or as U with P; with the last it is logged in from the beginning.
