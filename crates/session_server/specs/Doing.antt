@@ -51,7 +51,8 @@ Held (asks op go) p (x ∷ later) result new = (x.op ≡ op) × (x.manner ≡ p.
 Held (room go) p exchanges result new = (enough : Bool) × Held (go enough) p exchanges result new
 Held never p exchanges result new = ⊥
 
--- they are a front of it, where it was left with this progress
+-- they are a front of it, where it was left with this progress; it may be left where it is over, too, and
+-- behind a reply that does not come
 unfoldable pub Left : {A : Type 0} → Doing A → Progress → List Exchange → Progress → Type 0
 Left (over a) p exchanges new = (exchanges ≡ []) × (new ≡ p)
 Left (reads look) p exchanges new = Left (look p) p exchanges new

@@ -27,16 +27,13 @@ use Rattle.session_server.specs.declared.form.Form.{Form}
 use Rattle.session_server.specs.declared.form.Form.TheVariants.{SelectNumber, CreateTable, Insert, SelectTable, Unread}
 use Rattle.session_server.specs.Progress.{begins, counts, sends}
 use Rattle.session_server.specs.Doing.{Doing, over, reads, makes, asks, room, never, ◌then◌, ◌gives◌}
-use Rattle.session_server.specs.Response.{effect_tokens, failure_tokens, batch_done}
+use Rattle.session_server.specs.Response.{duplicate_key, effect_tokens, failure_tokens, batch_done}
 use Rattle.session_server.specs.Tables.{table_of, objects_name, is_objects, is_definition, object_key, object_row, table_key, table_row, row_fits}
 
--- ---- the numbers of the errors
+-- ---- the numbers of the errors; that of a key which is there stands with its text, in Response
 
 abbrev pub unknown_table : ℕ
 unknown_table = 208
-
-abbrev pub duplicate_key : ℕ
-duplicate_key = 2627
 
 abbrev pub object_present : ℕ
 object_present = 2714

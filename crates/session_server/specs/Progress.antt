@@ -1,5 +1,5 @@
--- Own: how far a session has come, and the named steps by which alone that changes. The code has it as a
--- struct whose methods are the steps.
+-- Own: how far a session has come, and the named steps and the exchanges by which alone that changes. The
+-- code has it as a struct, with a method for each step.
 use Rattle.std.specs.Prelude.{◌≡◌, ℕ, ◌-◌, Bool, true, false, List, [], ◌∷◌, ◌++◌, pos}
 use Rattle.step_model.specs.declared.manner.Manner.{Manner}
 use Rattle.step_model.specs.declared.manner.Patience.TheVariants.{Forever}

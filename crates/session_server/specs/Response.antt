@@ -1,5 +1,6 @@
 -- What a client is sent ([MS-TDS] 2.2.7): the tokens of a statement, by what came of it, and the responses
--- to messages. Number, class and text of an error are those of the table of errors.
+-- to messages. Number, class and text of an error are those of the table of errors; 49099, which it does
+-- not have, says that a text is not built.
 use Rattle.std.specs.Prelude.{ℕ, ℤ, pos, ◌+◌, ◌==◌, if◌then◌else◌, List, [], ◌∷◌, ◌++◌, map, length, take, Option, None, Some, codes}
 use Rattle.value_types.specs.declared.sql_type.SqlType.TheVariants.{Int}
 use Rattle.value_types.specs.declared.value.Value.{Value}
@@ -10,7 +11,7 @@ use Rattle.error_table.specs.Table.{ErrorLine, row_of}
 use Rattle.error_table.specs.Text.{text_with}
 use Rattle.step_model.specs.Ranges.{Rows}
 use Rattle.tds_tokens.specs.declared.columns.ColumnInfo.{ColumnInfo}
-use Rattle.tds_tokens.specs.Numbers.{done_final, done_more, done_error, done_count, done_attn, command_none, command_select, command_insert}
+use Rattle.tds_tokens.specs.Numbers.{text_limit, done_final, done_more, done_error, done_count, done_attn, command_none, command_select, command_insert}
 use Rattle.tds_tokens.specs.declared.token.DoneKind.TheVariants.{Done}
 use Rattle.tds_tokens.specs.declared.token.Token.{Token}
 use Rattle.tds_tokens.specs.declared.token.Token.TheVariants.{Error, Columns, Row, Finished}
@@ -35,7 +36,7 @@ message_of None name = codes "Not built."
 
 -- ERROR with state 1, line 1 and no procedure; at most 2,000 units of its text are sent
 abbrev pub error_of : ℤ → Option ErrorLine → List ℕ → Token
-error_of number line name = Error (record { number = number; state = 1; class = class_of line; text = take 2000 (message_of line name); procedure = []; line = pos 1 })
+error_of number line name = Error (record { number = number; state = 1; class = class_of line; text = take text_limit (message_of line name); procedure = []; line = pos 1 })
 
 abbrev pub error_token : ℕ → List ℕ → Token
 error_token number name = error_of (pos number) (row_of (pos number)) name
@@ -47,9 +48,13 @@ name_in (Insert name key value) = name
 name_in (SelectTable name) = name
 name_in statement = []
 
+-- the number of the error where a row stands at the key
+abbrev pub duplicate_key : ℕ
+duplicate_key = 2627
+
 -- what an error of a statement names: the table, or the constraint of its key
 abbrev pub subject_of : Form → ℕ → List ℕ
-subject_of statement number = if number == 2627 then codes "PK_" ++ name_in statement else name_in statement
+subject_of statement number = if number == duplicate_key then codes "PK_" ++ name_in statement else name_in statement
 
 -- ---- DONE tokens ([MS-TDS] 2.2.7.6)
 

@@ -9,9 +9,10 @@ ghost use Rattle.step_model.specs.declared.range.Start.TheVariants.{At};
 ghost use Rattle.step_model.specs.declared.range.Stop.TheVariants.{Within};
 ghost use Rattle.step_model.specs.Ranges.{rows_of};
 ghost use Rattle.session_server.specs.Doing.{Does, asks, over, ◌gives◌};
-ghost use Rattle.session_server.specs.Meaning.{object_present, duplicate_key, known, look_up, reads_rows, placed, marked, puts, creates, inserts, selects, work_of, relaxes, closes, own, unless_objects, came_of, ended_by, acted, finished, means, each_of, batch};
+ghost use Rattle.session_server.specs.Meaning.{object_present, known, look_up, reads_rows, placed, marked, puts, creates, inserts, selects, work_of, relaxes, closes, own, unless_objects, came_of, ended_by, acted, finished, means, each_of, batch};
 ghost use Rattle.session_server.specs.Parts.{AreTableRows, IsSendable, IsSmallForm};
 ghost use Rattle.session_server.specs.Progress.{Ready};
+ghost use Rattle.session_server.specs.Response.{duplicate_key};
 ghost use Rattle.session_server.specs.Tables.{table_of, objects_name, object_key, object_row, table_key, table_row, row_fits};
 
 use crate::asking::{ask, read_rows, roll_back_open};
@@ -428,7 +429,7 @@ fn look_for_triggers<P: Port>(
     }
 }
 
-/// Reads all rows of a table.
+/// Reads the rows of the table of this name, each row's lock alone.
 fn read_table<P: Port>(
     alloc: Global,
     session: &mut Session,
@@ -448,7 +449,7 @@ fn read_table<P: Port>(
     }
 }
 
-/// Reads all rows of a table.
+/// Reads all rows of a table, which are touched then.
 fn read<P: Port>(
     alloc: Global,
     session: &mut Session,

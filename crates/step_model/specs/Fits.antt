@@ -1,7 +1,7 @@
 -- What the exchanges of one session say of the log of commits. `begin` is the log at entry, where the
--- session has no transaction open, `log` the log now, and `mine` has the session's exchanges in order,
--- without those that were told to wait. Each clause stands by itself and speaks of whole databases;
--- the engine's entries occur nowhere here. Which replies may come to an operation is said elsewhere.
+-- session has no transaction open, `log` the log now, and `mine` has the session's exchanges in order.
+-- Each clause stands by itself and speaks of whole databases; the engine's entries occur nowhere here.
+-- Which replies may come to an operation is said elsewhere.
 use Rattle.std.specs.Prelude.{◌≡◌, ℕ, ◌<◌, ◌≤◌, ◌==◌, List, [], ◌∷◌, ◌++◌, length, drop, map, All, None, Some, IsTrue, IsSome, slice_get}
 use Rattle.std.specs.declared.cmp.Ordering.TheVariants.{Less}
 use Rattle.std.specs.List.{flat_map, filter}
@@ -125,7 +125,7 @@ commits_of own (exchange ∷ later) = committed_by exchange.op exchange.reply ow
 
 -- a commit that changed something is in the log at its place, and what comes later is behind it
 abbrev pub IsLoggedAt : ℕ → List Logged → List (List Change) → Reply → List Exchange → Type 0
-IsLoggedAt session log (changes ∷ none) (Ended place) later =
+IsLoggedAt session log (changes ∷ others) (Ended place) later =
     (slice_get log place ≡ Some (record { session = session; changes = changes })) × All (λ number. place < number) (all_numbers later)
 IsLoggedAt session log commits reply later = Unit {0}
 

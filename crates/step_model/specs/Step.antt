@@ -1,5 +1,6 @@
 -- Own: one step of the engine, as a relation by cases on plain lists, one case for each rule. One
 -- session steps at a time and there are no locks. The engine has sorted vectors, and changes them in place.
+-- Hold, part and manner are carried, and change nothing while no other session is there.
 use Rattle.std.specs.Prelude.{◌≡◌, ℕ, ◌+◌, ◌==◌, ◌&&◌, ◌||◌, not, Bool, true, List, [], ◌∷◌, ◌++◌, map, filter, length, Option, None, Some, IsSome, is_some, if◌then◌else◌}
 use Rattle.std.specs.List.{filter_map, find, list_any, list_all}
 use Rattle.std.specs.Option.{option_and_then}

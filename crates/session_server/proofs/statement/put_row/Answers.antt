@@ -4,7 +4,8 @@ use Rattle.value_types.specs.declared.table_name.TableName.{TableName}
 use Rattle.value_types.specs.declared.key.Key.{Key}
 use Rattle.value_types.specs.declared.row.Row.{Row}
 use Rattle.session_server.specs.Doing.{Does, asks}
-use Rattle.session_server.specs.Meaning.{duplicate_key, placed, marked, puts}
+use Rattle.session_server.specs.Meaning.{placed, marked, puts}
+use Rattle.session_server.specs.Response.{duplicate_key}
 use Rattle.session_server.proofs.Composed.{does_over, does_room}
 use Rattle.session_server.proofs.statement.put_row.Goals as goal
 
