@@ -3,5 +3,3 @@ pub mod Instance
 pub mod Readings
 pub mod Rows
 pub mod Spellings
-pub mod Picks
-pub mod Counted

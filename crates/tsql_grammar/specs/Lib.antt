@@ -6,5 +6,3 @@ pub mod Kinds  -- all kinds, in one order
 pub mod Noted  -- what is judged of a text that reads
 pub mod Lookahead  -- what one lexeme ahead tells of each rule
 pub mod Language  -- all of it, put together
--- cited by private contracts alone
-pub mod Stack  -- what is expected in a rule's place

@@ -7,21 +7,12 @@
 //! pieces of its productions, and reading by descent gives its tree; and on [`kind_of`], which says
 //! what a lexeme is to the grammar. That one lexeme ahead tells which production to take is tried for
 //! every rule and every kind of lexeme (`proofs/RuleTests.antt`).
-//!
-//! `table.rt` and `open.rt` have the productions in the code, by their symbols alone, and `choice.rt`
-//! picks the one that a lexeme chooses; `proofs/Picks.antt` says that it is the grammar's.
 #![tactic(auto)]
 
-mod choice;
-mod first;
 mod kind;
 mod laws;
 mod noted;
-mod open;
-mod place;
 mod rule;
-mod symbol;
-mod table;
 mod words;
 
 pub use kind::{Function, Kind, Reserved, Word};

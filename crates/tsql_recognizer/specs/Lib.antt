@@ -1,0 +1,1 @@
+pub mod Stack  -- what is expected in a rule's place
