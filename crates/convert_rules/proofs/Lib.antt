@@ -1,0 +1,4 @@
+mod Digits
+mod Known
+mod Rows
+mod Table
