@@ -1,5 +1,5 @@
 -- How far the recognizer came in a whole list of lexemes.
-use Rattle.std.specs.Prelude.{◌≡◌, ℕ, suc, ◌+◌, ◌<◌, ◌≤◌, ◌^◌, true, false, List, [], ◌∷◌, ◌++◌, take, drop, length, refl}
+use Rattle.std.specs.Prelude.{◌≡◌, ℕ, suc, ◌+◌, ◌<◌, ◌^◌, true, false, List, [], ◌∷◌, ◌++◌, take, drop, length, refl}
 use Rattle.std.proofs.Common.{arith, append_assoc, append-nil, ap, sym, ◌∙◌, subst}
 use Rattle.std.proofs.lemmas.List.{length-append}
 use Rattle.tsql_lexer.specs.declared.lexeme.Spanned.{Spanned}
@@ -81,10 +81,13 @@ module _ (a : Rule) (w : List Terminal) (s0 : Noted) where
   -- the end was reached, and the whole is a text
   pub reached_all : (is : Symbols) (n m : Notes) → Reached is [] n → Goes (FinishedAs is true) n m → IsVerdict a w s0 (Reads m.fault)
   reached_all is n m x g =
-      let y = g x.names x.named in
-      (seen m y.0, refl, λ text.
-        let f = y.2 text (rule a ∷ []) s0 x.past (x.expects text) in
-        subst (λ (z : List Terminal). (tree : Tree a) × ReadsAs text a z tree s0 (seen m y.0)) (sym (append-nil x.past) ∙ x.whole) (f.1.0, (f.0, f.2)))
+      let y = g x.names x.named in (
+        seen m y.0,
+        refl,
+        λ text.
+            let f = y.2 text (rule a ∷ []) s0 x.past (x.expects text) in
+            subst (λ (z : List Terminal). (tree : Tree a) × ReadsAs text a z tree s0 (seen m y.0)) (sym (append-nil x.past) ∙ x.whole) (f.1.0, (f.0, f.2)),
+      )
 
   pub reached_end : (is : Symbols) (n m : Notes) (at : ℕ) → Reached is [] n → Goes (FinishedAs is false) n m → at ≡ length w → IsVerdict a w s0 (Stops at)
   reached_end is n m at x g e =

@@ -1,13 +1,13 @@
 -- How many symbols are taken off the stack before a lexeme is: a rule weighs more than all that may
 -- stand in its place before the first lexeme.
-use Rattle.std.specs.Prelude.{◌≡◌, ℕ, zero, suc, ◌+◌, ◌*◌, ◌<◌, ◌≤◌, max, Bool, true, false, ◌&&◌, ◌||◌, not, nat_lt, List, [], ◌∷◌, ◌++◌, length, Option, Some, None, refl}
-use Rattle.std.proofs.Common.{arith, ap, sym, subst, ◌∙◌}
+use Rattle.std.specs.Prelude.{◌≡◌, ℕ, zero, suc, ◌+◌, ◌*◌, ◌<◌, ◌≤◌, max, Bool, true, false, ◌&&◌, nat_lt, List, [], ◌∷◌, ◌++◌, length, Some, None, refl}
+use Rattle.std.proofs.Common.{arith}
 use Rattle.std.proofs.lemmas.Bool.Decides.{nat_tests}
 use Rattle.std.proofs.lemmas.Nat.{mul-le}
 use Rattle.tsql_grammar.specs.declared.kind.Function.TheVariants as f
 use Rattle.tsql_grammar.specs.declared.rule.Rule.{Rule}
 use Rattle.tsql_grammar.specs.declared.rule.Rule.TheVariants as r
-use Rattle.tsql_grammar.specs.Language.{language, top}
+use Rattle.tsql_grammar.specs.Language.{language}
 use Rattle.tsql_grammar.specs.Lookahead.{nullable}
 use Rattle.tsql_grammar.specs.Productions.{Symbols, Production, productions}
 use Rattle.tsql_grammar.proofs.Instance.{rank, ranked}

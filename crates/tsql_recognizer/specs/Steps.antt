@@ -1,5 +1,5 @@
 -- Own: what each step of the recognizer means for every text that goes on as what is read does.
-use Rattle.std.specs.Prelude.{◌≡◌, ℕ, Bool, true, false, List, [], ◌∷◌, ◌++◌}
+use Rattle.std.specs.Prelude.{ℕ, Bool, true, false, List, [], ◌∷◌, ◌++◌}
 use Rattle.tsql_grammar.specs.Language.{language}
 use Rattle.tsql_grammar.specs.Noted.{Noted}
 use Rattle.tsql_grammar.specs.Productions.{Symbols}

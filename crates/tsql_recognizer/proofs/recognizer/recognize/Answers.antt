@@ -1,4 +1,4 @@
-use Rattle.std.proofs.Common.{◌≡◌, ℕ, ◌+◌, ◌∷◌, ◌++◌, List, [], length, if◌then◌else◌, arith, ap, sym, ◌∙◌, subst, refl}
+use Rattle.std.proofs.Common.{◌≡◌, ◌+◌, ◌∷◌, ◌++◌, List, [], length, if◌then◌else◌, arith, ap, sym, ◌∙◌, subst, refl}
 use Rattle.tsql_lexer.specs.declared.lexeme.Spanned.{Spanned}
 use Rattle.tsql_grammar.specs.declared.rule.Rule.{Rule}
 use Rattle.tsql_grammar.specs.Noted.{Noted, start}

@@ -16,7 +16,7 @@ returns-in_ok-insert-clause-means c names h = (
   c.args.self.now.last.now ∷ names,
   has_more c.args.self.now.declared c.insert.new.self c.args.self.now.last names h (c.in_ok-insert.ensures.updates.0),
   declared_first c.args.self.now c.insert.new.self names (elim c.else-self.branch [
-    else-self-via-then-self+else-contains w ↦ not_second _ _ (sym (h c.args.self.now.last) ∙ sym w.contains.ensures ∙ w.if-contains.false)
+    | else-self-via-then-self+else-contains w ↦ not_second _ _ (sym (h c.args.self.now.last) ∙ sym w.contains.ensures ∙ w.if-contains.false)
     | else-self-via-else-self w ↦ none_of _ _ w.if-self.false
   ]),
 )

@@ -16,7 +16,7 @@ returns-else-self-clause-means c names h = (
   names,
   h,
   used_well c.args.self.now names (elim c.else-self.branch [
-    else-self-via-then-self+else-not-contains w ↦ none_not _ _ (sym (h c.args.self.now.last) ∙ sym w.contains.ensures ∙ w.if-not-contains.false)
+    | else-self-via-then-self+else-not-contains w ↦ none_not _ _ (sym (h c.args.self.now.last) ∙ sym w.contains.ensures ∙ w.if-not-contains.false)
     | else-self-via-else-self w ↦ none_of _ _ w.if-self.false
   ]),
 )
