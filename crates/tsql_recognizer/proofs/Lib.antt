@@ -1,2 +1,7 @@
 pub mod Picks
 pub mod Counted
+pub mod Weights
+pub mod Steps
+pub mod Noting
+pub mod Feeding
+pub mod Reached

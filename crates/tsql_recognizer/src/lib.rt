@@ -1,12 +1,22 @@
 //! Whether a text is of the grammar of Transact-SQL, and where it stops if it is not.
 //!
+//! Read `specs/Verdict.antt` first: what [`recognize`] says of a text. The layer above relies on
+//! exactly that: the longest part that begins a text of the rule, or that the whole is one, and the
+//! first thing in it that is wrong although it reads. Nothing is asked of the caller. A text is read
+//! with a stack and no recursion, whatever its nesting. That long texts are read in a time that grows
+//! with their length is not proved.
+//!
 //! `table.rt` and `open.rt` have the productions in the code, by their symbols alone, and `choice.rt`
 //! picks the one that a lexeme chooses; `proofs/Picks.antt` says that it is the grammar's.
 #![tactic(auto)]
 
 mod choice;
 mod first;
+mod notes;
 mod open;
 mod place;
+mod recognizer;
 mod symbol;
 mod table;
+
+pub use recognizer::{Verdict, recognize};
