@@ -1,4 +1,4 @@
-//! Tests of the lexemes of a text: a table of texts, and hostile texts of 1 MiB.
+//! Tests of texts: their lexemes, by a table and by hostile texts of 1 MiB, and whether they read.
 #![tactic(auto)]
 
 #[cfg(test)]
@@ -7,6 +7,8 @@ mod described;
 mod hostile;
 #[cfg(test)]
 mod table;
+#[cfg(test)]
+mod verdicts;
 
 /// The crate has tests alone.
 pub fn nothing() {}

@@ -1,0 +1,86 @@
+//! Texts as batches: whether each reads, what is wrong in it then, or where it stops.
+
+use crate::described::{read, units_of};
+use std::alloc::{AllocError, Global};
+use std::process::Abort;
+use std::test::*;
+use tsql_grammar::Rule;
+use tsql_recognizer::recognize;
+use value_types::Units;
+
+/// In each line a text and what is said of it, with a tab between. Lexemes are counted from 0.
+static TABLE: &str = "\tReads(None)
+;;\tReads(None)
+SELECT 1\tReads(None)
+SELECT (1) + 2 WHERE ((1) = 1)\tReads(None)
+INSERT t VALUES (1, 2), (3, 4)\tReads(None)
+EXEC p @a = 1\tReads(None)
+SELECT FROM t\tStops(1)
+SELECT 1,\tStops(3)
+SELECT 1 UNION SELECT 2\tStops(2)
+SELECT * FROM t RIGHT JOIN u ON 1 = 1\tStops(4)
+CREATE TABLE t (k INT PRIMARY KEY,)\tStops(9)
+; CREATE PROCEDURE p AS SELECT 1\tStops(2)
+SELECT @a = 1, k\tStops(5)
+SELECT k, @a = 1\tStops(4)
+SELECT @a, k\tReads(Some((NotDeclared, 1)))
+DECLARE @a INT = @a\tReads(None)
+DECLARE @a INT, @A INT\tReads(None)
+DECLARE @a INT, @a INT\tReads(Some((DeclaredTwice, 4)))
+SELECT @a; DECLARE @a INT, @a INT\tReads(Some((NotDeclared, 1)))
+SELECT @a FROM\tStops(3)
+BREAK\tStops(0)
+WHILE 1 = 1 BREAK\tReads(None)
+THROW\tStops(1)
+BEGIN TRY END TRY BEGIN CATCH THROW END CATCH\tReads(None)
+IF 1 = 1 SELECT 1 ; ELSE SELECT 2\tReads(None)
+IF 1 = 1 SELECT 1 ; ; ELSE SELECT 2\tStops(8)
+IF 1 = 1 IF 2 = 2 SELECT 1 ELSE SELECT 2 ELSE SELECT 3\tReads(None)
+IF 1 = 1 SELECT 1 ELSE SELECT 2 ELSE SELECT 3\tStops(9)
+SELECT 1 ELSE SELECT 2\tStops(2)
+SELECT 1 ; ELSE SELECT 2\tStops(3)";
+
+/// What is said of a text as a batch.
+fn said_of(rt: &impl Abort, alloc: Global, text: &Units) -> Result<String, Fail> {
+    let lexing = read(rt, alloc, text)?;
+    let verdict = recognize(alloc, Rule::Batch, lexing.lexemes.as_slice(), true)?;
+    Ok(format!(in alloc; "{verdict:?}")?)
+}
+
+#[test]
+fn texts_read_or_stop_so(rt: HostRuntime) -> Result<(), Fail> {
+    let alloc = rt.alloc();
+    for line in TABLE.lines() {
+        if let Some((text, verdict)) = line.split_once('\t') {
+            let said = said_of(&rt, alloc, &units_of(alloc, text)?)?;
+            assert_eq!(rt; said.as_str(), verdict);
+        }
+    }
+    Ok(())
+}
+
+/// `SELECT`, so many open parentheses, 1, and so many closed ones.
+fn nested(alloc: Global, open: u32, closed: u32) -> Result<Units, AllocError> {
+    let mut text = String::new(alloc);
+    text.push_str("SELECT ")?;
+    for _ in 0..open {
+        text.push('(')?;
+    }
+    text.push('1')?;
+    for _ in 0..closed {
+        text.push(')')?;
+    }
+    units_of(alloc, text.as_str())
+}
+
+#[test]
+fn parentheses_nest_128_deep(rt: HostRuntime) -> Result<(), Fail> {
+    let alloc = rt.alloc();
+    let said = said_of(&rt, alloc, &nested(alloc, 128, 128)?)?;
+    assert_eq!(rt; said.as_str(), "Reads(None)");
+    let said = said_of(&rt, alloc, &nested(alloc, 129, 129)?)?;
+    assert_eq!(rt; said.as_str(), "Reads(Some((TooDeep, 129)))");
+    let said = said_of(&rt, alloc, &nested(alloc, 200_000, 0)?)?;
+    assert_eq!(rt; said.as_str(), "Stops(200002)");
+    Ok(())
+}
