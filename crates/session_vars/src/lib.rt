@@ -1,8 +1,8 @@
 //! The variables of a batch, procedure or trigger: names, types and values, by place and by name.
 //!
 //! `specs/Variables.antt` says how they are seen: as the list of [`Variable`]s in the order in which
-//! they were declared. The layers above rely on each call being exact on that list, and on a name
-//! standing at one place at most. They ask that a place is one of the list, that a value is NULL or
+//! they were declared. The layers above rely on each call being exact on that list, and on a name that
+//! is there being refused. They ask that a place is one of the list, that a value is NULL or
 //! one of its variable's type, and that there are fewer than 65535 variables before another is
 //! declared. Only tests show that want of memory is not answered where there is memory.
 #![tactic(auto)]

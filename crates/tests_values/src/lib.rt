@@ -1,8 +1,10 @@
-//! Tests of conversions, with ample memory. What they answer is proved; that they answer is shown here.
+//! Tests of conversions and variables, with ample memory. What they answer is proved; that they answer is shown here.
 #![tactic(auto)]
 
 #[cfg(test)]
 mod conversions;
+#[cfg(test)]
+mod variables;
 
 /// The crate has tests alone.
 pub fn nothing() {}
