@@ -1,8 +1,10 @@
-//! Tests of conversions and variables, with ample memory. What they answer is proved; that they answer is shown here.
+//! Tests of conversions, variables and transaction states, with ample memory. What they answer is proved; that they answer is shown here.
 #![tactic(auto)]
 
 #[cfg(test)]
 mod conversions;
+#[cfg(test)]
+mod transactions;
 #[cfg(test)]
 mod variables;
 
