@@ -19,7 +19,7 @@ module _ {Lexeme Class Rule Mark State : Type 0} (g : Grammar Lexeme Class Rule 
   abbrev both : (x y : Symbols) → Vs x → Vs y → Vs (x ++ y)
   both = join Lexeme g.Tree
 
-  begins_so : IsPredictive g a → (h : ℕ) (is : Symbols) (l : Lexeme) (w : List Lexeme) (vs : Vs is) (s t : State) → Derives g h is (l ∷ w) vs s t → begins g a is l ≡ true
+  pub begins_so : IsPredictive g a → (h : ℕ) (is : Symbols) (l : Lexeme) (w : List Lexeme) (vs : Vs is) (s t : State) → Derives g h is (l ∷ w) vs s t → begins g a is l ≡ true
   begins_so c h [] l w vs s t d = absurd d
   begins_so c zero (i ∷ is) l w vs s t d = absurd d
   begins_so c (suc h) (lexeme x ∷ is) l w vs s t d = d.0

@@ -161,6 +161,14 @@ module _ {Lexeme Class Rule Mark State : Type 0} (g : Grammar Lexeme Class Rule 
   EachRule P (mark m ∷ is) = EachRule P is
   EachRule P (rule r ∷ is) = P r × EachRule P is
 
+  -- what is true of the pieces of such rules alone
+  pub lift_each : (P : Rule → Type 0) (one two : OfRule g) → ((r : Rule) (w : List Lexeme) (v : g.Tree r) (s t : State) → P r → one r w v s t → two r w v s t)
+      → (is : Symbols) (w : List Lexeme) (vs : Vs is) (s t : State) → EachRule P is → OfSymbols g one is w vs s t → OfSymbols g two is w vs s t
+  lift_each P one two f [] w vs s t y d = d
+  lift_each P one two f (lexeme c ∷ is) w vs s t y (u, e, k, d) = (u, e, k, lift_each P one two f is u vs.1 (g.see s vs.0) t y d)
+  lift_each P one two f (mark m ∷ is) w vs s t y d = lift_each P one two f is w vs (g.note s m) t y d
+  lift_each P one two f (rule r ∷ is) w vs s t y (u, v, m, e, o, d) = (u, v, m, e, f r u vs.0 s m y.0 o, lift_each P one two f is v vs.1 m t y.1 d)
+
   -- A set of rules that is closed under productions, none of which is ever disallowed.
   pub record IsFree (P : Rule → Type 0) : Type 0 where
     pub closed : (r : Rule) (p : g.Production r) → P r → EachRule P (g.symbols r p)

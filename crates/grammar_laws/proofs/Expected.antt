@@ -21,7 +21,7 @@ module _ {Lexeme Class Rule Mark State : Type 0} (g : Grammar Lexeme Class Rule 
   Vs = Trees Lexeme g.Tree
 
   -- a text of a production that is allowed is one of its rule
-  restored : (r : Rule) (p : g.Production r) (is : Symbols) (w : List Lexeme) (s t : State) → g.allows r p (next w) ≡ true → Matches g (g.symbols r p ++ is) w s t → Matches g (rule r ∷ is) w s t
+  pub restored : (r : Rule) (p : g.Production r) (is : Symbols) (w : List Lexeme) (s t : State) → g.allows r p (next w) ≡ true → Matches g (g.symbols r p ++ is) w s t → Matches g (rule r ∷ is) w s t
   restored r p is [] s t m (h, us, d) =
       let q = apart Lexeme g.Tree (g.symbols r p) is us in
       (suc h, (g.build r p q.0, q.1), (p, q.0, refl, m, subst (λ (u : Vs (g.symbols r p ++ is)). Derives g h (g.symbols r p ++ is) [] u s t) (sym q.2) d))
@@ -35,11 +35,11 @@ module _ {Lexeme Class Rule Mark State : Type 0} (g : Grammar Lexeme Class Rule 
   unnoted m is [] s t (suc h, vs, d) = (h, vs, d)
   unnoted m is (l ∷ w) s t (suc h, vs, d) = (h, vs, d)
 
-  renoted : (m : Mark) (is : Symbols) (w : List Lexeme) (s t : State) → Matches g is w (g.note s m) t → Matches g (mark m ∷ is) w s t
+  pub renoted : (m : Mark) (is : Symbols) (w : List Lexeme) (s t : State) → Matches g is w (g.note s m) t → Matches g (mark m ∷ is) w s t
   renoted m is [] s t (h, vs, d) = (suc h, vs, d)
   renoted m is (l ∷ w) s t (h, vs, d) = (suc h, vs, d)
 
-  taken : (c : Class) (is : Symbols) (l : Lexeme) (w : List Lexeme) (s t : State) → Matches g (lexeme c ∷ is) (l ∷ w) s t → (g.admits c l ≡ true) × Matches g is w (g.see s l) t
+  pub taken : (c : Class) (is : Symbols) (l : Lexeme) (w : List Lexeme) (s t : State) → Matches g (lexeme c ∷ is) (l ∷ w) s t → (g.admits c l ≡ true) × Matches g is w (g.see s l) t
   taken c is l w s t (zero, vs, d) = absurd d
   taken c is l w s t (suc h, vs, d) = (d.0, (h, vs.1, d.2))
 

@@ -41,7 +41,7 @@ abbrev pub each_index : {A : Type 0} (xs : List A) → (IndexOf xs → Bool) →
 each_index [] f = true
 each_index (x ∷ xs) f = f None && each_index xs (λ i. f (Some i))
 
-each_index_so : {A : Type 0} (xs : List A) (f : IndexOf xs → Bool) → each_index xs f ≡ true → (i : IndexOf xs) → f i ≡ true
+pub each_index_so : {A : Type 0} (xs : List A) (f : IndexOf xs → Bool) → each_index xs f ≡ true → (i : IndexOf xs) → f i ≡ true
 each_index_so [] f e i = absurd i
 each_index_so (x ∷ xs) f e None = (and_true (f None) _ e).0
 each_index_so (x ∷ xs) f e (Some i) = each_index_so xs (λ j. f (Some j)) (and_true (f None) _ e).1 i

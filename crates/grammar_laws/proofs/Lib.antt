@@ -7,4 +7,5 @@ pub mod Expected
 pub mod DescentComplete
 pub mod DescentStable
 pub mod Cuts
+pub mod Pieces
 pub mod KindTests

@@ -38,7 +38,25 @@ IF 1 = 1 SELECT 1 ; ; ELSE SELECT 2\tStops(8)
 IF 1 = 1 IF 2 = 2 SELECT 1 ELSE SELECT 2 ELSE SELECT 3\tReads(None)
 IF 1 = 1 SELECT 1 ELSE SELECT 2 ELSE SELECT 3\tStops(9)
 SELECT 1 ELSE SELECT 2\tStops(2)
-SELECT 1 ; ELSE SELECT 2\tStops(3)";
+SELECT 1 ; ELSE SELECT 2\tStops(3)
+SELECT ; ELSE SELECT 1\tStops(1)
+BEGIN ; ELSE SELECT 1 END\tStops(2)
+BEGIN TRY SELECT 1 END TRY ; ELSE\tStops(7)
+IF 1 = 1 ; ELSE SELECT 1\tStops(4)
+IF 1 = 1 SELECT 1 ; SELECT 2 ELSE SELECT 3\tStops(9)
+IF 1 = 1 SELECT 1 ELSE SELECT 2 ; ELSE SELECT 3\tStops(10)
+IF 1 = 1 BEGIN SELECT 1 ; ELSE SELECT 2 END\tStops(8)
+IF 1 = 1 IF 2 = 2 SELECT 1 ; ELSE SELECT 2 ; ELSE SELECT 3\tReads(None)
+IF ((1) = 1) SELECT 1\tReads(None)
+IF ((1 = 1)) SELECT 1\tReads(None)
+IF (SELECT 1) = 1 SELECT 2\tReads(None)
+IF ((1) + 1) * 2 NOT BETWEEN 1 AND (2) SELECT 1\tReads(None)
+IF (NOT (1 = 1) OR ((SELECT 1)) IN (1, 2)) SELECT 2\tReads(None)
+IF (EXISTS (SELECT 1) AND (1) IS NOT NULL) SELECT 1\tReads(None)
+IF (1) SELECT 1\tStops(4)
+IF ((1 = 1) = 1) SELECT 1\tStops(7)
+IF (1 = 1) + 1 = 2 SELECT 1\tStops(6)
+IF EXISTS (1) SELECT 1\tStops(3)";
 
 /// What is said of a text as a batch.
 fn said_of(rt: &impl Abort, alloc: Global, text: &Units) -> Result<String, Fail> {

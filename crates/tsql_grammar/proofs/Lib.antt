@@ -3,3 +3,14 @@ pub mod Instance
 pub mod Readings
 pub mod Rows
 pub mod Spellings
+pub mod FromOperands
+pub mod MoreOpen
+pub mod NoneOpen
+pub mod TestForms
+pub mod WithoutElse
+pub mod BasicTests
+pub mod BehindSemicolons
+pub mod SemicolonKinds
+pub mod PlainReadings
+pub mod SemicolonPlaces
+pub mod PlainTexts

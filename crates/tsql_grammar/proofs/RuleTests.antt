@@ -12,7 +12,7 @@ use Rattle.grammar_laws.proofs.KindTests.{rule_ok}
 abbrev IsOk : List ℕ → Rule → Type 0
 IsOk text a = rule_ok (language text) kinds a ≡ true
 
-abbrev around : Bool → Bool → Around
+abbrev pub around : Bool → Bool → Around
 around x y = record { in_while = x; in_catch = y }
 
 body_ok : (text : List ℕ) (x y : Bool) → IsOk text (r.Body (around x y))

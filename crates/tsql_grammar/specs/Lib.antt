@@ -6,3 +6,7 @@ pub mod Kinds  -- all kinds, in one order
 pub mod Noted  -- what is judged of a text that reads
 pub mod Lookahead  -- what one lexeme ahead tells of each rule
 pub mod Language  -- all of it, put together
+pub mod BasicTest  -- a test without connectives, as it is written
+pub mod PlainText  -- the grammar where a semicolon is a semicolon
+-- cited by private contracts alone
+pub mod WordSizes  -- the words by their size

@@ -1,11 +1,16 @@
 //! The laws of the grammar, which hold of every text and every rule.
 
-ghost use Rattle.std.specs.Prelude.{◌≡◌, ℕ, List, [], Some};
+ghost use Rattle.std.specs.Prelude.{◌≡◌, ℕ, List, [], Some, false};
+ghost use Rattle.tsql_lexer.specs.declared.lexeme.Spanned.{Spanned};
+ghost use Rattle.tsql_tree.specs.declared.query.Test.{Test};
 ghost use Rattle.tsql_grammar.specs.declared.rule.Rule.{Rule as GrammarRule};
-ghost use Rattle.tsql_grammar.specs.Language.{ReadsAs, IsCut, read_rule};
+ghost use Rattle.tsql_grammar.specs.declared.rule.Rule.TheVariants.{Basic};
+ghost use Rattle.tsql_grammar.specs.BasicTest.{IsWritten, basic};
+ghost use Rattle.tsql_grammar.specs.Language.{ReadsAs, IsCut, StopsIn, read_rule};
 ghost use Rattle.tsql_grammar.specs.Noted.{Noted};
+ghost use Rattle.tsql_grammar.specs.PlainText.{ReadsPlain, PlainStopsIn, may_end_before_else};
 ghost use Rattle.tsql_grammar.specs.Productions.{Tree};
-ghost use Rattle.tsql_grammar.specs.Terminals.{Terminal};
+ghost use Rattle.tsql_grammar.specs.Terminals.{Terminal, terminals};
 
 /// No text stands for two trees, nor are two things noted of it.
 pub fn law_one_reading()
@@ -20,4 +25,24 @@ pub fn law_pieces()
 /// Reading by descent gives the tree of each text that reads, and leaves nothing.
 pub fn law_descent()
     ensures { (text : List ℕ) (a : GrammarRule) (w : List Terminal) (x : Tree a) (s t : Noted) → ReadsAs text a w x s t → read_rule text a w ≡ Some (x, []) }
+{}
+
+/// A test without connectives is what it is written as: the parentheses that the table counts are those
+/// of a test or of an expression.
+pub fn law_basic()
+    ensures reads_as_written { (text : List ℕ) (w : List Terminal) (x : Test) (s t : Noted) → ReadsAs text Basic w x s t → IsWritten text basic w x s t }
+    ensures written_reads { (text : List ℕ) (w : List Terminal) (x : Test) (s t : Noted) → IsWritten text basic w x s t → ReadsAs text Basic w x s t }
+{}
+
+/// The kind of a semicolon that stands before ELSE changes no reading: the lexemes read by it where they
+/// read as they are, with the same tree and the same notes.
+pub fn law_plain_reads()
+    ensures kinds_read { (text : List ℕ) (a : GrammarRule) (w : List Spanned) (x : Tree a) (s t : Noted) → ReadsAs text a (terminals w) x s t → ReadsPlain text a w x s t }
+    ensures plain_reads { (text : List ℕ) (a : GrammarRule) (w : List Spanned) (x : Tree a) (s t : Noted) → ReadsPlain text a w x s t → ReadsAs text a (terminals w) x s t }
+{}
+
+/// Nor does it move a place: where the lexemes stop by it, they stop as they are. A text of the rule must
+/// not end where an ELSE could come, as one of a batch, a definition, a select, a test or an expression.
+pub fn law_plain_stops()
+    ensures { (text : List ℕ) (a : GrammarRule) (w : List Spanned) (s : Noted) (at : ℕ) → may_end_before_else a ≡ false → StopsIn text a (terminals w) s at → PlainStopsIn text a w s at }
 {}

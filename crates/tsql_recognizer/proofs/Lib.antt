@@ -1,3 +1,4 @@
+pub mod Variants
 pub mod Picks
 pub mod Counted
 pub mod Weights
@@ -5,3 +6,4 @@ pub mod Steps
 pub mod Noting
 pub mod Feeding
 pub mod Reached
+pub mod PlainVerdicts

@@ -6,7 +6,8 @@ ghost use Rattle.tsql_grammar.specs.Lookahead as look;
 ghost use Rattle.tsql_recognizer.specs.Stack.{symbol_of, expected, shown, found_symbols, first_begun, first_empty, pick, Opens};
 ghost use Rattle.tsql_grammar.specs.Terminals.{is_name, is_plain_name, admits};
 
-use crate::first::{first_classes, nullable};
+use crate::first::nullable;
+use crate::fronts::may_begin;
 use crate::place::same_kind;
 use crate::symbol::Symbol;
 use std::alloc::AllocError;
@@ -49,7 +50,7 @@ pub(crate) fn admits(class: Class, kind: Kind) -> bool
 }
 
 /// Whether the kind is of one of the classes.
-fn of_any(classes: &[Class], kind: Kind) -> bool
+pub(crate) fn of_any(classes: &[Class], kind: Kind) -> bool
     ensures { result ≡ look.of_any classes.now kind }
 {
     for class in classes {
@@ -69,7 +70,7 @@ fn begins(symbols: &[Symbol], kind: Kind) -> bool
             Symbol::Mark(_) => {}
             Symbol::Lexeme(class) => return admits(class, kind),
             Symbol::Rule(rule) => {
-                if of_any(first_classes(rule), kind) {
+                if may_begin(rule, kind) {
                     return true;
                 }
                 if !nullable(rule) {

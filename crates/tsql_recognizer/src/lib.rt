@@ -2,9 +2,10 @@
 //!
 //! Read `specs/Verdict.antt` first: what [`recognize`] says of a text. The layer above relies on
 //! exactly that: the longest part that begins a text of the rule, or that the whole is one, and the
-//! first thing in it that is wrong although it reads. Nothing is asked of the caller. A text is read
-//! with a stack and no recursion, whatever its nesting. That long texts are read in a time that grows
-//! with their length is not proved.
+//! first thing in it that is wrong although it reads; and on [`law_plain_verdict`], that this is so of
+//! the lexemes as they are, though a semicolon before ELSE is read as one of a kind of its own. Nothing
+//! is asked of the caller. A text is read with a stack and no recursion, whatever its nesting. That long
+//! texts are read in a time that grows with their length is not proved.
 //!
 //! `table.rt` and `open.rt` have the productions in the code, by their symbols alone, and `choice.rt`
 //! picks the one that a lexeme chooses; `proofs/Picks.antt` says that it is the grammar's.
@@ -12,6 +13,8 @@
 
 mod choice;
 mod first;
+mod fronts;
+mod laws;
 mod notes;
 mod open;
 mod place;
@@ -19,4 +22,5 @@ mod recognizer;
 mod symbol;
 mod table;
 
+pub use laws::law_plain_verdict;
 pub use recognizer::{Verdict, recognize};

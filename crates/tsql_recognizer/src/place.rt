@@ -1,17 +1,42 @@
 //! The places of kinds among all kinds, by which two of them are compared.
 
 ghost use Rattle.std.specs.Prelude.{◌≡◌, ◌<◌};
+ghost use Rattle.tsql_recognizer.specs.Variants.{variant_of};
 ghost use Rattle.tsql_grammar.specs.Kinds.{sign_place, option_place, function_place, word_place, reserved_place, kind_place, same_kind};
 
 use tsql_grammar::{Function, Kind, Reserved, Word};
 use tsql_lexer::Sign;
 use tsql_tree::FixedOption;
 
-/// Whether two kinds are one.
+/// Whether two kinds are one. Most are told apart by their variants.
 pub(crate) fn same_kind(one: Kind, other: Kind) -> bool
     ensures { result ≡ same_kind one other }
 {
-    kind_place(one) == kind_place(other)
+    variant_of(one) == variant_of(other) && kind_place(one) == kind_place(other)
+}
+
+/// The place of the kind's variant among all variants.
+fn variant_of(kind: Kind) -> u8
+    ensures { result ≡ variant_of kind }
+{
+    match kind {
+        Kind::Number => 0,
+        Kind::Text => 1,
+        Kind::Variable => 2,
+        Kind::Name => 3,
+        Kind::Dbo => 4,
+        Kind::OtherSystem => 5,
+        Kind::TranCount => 6,
+        Kind::Error => 7,
+        Kind::RowCount => 8,
+        Kind::FetchStatus => 9,
+        Kind::BeforeElse => 10,
+        Kind::Sign(_) => 11,
+        Kind::Fixed(_) => 12,
+        Kind::Function(_) => 13,
+        Kind::Word(_) => 14,
+        Kind::Reserved(_) => 15,
+    }
 }
 
 /// The place of the kind among all kinds.

@@ -1,0 +1,94 @@
+//! What the commonest rules begin with: expressions, their operands and their signs.
+
+ghost use Rattle.std.specs.Prelude.{◌≡◌};
+ghost use Rattle.tsql_grammar.specs.Lookahead.{first};
+ghost use Rattle.tsql_recognizer.specs.Starts as starts;
+
+use crate::choice::of_any;
+use crate::first::first_classes;
+use tsql_grammar::{Kind, Reserved, Rule};
+use tsql_lexer::Sign;
+
+/// Whether the kind may begin a text of the rule.
+pub(crate) fn may_begin(rule: Rule, kind: Kind) -> bool
+    ensures { result ≡ first rule kind }
+{
+    match rule {
+        Rule::Expr => begins_expr(kind),
+        Rule::Product => begins_expr(kind),
+        Rule::Unary => begins_expr(kind),
+        Rule::Primary => begins_primary(kind),
+        Rule::SimplePrimary => begins_simple(kind),
+        Rule::OtherPrimary => begins_other(kind),
+        Rule::AddSign => begins_add(kind),
+        Rule::MultiplySign => begins_multiply(kind),
+        Rule::CompareSign => begins_compare(kind),
+        _ => of_any(first_classes(rule), kind),
+    }
+}
+
+fn begins_expr(kind: Kind) -> bool
+    ensures { result ≡ starts.begins_expr kind }
+{
+    matches!(kind, Kind::Sign(Sign::Plus | Sign::Minus)) || begins_primary(kind)
+}
+
+fn begins_primary(kind: Kind) -> bool
+    ensures { result ≡ starts.begins_primary kind }
+{
+    matches!(kind, Kind::Sign(Sign::Open)) || begins_simple(kind)
+}
+
+fn begins_simple(kind: Kind) -> bool
+    ensures { result ≡ starts.begins_simple kind }
+{
+    matches!(
+        kind,
+        Kind::Name | Kind::Dbo | Kind::Variable | Kind::Fixed(_) | Kind::Function(_) | Kind::Word(_)
+    ) || begins_other(kind)
+}
+
+fn begins_other(kind: Kind) -> bool
+    ensures { result ≡ starts.begins_other kind }
+{
+    matches!(
+        kind,
+        Kind::Number
+            | Kind::Text
+            | Kind::TranCount
+            | Kind::Error
+            | Kind::RowCount
+            | Kind::FetchStatus
+            | Kind::Reserved(
+                Reserved::Case | Reserved::Coalesce | Reserved::Null | Reserved::NullIf
+            )
+    )
+}
+
+fn begins_add(kind: Kind) -> bool
+    ensures { result ≡ starts.begins_add kind }
+{
+    matches!(kind, Kind::Sign(Sign::Plus | Sign::Minus))
+}
+
+fn begins_multiply(kind: Kind) -> bool
+    ensures { result ≡ starts.begins_multiply kind }
+{
+    matches!(kind, Kind::Sign(Sign::Star | Sign::Slash | Sign::Percent))
+}
+
+fn begins_compare(kind: Kind) -> bool
+    ensures { result ≡ starts.begins_compare kind }
+{
+    matches!(
+        kind,
+        Kind::Sign(
+            Sign::Equal
+                | Sign::NotEqual
+                | Sign::Less
+                | Sign::LessEqual
+                | Sign::Greater
+                | Sign::GreaterEqual
+        )
+    )
+}
