@@ -1,11 +1,12 @@
 -- A dialog that is being held: what is left of it, after one step more.
-use Rattle.std.proofs.Common.{◌≡◌, Bool, true, false, List, [], ◌∷◌, ◌++◌, refl, sym, ap, ◌∙◌, subst, append_assoc, append-nil}
+use Rattle.std.proofs.Common.{◌≡◌, ℕ, Bool, true, false, List, [], ◌∷◌, ◌++◌, refl, sym, ap, ◌∙◌, subst, append_assoc, append-nil}
 use Rattle.step_model.specs.declared.manner.Manner.{Manner}
 use Rattle.step_model.specs.declared.op.Op.{Op}
 use Rattle.step_model.specs.declared.op.Op.TheVariants as op
 use Rattle.step_model.specs.declared.reply.Reply.{Reply}
-use Rattle.step_model.specs.declared.reply.Reply.TheVariants.{Memory}
-use Rattle.step_model.specs.Exchange.{Exchange, PortPast, GoesOn, CanReply, in_transaction_after, open_after}
+use Rattle.step_model.specs.declared.reply.Reply.TheVariants.{Marked, Done, Ended, Memory}
+use Rattle.step_model.specs.Exchange.{Exchange, Standing, CanReply}
+use Rattle.step_model.specs.Port.{PortPast, GoesOn, standing_after, standing_from}
 use Rattle.step_model.specs.Dialog.{IsQuiet, Dialog, over, asks, room, never, tries, Held, Leads, Asks}
 use Rattle.step_model.proofs.Pasts.{goes_nowhere, goes_further}
 
@@ -45,22 +46,38 @@ module _ {A : Type 0} {before now : PortPast} {manner : Manner} {whole : Dialog 
 
 -- ---- what is open
 
-quiet_stays : (op : Op) (reply : Reply) (before : Bool) → IsQuiet op → in_transaction_after before op reply ≡ before
-quiet_stays op.Begin reply before quiet = absurd quiet
-quiet_stays op.Commit reply before quiet = absurd quiet
-quiet_stays op.Rollback reply before quiet = absurd quiet
-quiet_stays op reply before quiet = refl
+ends_none : (op : Op) (place : ℕ) → IsQuiet op → CanReply op (Ended place) → ⊥
+ends_none op.Commit place quiet can = quiet
+ends_none op.Rollback place quiet can = quiet
+ends_none op.Begin place quiet can = can
+ends_none op.Mark place quiet can = can
+ends_none op.Relax place quiet can = can
+ends_none (op.BackTo mark) place quiet can = can
+ends_none (op.Fetch table start stop hold part) place quiet can = can
+ends_none (op.Insert table key row) place quiet can = can
+ends_none (op.Replace table key row) place quiet can = can
+ends_none (op.Erase table key) place quiet can = can
+
+quiet_stays : (op : Op) (reply : Reply) (before : Standing) → IsQuiet op → CanReply op reply → (standing_after before op reply).is_open ≡ before.is_open
+quiet_stays op (Ended place) before quiet can = absurd (ends_none op place quiet can)
+quiet_stays op.Begin reply before quiet can = absurd quiet
+quiet_stays op.Mark (Marked mark) before quiet can = refl
+quiet_stays (op.BackTo mark) Done before quiet can = refl
+quiet_stays op reply before quiet can = refl
 
 -- a dialog leaves a transaction open, or none
-pub held_stays : {A : Type 0} (manner : Manner) (dialog : Dialog A) (exchanges : List Exchange) (result : A) (before : Bool) → Held manner dialog exchanges result → open_after before exchanges ≡ before
+pub held_stays : {A : Type 0} (manner : Manner) (dialog : Dialog A) (exchanges : List Exchange) (result : A) (before : Standing) → Held manner dialog exchanges result → (standing_from before exchanges).is_open ≡ before.is_open
 unfolding Held
-held_stays manner (over a) exchanges result before held = ap (λ (x : List Exchange). open_after before x) held.0
+held_stays manner (over a) exchanges result before held = ap (λ (x : List Exchange). (standing_from before x).is_open) held.0
 held_stays manner (asks op quiet go) [] result before held = absurd held
 held_stays manner (asks op quiet go) (x ∷ later) result before held =
     let same : x.op ≡ op = held.0 in
-    ap (λ (o : Op). open_after (in_transaction_after before o x.reply) later) same ∙ ap (λ (b : Bool). open_after b later) (quiet_stays op x.reply before quiet) ∙ held_stays manner (go x.reply) later result before held.3
+    ap (λ (o : Op). (standing_from (standing_after before o x.reply) later).is_open) same
+    ∙ held_stays manner (go x.reply) later result (standing_after before op x.reply) held.3
+    ∙ quiet_stays op x.reply before quiet held.2
 held_stays manner (room go) exchanges result before held = held_stays manner (go held.0) exchanges result before held.1
 held_stays manner never exchanges result before held = absurd held
 
-pub asks_stays : {before after : PortPast} {A : Type 0} {manner : Manner} {dialog : Dialog A} {result : A} → Asks before after manner dialog result → after.is_open ≡ before.is_open
-asks_stays {before = before} {manner = manner} {dialog = dialog} {result = result} was = was.past.is_open ∙ held_stays manner dialog was.exchanges result before.is_open was.held
+pub asks_stays : {before after : PortPast} {A : Type 0} {manner : Manner} {dialog : Dialog A} {result : A} → Asks before after manner dialog result → after.standing.is_open ≡ before.standing.is_open
+asks_stays {before = before} {manner = manner} {dialog = dialog} {result = result} was =
+    ap (λ (s : Standing). s.is_open) was.past.standing ∙ held_stays manner dialog was.exchanges result before.standing was.held

@@ -7,7 +7,8 @@ use Rattle.step_model.specs.declared.op.Op.{Op}
 use Rattle.step_model.specs.declared.op.Op.TheVariants.{Begin, Commit, Rollback}
 use Rattle.step_model.specs.declared.reply.Reply.{Reply}
 use Rattle.step_model.specs.declared.reply.Reply.TheVariants.{Memory}
-use Rattle.step_model.specs.Exchange.{Exchange, PortPast, GoesOn, CanReply}
+use Rattle.step_model.specs.Exchange.{Exchange, CanReply}
+use Rattle.step_model.specs.Port.{PortPast, GoesOn}
 
 -- an operation that neither begins nor ends a transaction
 abbrev pub IsQuiet : Op → Type 0

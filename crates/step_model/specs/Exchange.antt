@@ -1,13 +1,14 @@
--- Own: one operation with its reply, which replies may come to which operation, and what a transaction
--- is afterwards. It speaks of what goes through a port, and not of the engine behind it.
-use Rattle.std.specs.Prelude.{◌≡◌, ℕ, ℤ, ◌≤◌, pos, negsuc, ◌≤ℤ◌, Bool, true, false, List, [], ◌∷◌, ◌++◌, Option, None, Some, IsTrue}
+-- Own: one operation with its reply, where an operation may come, and which replies may come to it through a
+-- port. It does not speak of the engine behind that.
+use Rattle.std.specs.Prelude.{◌≡◌, ℕ, ℤ, ◌≤◌, ◌==◌, pos, negsuc, ◌≤ℤ◌, Bool, true, false, List, IsTrue}
+use Rattle.std.specs.List.{list_any}
 use Rattle.lock_modes.specs.declared.KeyPart.{KeyPart}
 use Rattle.lock_modes.specs.declared.KeyPart.TheVariants.{N, S, U, X}
 use Rattle.step_model.specs.declared.manner.Manner.{Manner}
 use Rattle.step_model.specs.declared.op.Op.{Op}
-use Rattle.step_model.specs.declared.op.Op.TheVariants.{Begin, Fetch, Insert, Mark, Relax, Commit, Rollback}
+use Rattle.step_model.specs.declared.op.Op.TheVariants.{Begin, Fetch, Insert, Replace, Erase, Mark, BackTo, Relax, Commit, Rollback}
 use Rattle.step_model.specs.declared.reply.Reply.{Reply}
-use Rattle.step_model.specs.declared.reply.Reply.TheVariants.{Began, Row, Gone, End, Done, Exists, Marked, Ended, Memory}
+use Rattle.step_model.specs.declared.reply.Reply.TheVariants.{Began, Row, Gone, End, Done, Exists, Missing, Marked, Ended, TimedOut, Memory}
 use Rattle.step_model.specs.Database.{is_within}
 
 -- an operation, the manner in which it was asked, and the reply
@@ -15,62 +16,6 @@ pub record Exchange : Type 0 where
   pub op : Op
   pub manner : Manner
   pub reply : Reply
-
--- ---- what an exchange leaves
-
--- whether a transaction is open after an operation and its reply
-abbrev pub in_transaction_after : Bool → Op → Reply → Bool
-in_transaction_after before Begin Began = true
-in_transaction_after before Commit (Ended place) = false
-in_transaction_after before Rollback (Ended place) = false
-in_transaction_after before op reply = before
-
--- the live marks after an operation and its reply
-abbrev pub marks_after : List ℕ → Op → Reply → List ℕ
-marks_after before Mark (Marked mark) = before ++ mark ∷ []
-marks_after before Begin Began = []
-marks_after before Commit (Ended place) = []
-marks_after before Rollback (Ended place) = []
-marks_after before op reply = before
-
--- whether a transaction is open after these exchanges
-abbrev pub open_after : Bool → List Exchange → Bool
-open_after before [] = before
-open_after before (exchange ∷ later) = open_after (in_transaction_after before exchange.op exchange.reply) later
-
--- the live marks after these exchanges
-abbrev pub live_after : List ℕ → List Exchange → List ℕ
-live_after before [] = before
-live_after before (exchange ∷ later) = live_after (marks_after before exchange.op exchange.reply) later
-
--- ---- what is behind a port
-
--- A port at one moment: the session for which it asks, whether a transaction of it is open, and the
--- marks in that which are live; the exchanges so far, where it tells them; and which lists of exchanges
--- may have led to it.
-pub record PortPast : Type 1 where
-  pub session : ℕ
-  pub is_open : Bool
-  pub marks : List ℕ
-  pub told : Option (List Exchange)
-  pub led_by : List Exchange → Type 0
-
--- these exchanges more are told, or none any longer, but not without any; what isn't told stays so
-abbrev pub TellsAll : Option (List Exchange) → Option (List Exchange) → List Exchange → Type 0
-TellsAll None None exchanges = Unit {0}
-TellsAll (Some before) None [] = ⊥
-TellsAll (Some before) None (exchange ∷ exchanges) = Unit {0}
-TellsAll None (Some after) exchanges = ⊥
-TellsAll (Some before) (Some after) exchanges = after ≡ before ++ exchanges
-
--- Between two moments of a port these were its exchanges: it asks for the session as before, what is open
--- is what they have left open, and they are told and have led to it.
-pub record GoesOn (before after : PortPast) (exchanges : List Exchange) : Type 0 where
-  pub session : after.session ≡ before.session
-  pub is_open : after.is_open ≡ open_after before.is_open exchanges
-  pub marks : after.marks ≡ live_after before.marks exchanges
-  pub told : TellsAll before.told after.told exchanges
-  pub led : (earlier : List Exchange) → before.led_by earlier → after.led_by (earlier ++ exchanges)
 
 -- sessions have the numbers from 1 to this one
 abbrev pub last_session : ℕ
@@ -91,41 +36,56 @@ IsPartOfFetch U = Unit {0}
 IsPartOfFetch N = ⊥
 IsPartOfFetch X = ⊥
 
--- Where an operation may come: a transaction is begun outside one, and everything else is asked inside
--- one. The live marks, here and in `MayAsk`, are used once there is an operation that goes back to one.
-abbrev pub MayCome : Bool → List ℕ → Op → Type 0
-MayCome in_transaction marks Begin = in_transaction ≡ false
-MayCome in_transaction marks (Fetch table start stop hold part) = (in_transaction ≡ true) × IsPartOfFetch part
-MayCome in_transaction marks (Insert table key row) = in_transaction ≡ true
-MayCome in_transaction marks Mark = in_transaction ≡ true
-MayCome in_transaction marks Relax = in_transaction ≡ true
-MayCome in_transaction marks Commit = in_transaction ≡ true
-MayCome in_transaction marks Rollback = in_transaction ≡ true
+-- where a session stands: whether a transaction of it is open, and the marks in that which are live
+pub record Standing : Type 0 where
+  pub is_open : Bool
+  pub marks : List ℕ
 
--- an operation may be asked in a manner: whether a transaction is open, and its live marks
-abbrev pub MayAsk : Bool → List ℕ → Op → Manner → Type 0
-MayAsk in_transaction marks op manner = MayCome in_transaction marks op × IsPriority manner.priority
+-- Where an operation may come: a transaction is begun outside one, everything else is asked inside one, and
+-- the way back goes to a live mark.
+abbrev pub MayCome : Standing → Op → Type 0
+MayCome standing Begin = standing.is_open ≡ false
+MayCome standing (Fetch table start stop hold part) = (standing.is_open ≡ true) × IsPartOfFetch part
+MayCome standing (BackTo mark) = (standing.is_open ≡ true) × IsTrue (list_any (λ live. live == mark) standing.marks)
+MayCome standing op = standing.is_open ≡ true
 
--- the operations for which memory may be wanting; Relax and the end of a transaction are not among them
+-- where a session stands so, an operation may be asked in a manner
+abbrev pub MayAsk : Standing → Op → Manner → Type 0
+MayAsk standing op manner = MayCome standing op × IsPriority manner.priority
+
+-- the operations for which memory may be wanting: all but the way back to a mark, Relax and the two ends
 abbrev pub MayLackMemory : Op → Type 0
-MayLackMemory Begin = Unit {0}
-MayLackMemory (Fetch table start stop hold part) = Unit {0}
-MayLackMemory (Insert table key row) = Unit {0}
-MayLackMemory Mark = Unit {0}
+MayLackMemory (BackTo mark) = ⊥
 MayLackMemory Relax = ⊥
 MayLackMemory Commit = ⊥
 MayLackMemory Rollback = ⊥
+MayLackMemory op = Unit {0}
 
--- The replies that may come to an operation. A key that a fetch answers is one of its range.
+-- the operations that ask for a lock
+abbrev pub AsksLock : Op → Type 0
+AsksLock (Fetch table start stop hold part) = Unit {0}
+AsksLock (Insert table key row) = Unit {0}
+AsksLock (Replace table key row) = Unit {0}
+AsksLock (Erase table key) = Unit {0}
+AsksLock op = ⊥
+
+-- The replies that may come to an operation through a port, which never answers that it is to be asked
+-- again. A key that a fetch answers is one of its range.
 abbrev pub CanReply : Op → Reply → Type 0
 CanReply op Memory = MayLackMemory op
+CanReply op (TimedOut holder held asked on) = AsksLock op
 CanReply Begin Began = Unit {0}
 CanReply (Fetch table start stop hold part) (Row key row at) = IsTrue (is_within start stop key)
 CanReply (Fetch table start stop hold part) (Gone key at) = IsTrue (is_within start stop key)
 CanReply (Fetch table start stop hold part) (End at) = Unit {0}
 CanReply (Insert table key row) Done = Unit {0}
 CanReply (Insert table key row) Exists = Unit {0}
+CanReply (Replace table key row) Done = Unit {0}
+CanReply (Replace table key row) Missing = Unit {0}
+CanReply (Erase table key) Done = Unit {0}
+CanReply (Erase table key) Missing = Unit {0}
 CanReply Mark (Marked mark) = Unit {0}
+CanReply (BackTo mark) Done = Unit {0}
 CanReply Relax Done = Unit {0}
 CanReply Commit (Ended place) = Unit {0}
 CanReply Rollback (Ended place) = Unit {0}

@@ -1,9 +1,21 @@
--- Read in this order; the last definition of a file is what the file is for.
-pub mod Database  -- In: the map from table and key to row, and changes to it
-pub mod Log  -- State: the database of a log of commits
-pub mod Exchange  -- CanReply: what goes through a port, and what is behind it
-pub mod Net  -- Net: what a list of changes comes to
-pub mod Fits  -- Fits: what a session's exchanges say of the log
-pub mod Dialog  -- Asks: what is asked within a transaction, as a tree
-pub mod Ranges  -- rows_of: how the rows of a table are fetched
-pub mod Step  -- Step, Run: one step of the engine, and many
+-- Read in this order; the comment behind a name says what the file is for.
+
+-- The database and what goes through a port
+pub mod Database  -- keys, rows, changes, and the first row of a range
+pub mod Log  -- commits, and the database after them
+pub mod Exchange  -- an operation with its reply, and which may come
+pub mod Own  -- what a transaction has changed, and where its session stands
+pub mod Net  -- what a transaction's changes come to
+pub mod Sure  -- where a row is sure
+pub mod Fits  -- what a session's exchanges say of the log
+pub mod Port  -- what is behind a port, and what has gone through it
+pub mod Dialog  -- what is asked within a transaction, as a tree
+pub mod Ranges  -- how the rows of a table are fetched
+-- The engine
+pub mod Locks  -- resources, and the locks of a session
+pub mod Entries  -- what is kept of the keys
+pub mod State  -- the engine's state
+pub mod Moves  -- what a step is made of
+pub mod Claims  -- what an operation asks to lock, and who stands in the way
+pub mod Step  -- one step
+pub mod Runs  -- steps one after another

@@ -1,209 +1,113 @@
--- Own: one step of the engine, as a relation by cases on plain lists, one case for each rule. One
--- session steps at a time and there are no locks. The engine has sorted vectors, and changes them in place.
--- Hold, part and manner are carried, and change nothing while no other session is there.
-use Rattle.std.specs.Prelude.{◌≡◌, ℕ, ◌+◌, ◌==◌, ◌&&◌, ◌||◌, not, Bool, true, List, [], ◌∷◌, ◌++◌, map, filter, length, Option, None, Some, IsSome, is_some, if◌then◌else◌}
-use Rattle.std.specs.List.{filter_map, find, list_any, list_all}
-use Rattle.std.specs.Option.{option_and_then}
-use Rattle.std.specs.declared.cmp.Ordering.{Ordering}
-use Rattle.std.specs.declared.cmp.Ordering.TheVariants.{Less, Equal, Greater}
-use Rattle.std.specs.Ordering.{is_eq, ordering_then}
+-- Own: one step of the engine, as a relation by cases on plain lists, one case for each operation. A session asks
+-- an operation; another session's lock stands in its way, and it is refused or told to wait; or it passes, and
+-- what is asked is done. No wait is kept and no victim chosen. The code does in place what is said here of whole
+-- lists.
+use Rattle.std.specs.Prelude.{◌≡◌, ℕ, ◌+◌, List, length, Option, None, Some, if◌then◌else◌}
+use Rattle.lock_modes.specs.declared.Pair.{Pair}
 use Rattle.value_types.specs.declared.table_name.TableName.{TableName}
 use Rattle.value_types.specs.declared.value.Value.{Value}
-use Rattle.value_types.specs.Order.{key_cmp, table_cmp}
-use Rattle.step_model.specs.declared.change.Change.{Change}
 use Rattle.step_model.specs.declared.manner.Manner.{Manner}
-use Rattle.step_model.specs.declared.range.Start.{Start}
+use Rattle.step_model.specs.declared.manner.Patience.{Patience}
+use Rattle.step_model.specs.declared.manner.Patience.TheVariants.{Refuse, Forever}
 use Rattle.step_model.specs.declared.range.Stop.{Stop}
 use Rattle.step_model.specs.declared.op.Op.{Op}
-use Rattle.step_model.specs.declared.op.Op.TheVariants.{Begin, Fetch, Insert, Mark, Relax, Commit, Rollback}
+use Rattle.step_model.specs.declared.op.Op.TheVariants.{Begin, Fetch, Insert, Replace, Erase, Mark, BackTo, Relax, Commit, Rollback}
 use Rattle.step_model.specs.declared.reply.Reply.{Reply}
-use Rattle.step_model.specs.declared.reply.Reply.TheVariants.{Began, Row, Gone, End, Done, Exists, Marked, Ended, Memory}
-use Rattle.step_model.specs.Database.{allows, includes}
-use Rattle.step_model.specs.Log.{Commit as LogEntry}
-use Rattle.step_model.specs.Exchange.{Exchange, IsSession, MayAsk, MayLackMemory}
+use Rattle.step_model.specs.declared.reply.Reply.TheVariants.{Began, Row, Gone, End, Done, Exists, Missing, Marked, Ended, Wait, TimedOut, Memory}
+use Rattle.step_model.specs.declared.resource.Resource.{Resource}
+use Rattle.step_model.specs.Database.{includes}
+use Rattle.step_model.specs.Exchange.{MayLackMemory}
+use Rattle.step_model.specs.Entries.{Entry, entry_at, next_entry, seen_by, row_at}
+use Rattle.step_model.specs.State.{Engine, made_by}
+use Rattle.step_model.specs.Moves.{without_wait, after_begin, with_pending, with_entry, after_mark, after_back, after_relax, after_commit, after_rollback}
+use Rattle.step_model.specs.Claims.{Claim, claim_of, write_claim, IsFoe, Passes, with_claim, new_locks, inherits}
 
--- a state that a transaction has given a key and not yet kept: a row, or its absence
-pub record Pending : Type 0 where
-  pub owner : ℕ
-  pub row : Option (List Value)
-
--- what the engine keeps of a key: a committed row or none, and a pending state or none
-pub record Entry : Type 0 where
-  pub table : TableName
-  pub key : List Value
-  pub committed : Option (List Value)
-  pub pending : Option Pending
-
--- a session that has a transaction open, how many marks that has made, and those of them that are live
-pub record Transaction : Type 0 where
-  pub session : ℕ
-  pub made : ℕ
-  pub marks : List ℕ
-
--- the engine: its entries in order of table and key, the open transactions, the log
-pub record Engine : Type 0 where
-  pub entries : List Entry
-  pub active : List Transaction
-  pub log : List LogEntry
-
--- the order of entries
-abbrev pub place_cmp : TableName → List Value → Entry → Ordering
-place_cmp table key entry = ordering_then (table_cmp table entry.table) (key_cmp key entry.key)
-
--- its own pending state, else the committed row
-abbrev pub seen_at : ℕ → Option Pending → Option (List Value) → Option (List Value)
-seen_at session None committed = committed
-seen_at session (Some pending) committed = if pending.owner == session then pending.row else committed
-
--- what a session sees at an entry
-abbrev pub seen : ℕ → Entry → Option (List Value)
-seen session entry = seen_at session entry.pending entry.committed
-
--- the entry at a key
-abbrev pub entry_at : List Entry → TableName → List Value → Option Entry
-entry_at entries table key = find (λ entry. is_eq (place_cmp table key entry)) entries
-
--- the first entry of a table at which a range may begin
-abbrev pub next_entry : List Entry → TableName → Start → Option Entry
-next_entry entries table start = find (λ entry. is_eq (table_cmp entry.table table) && allows start entry.key) entries
-
--- an entry that comes before another one, at its place or behind it
-abbrev pub put_before : Ordering → Entry → Entry → List Entry → List Entry → List Entry
-put_before Less new entry entries behind = new ∷ entry ∷ entries
-put_before Equal new entry entries behind = new ∷ entries
-put_before Greater new entry entries behind = entry ∷ behind
-
--- the entries with this one at its place
-abbrev pub put_entry : Entry → List Entry → List Entry
-put_entry new [] = new ∷ []
-put_entry new (entry ∷ entries) = put_before (place_cmp new.table new.key entry) new entry entries (put_entry new entries)
-
--- the entry of a row that a session sets at a key, where this is the entry that stands there
-abbrev pub set_by : ℕ → TableName → List Value → List Value → Option Entry → Entry
-set_by session table key row None = record { table = table; key = key; committed = None; pending = Some (record { owner = session; row = Some row }) }
-set_by session table key row (Some entry) = record entry { pending = Some (record { owner = session; row = Some row }) }
-
--- the row that a session sees at a key, if any
-abbrev pub row_at : ℕ → List Entry → TableName → List Value → Option (List Value)
-row_at session entries table key = option_and_then (seen session) (entry_at entries table key)
-
--- what a session changes at an entry: its pending state, except an absence where no row stood
-abbrev pub change_by : ℕ → Entry → Option Pending → Option Change
-change_by session entry None = None
-change_by session entry (Some pending) =
-    if pending.owner == session && (is_some pending.row || is_some entry.committed)
-    then Some (record { table = entry.table; key = entry.key; row = pending.row }) else None
-
--- what a session changes at all entries, in their order
-abbrev pub changes_by : ℕ → List Entry → List Change
-changes_by session entries = filter_map (λ entry. change_by session entry entry.pending) entries
-
--- a pending state that stays when this session's transaction ends
-abbrev pub of_others : ℕ → Option Pending → Option Pending
-of_others session None = None
-of_others session (Some pending) = if pending.owner == session then None else Some pending
-
--- the entry after a commit of the session
-abbrev pub settled : ℕ → Entry → Entry
-settled session entry = record entry { committed = seen session entry; pending = of_others session entry.pending }
-
--- the entry after a rollback of the session
-abbrev pub dropped : ℕ → Entry → Entry
-dropped session entry = record entry { pending = of_others session entry.pending }
-
--- an entry stays while it has a committed row or a pending state
-abbrev pub is_kept : Entry → Bool
-is_kept entry = is_some entry.committed || is_some entry.pending
-
--- the log after a commit: a transaction that changed nothing adds nothing
-abbrev pub log_with : List LogEntry → ℕ → List Change → List LogEntry
-log_with log session [] = log
-log_with log session (change ∷ changes) = log ++ record { session = session; changes = change ∷ changes } ∷ []
-
--- the open transactions without that of a session
-abbrev pub closed : ℕ → List Transaction → List Transaction
-closed session transactions = filter (λ transaction. not (transaction.session == session)) transactions
-
--- the open transactions, with one mark more in that of a session
-abbrev pub marked : ℕ → ℕ → List Transaction → List Transaction
-marked session mark transactions = map {A = Transaction} {B = Transaction} (λ transaction. if transaction.session == session then record transaction { made = mark; marks = transaction.marks ++ mark ∷ [] } else transaction) transactions
-
--- the live marks of a session's transaction
-abbrev pub marks_of : ℕ → List Transaction → List ℕ
-marks_of session [] = []
-marks_of session (transaction ∷ transactions) = if transaction.session == session then transaction.marks else marks_of session transactions
-
--- how many marks it has made
-abbrev pub made_by : ℕ → List Transaction → ℕ
-made_by session [] = 0
-made_by session (transaction ∷ transactions) = if transaction.session == session then transaction.made else made_by session transactions
-
--- whether a session has a transaction open
-abbrev pub is_open : ℕ → List Transaction → Bool
-is_open session transactions = list_any (λ transaction. transaction.session == session) transactions
-
--- whether no other session has one
-abbrev pub is_alone : ℕ → List Transaction → Bool
-is_alone session transactions = list_all (λ transaction. transaction.session == session) transactions
+-- ---- fetches
 
 -- what a fetch answers of the entry that it finds
 abbrev pub entry_reply : Option (List Value) → List Value → ℕ → Reply
 entry_reply None key at = Gone key at
 entry_reply (Some row) key at = Row key row at
 
--- what a fetch answers: the first entry at which the range may begin, if the range includes it
+-- what it answers: the first entry at which its range may begin, if the range includes that
 abbrev pub fetch_reply : ℕ → Stop → ℕ → Option Entry → Reply
 fetch_reply session stop at None = End at
-fetch_reply session stop at (Some entry) = if includes stop entry.key then entry_reply (seen session entry) entry.key at else End at
+fetch_reply session stop at (Some entry) = if includes stop entry.key then entry_reply (seen_by session entry) entry.key at else End at
 
--- From `old`, the engine may give this reply to the operation of a session, and go on to `new`.
+-- ---- insertions
+
+-- an insertion at an entry is done where its session sees no row
+abbrev pub insert_reply : Option (List Value) → Reply
+insert_reply None = Done
+insert_reply (Some row) = Exists
+
+-- where the session sees no row at an entry it sets one
+abbrev pub insert_at : ℕ → TableName → List Value → List Value → Option (List Value) → Engine → Engine
+insert_at session table key row None mid = with_pending session table key (Some row) mid
+insert_at session table key row (Some there) mid = mid
+
+-- An insertion: at an entry it sets a row, or finds one; where there is no entry it makes one.
+abbrev pub Inserts : ℕ → TableName → List Value → List Value → Option Entry → Engine → Reply → Engine → Type 0
+Inserts session table key row (Some entry) mid reply new = (reply ≡ insert_reply (seen_by session entry))
+    × (new ≡ insert_at session table key row (seen_by session entry) (with_claim session (claim_of mid (Insert table key row)) mid))
+Inserts session table key row None mid reply new = (reply ≡ Done) × (new ≡ with_entry session table key row (new_locks table key (inherits session table key mid)) mid)
+
+-- ---- replacements and erasures
+
+-- a write finds a row that its session sees, or none
+abbrev pub write_reply : Option (List Value) → Reply
+write_reply None = Missing
+write_reply (Some row) = Done
+
+-- where the session sees a row it sets another, or none
+abbrev pub write_at : ℕ → TableName → List Value → Option (List Value) → Option (List Value) → Engine → Engine
+write_at session table key row None mid = mid
+write_at session table key row (Some there) mid = with_pending session table key row mid
+
+-- A replacement, or an erasure: it finds a row that the session sees, or none.
+abbrev pub Writes : ℕ → TableName → List Value → Option (List Value) → Engine → Reply → Engine → Type 0
+Writes session table key row mid reply new = (reply ≡ write_reply (row_at session mid.entries table key))
+    × (new ≡ write_at session table key row (row_at session mid.entries table key) (with_claim session (write_claim (entry_at mid.entries table key)) mid))
+
+-- ---- an operation that passes
+
+-- what it answers, and what it leaves
+abbrev pub Does : Engine → ℕ → Op → Reply → Engine → Type 0
+Does mid session Begin reply new = (reply ≡ Began) × (new ≡ after_begin session mid)
+Does mid session (Fetch table start stop hold part) reply new = (reply ≡ fetch_reply session stop (length mid.log) (next_entry mid.entries table start))
+    × (new ≡ with_claim session (claim_of mid (Fetch table start stop hold part)) mid)
+Does mid session (Insert table key row) reply new = Inserts session table key row (entry_at mid.entries table key) mid reply new
+Does mid session (Replace table key row) reply new = Writes session table key (Some row) mid reply new
+Does mid session (Erase table key) reply new = Writes session table key None mid reply new
+Does mid session Mark reply new = (reply ≡ Marked (made_by session mid + 1)) × (new ≡ after_mark session mid)
+Does mid session (BackTo mark) reply new = (reply ≡ Done) × (new ≡ after_back session mark mid)
+Does mid session Relax reply new = (reply ≡ Done) × (new ≡ after_relax session mid)
+Does mid session Commit reply new = (reply ≡ Ended (length mid.log)) × (new ≡ after_commit session mid)
+Does mid session Rollback reply new = (reply ≡ Ended (length mid.log)) × (new ≡ after_rollback session mid)
+
+-- ---- an operation that does not
+
+-- who is patient is told the lowest session that stands in the way
+abbrev pub Waits : ℕ → Option Claim → Engine → Patience → ℕ → Type 0
+Waits session None mid patience holder = ⊥
+Waits session (Some claim) mid patience holder = (patience ≡ Forever) × ((held : Pair) × IsFoe session claim.on claim.pair mid holder held)
+
+-- who isn't is told also what that has there, and what was asked
+abbrev pub TimesOut : ℕ → Option Claim → Engine → Patience → ℕ → Pair → Pair → Resource → Type 0
+TimesOut session None mid patience holder held asked on = ⊥
+TimesOut session (Some claim) mid patience holder held asked on = (patience ≡ Refuse) × (asked ≡ claim.pair) × (on ≡ claim.on) × IsFoe session claim.on claim.pair mid holder held
+
+-- ---- a step
+
+-- A step of a session that waits no more: want of memory and both refusals leave everything as it is; every
+-- other reply is that of an operation that passes.
+abbrev pub StepFrom : Engine → ℕ → Op → Manner → Reply → Engine → Type 0
+StepFrom mid session op manner Memory new = MayLackMemory op × (new ≡ mid)
+StepFrom mid session op manner (TimedOut holder held asked on) new = TimesOut session (claim_of mid op) mid manner.patience holder held asked on × (new ≡ mid)
+StepFrom mid session op manner (Wait holder) new = Waits session (claim_of mid op) mid manner.patience holder × (new ≡ mid)
+StepFrom mid session op manner reply new = Passes session (claim_of mid op) mid × Does mid session op reply new
+
+-- From `old`, the engine may give this reply to the operation of a session, and go on to `new`. First the
+-- session's standing wait ends.
 abbrev pub Step : Engine → ℕ → Op → Manner → Reply → Engine → Type 0
-Step old session op manner Memory new = MayLackMemory op × (new ≡ old)
-Step old session Begin manner Began new = new ≡ record old { active = record { session = session; made = 0; marks = [] } ∷ old.active }
-Step old session (Fetch table start stop hold part) manner (Row key row at) new =
-    (Row key row at ≡ fetch_reply session stop (length old.log) (next_entry old.entries table start)) × (new ≡ old)
-Step old session (Fetch table start stop hold part) manner (Gone key at) new =
-    (Gone key at ≡ fetch_reply session stop (length old.log) (next_entry old.entries table start)) × (new ≡ old)
-Step old session (Fetch table start stop hold part) manner (End at) new =
-    (End at ≡ fetch_reply session stop (length old.log) (next_entry old.entries table start)) × (new ≡ old)
-Step old session (Insert table key row) manner Done new = (row_at session old.entries table key ≡ None)
-    × (new ≡ record old { entries = put_entry (set_by session table key row (entry_at old.entries table key)) old.entries })
-Step old session (Insert table key row) manner Exists new = IsSome (row_at session old.entries table key) × (new ≡ old)
-Step old session Mark manner (Marked mark) new = (mark ≡ made_by session old.active + 1)
-    × (new ≡ record old { active = marked session mark old.active })
-Step old session Relax manner Done new = new ≡ old
-Step old session Commit manner (Ended place) new = (place ≡ length old.log) × (new ≡ record {
-  entries = filter is_kept (map (settled session) old.entries);
-  active = closed session old.active;
-  log = log_with old.log session (changes_by session old.entries);
-})
-Step old session Rollback manner (Ended place) new = (place ≡ length old.log) × (new ≡ record old {
-  entries = filter is_kept (map (dropped session) old.entries);
-  active = closed session old.active;
-})
--- no other reply is given
-Step old session op manner reply new = ⊥
-
--- the engine before any step
-abbrev pub opening : Engine
-opening = record { entries = []; active = []; log = [] }
-
--- an operation may be asked by a session while no other one has a transaction open
-abbrev pub MayStep : Engine → ℕ → Op → Manner → Type 0
-MayStep engine session op manner = IsSession session × (is_alone session engine.active ≡ true)
-    × MayAsk (is_open session engine.active) (marks_of session engine.active) op manner
-
--- a session asks an operation in a manner, and gets a reply
-pub record Asked : Type 0 where
-  pub session : ℕ
-  pub exchange : Exchange
-
--- steps one after another, of any sessions
-abbrev pub Run : Engine → List Asked → Engine → Type 0
-Run old [] new = new ≡ old
-Run old (asked ∷ others) new = (mid : Engine) × MayStep old asked.session asked.exchange.op asked.exchange.manner
-    × Step old asked.session asked.exchange.op asked.exchange.manner asked.exchange.reply mid × Run mid others new
-
--- the exchanges of one session, as steps
-abbrev pub asked_by : ℕ → List Exchange → List Asked
-asked_by session exchanges = map {A = Exchange} {B = Asked} (λ exchange. record { session = session; exchange = exchange }) exchanges
+Step old session op manner reply new = StepFrom (without_wait session old) session op manner reply new

@@ -12,7 +12,7 @@ use value_types::{Key, Memory, Row, TableName};
 pub enum Hold {
     /// The row alone, and to the statement's end only where the part is U.
     Row,
-    /// The row and the range before it, for the transaction.
+    /// The row and the range before it, for the transaction; where no key is found, the place behind the range.
     Range,
 }
 
@@ -43,8 +43,29 @@ pub enum Op {
         /// The row.
         row: Row,
     },
+    /// Sets a row at a key that has one, in its place.
+    Replace {
+        /// The table.
+        table: TableName,
+        /// The row's key.
+        key: Key,
+        /// The row.
+        row: Row,
+    },
+    /// Removes the row at a key.
+    Erase {
+        /// The table.
+        table: TableName,
+        /// The row's key.
+        key: Key,
+    },
     /// Makes a mark to which the transaction can be taken back.
     Mark,
+    /// Takes the transaction's changes back to what they were at a mark.
+    BackTo {
+        /// The mark, which is a live one of the transaction.
+        mark: u64,
+    },
     /// Ends the locks of a statement.
     Relax,
     /// Ends the transaction and keeps its changes.
@@ -78,7 +99,17 @@ impl Op {
                 key: key.copy(alloc)?,
                 row: row.copy(alloc)?,
             },
+            Op::Replace { table, key, row } => Op::Replace {
+                table: table.copy(alloc)?,
+                key: key.copy(alloc)?,
+                row: row.copy(alloc)?,
+            },
+            Op::Erase { table, key } => Op::Erase {
+                table: table.copy(alloc)?,
+                key: key.copy(alloc)?,
+            },
             Op::Mark => Op::Mark,
+            Op::BackTo { mark } => Op::BackTo { mark: *mark },
             Op::Relax => Op::Relax,
             Op::Commit => Op::Commit,
             Op::Rollback => Op::Rollback,

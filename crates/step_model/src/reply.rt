@@ -2,6 +2,8 @@
 
 ghost use Rattle.std.specs.Prelude.{◌≡◌, IfOk};
 
+use crate::resource::Resource;
+use lock_modes::Pair;
 use std::alloc::Global;
 use value_types::{Key, Memory as NoMemory, Row};
 
@@ -26,7 +28,7 @@ pub enum Reply {
         /// How many commits the log had.
         at: u64,
     },
-    /// There is no row where the fetch looked.
+    /// No key of the range has an entry.
     End {
         /// How many commits the log had.
         at: u64,
@@ -35,12 +37,30 @@ pub enum Reply {
     Done,
     /// There is a row at that key.
     Exists,
+    /// There is no row at that key.
+    Missing,
     /// A mark, counted from 1 in its transaction.
     Marked(u64),
     /// The transaction has ended.
     Ended {
         /// How many commits the log had before.
         place: u64,
+    },
+    /// A lock of another session stands in the way, and the operation is to be asked again later.
+    Wait {
+        /// The lowest session of which one stands in the way.
+        holder: u32,
+    },
+    /// A lock of another session stands in the way of one that does not wait.
+    TimedOut {
+        /// The lowest session of which one stands in the way.
+        holder: u32,
+        /// What that has locked there.
+        held: Pair,
+        /// What was to be locked.
+        asked: Pair,
+        /// Where.
+        on: Resource,
     },
     /// Memory was wanting, and nothing has changed.
     Memory,
@@ -65,8 +85,21 @@ impl Reply {
             Reply::End { at } => Reply::End { at: *at },
             Reply::Done => Reply::Done,
             Reply::Exists => Reply::Exists,
+            Reply::Missing => Reply::Missing,
             Reply::Marked(mark) => Reply::Marked(*mark),
             Reply::Ended { place } => Reply::Ended { place: *place },
+            Reply::Wait { holder } => Reply::Wait { holder: *holder },
+            Reply::TimedOut {
+                holder,
+                held,
+                asked,
+                on,
+            } => Reply::TimedOut {
+                holder: *holder,
+                held: *held,
+                asked: *asked,
+                on: on.copy(alloc)?,
+            },
             Reply::Memory => Reply::Memory,
         })
     }
