@@ -1,4 +1,4 @@
-mod Digits
+pub mod Digits
 mod Known
 mod Rows
 mod Table

@@ -1,4 +1,4 @@
--- Read in this order; the last definition of a file is what the file is for.
+-- Read in this order; the comment behind a name says what the file is for.
 pub mod Types  -- IsOf: which values a type has
 pub mod Reading  -- number_in: the whole number that a text spells
 pub mod Conversion  -- converted and cast_of: the table of conversions

@@ -1,8 +1,7 @@
-//! An open transaction.
+//! The open transactions.
 
 ghost use Rattle.std.specs.Prelude.{◌≡◌, ◌+◌, ◌≤◌, true, [], ◌∷◌, ◌++◌, vec_len, IfOk, OnErr};
-ghost use Rattle.step_model.specs.Step.{is_open, is_alone, marks_of, made_by, marked, closed};
-ghost use Rattle.engine_core.specs.State.{AreOfDistinctSessions};
+ghost use Rattle.engine_core.specs.Transactions.{is_active, made_in, marks_in, with_opened, add_mark, cut_marks, without_opened, AreDistinct};
 
 use std::alloc::Global;
 use std::marker::Model;
@@ -17,7 +16,7 @@ pub(crate) struct Transaction {
 }
 
 impl Model for Transaction {
-    ghost use Rattle.step_model.specs.Step.{Transaction as Opened};
+    ghost use Rattle.engine_core.specs.Transactions.{Opened};
 
     ghost Value = { Opened };
 
@@ -37,23 +36,30 @@ impl Transaction {
     }
 
     /// The session.
-    pub(crate) fn session(&self) -> u32
+    fn session(&self) -> u32
         ensures { result ≡ self.now.session }
     {
         self.session
     }
 
+    /// How many marks it has made.
+    fn made(&self) -> u64
+        ensures { result ≡ self.now.made }
+    {
+        self.made
+    }
+
     /// The live marks in order.
-    pub(crate) fn marks(&self) -> &[u64]
+    fn marks(&self) -> &[u64]
         ensures { result.now ≡ self.now.marks }
     {
         &self.marks
     }
 
     /// Makes the next mark. Where there is no number for one more, memory is wanting.
-    pub(crate) fn mark(&mut self) -> Result<u64, Memory>
+    fn mark(&mut self) -> Result<u64, Memory>
         ensures marked { IfOk result (λ mark. mark ≡ self.old.made + 1) }
-        ensures kept { IfOk result (λ mark. self.new ≡ record self.old { made = mark; marks = self.old.marks ++ mark ∷ [] }) }
+        ensures kept { IfOk result (λ mark. self.new ≡ add_mark mark self.old) }
         ensures err { OnErr result (self.new ≡ self.old) }
     {
         if self.made == u64::MAX {
@@ -64,25 +70,37 @@ impl Transaction {
         self.made = mark;
         Ok(mark)
     }
+
+    /// Drops the marks behind one.
+    fn cut(&mut self, mark: u64)
+        ensures { self.new ≡ cut_marks mark self.old }
+    {
+        self.marks.retain(|live| *live <= mark);
+    }
 }
 
 /// Whether a session has a transaction open.
-pub(crate) fn is_open(active: &[Transaction], session: u32) -> bool
-    ensures { result ≡ is_open session active.now }
+pub(crate) fn is_active(active: &[Transaction], session: u32) -> bool
+    ensures { result ≡ is_active session active.now }
 {
     active.iter().any(|open| open.session() == session)
 }
 
-/// Whether no other session has one.
-pub(crate) fn is_alone(active: &[Transaction], session: u32) -> bool
-    ensures { result ≡ is_alone session active.now }
+/// How many marks a session's transaction has made, if it has one.
+pub(crate) fn made_in(active: &[Transaction], session: u32) -> u64
+    ensures { result ≡ made_in session active.now }
 {
-    active.iter().all(|open| open.session() == session)
+    for open in active {
+        if open.session() == session {
+            return open.made();
+        }
+    }
+    0
 }
 
-/// The marks of a session's transaction, if it has one.
-pub(crate) fn marks_of(active: &[Transaction], session: u32) -> &[u64]
-    ensures { result.now ≡ marks_of session active.now }
+/// The live marks of a session's transaction, if it has one.
+pub(crate) fn marks_in(active: &[Transaction], session: u32) -> &[u64]
+    ensures { result.now ≡ marks_in session active.now }
 {
     for open in active {
         if open.session() == session {
@@ -94,12 +112,11 @@ pub(crate) fn marks_of(active: &[Transaction], session: u32) -> &[u64]
 
 /// Makes the next mark of a session's transaction.
 pub(crate) fn mark(active: &mut [Transaction], session: u32) -> Result<u64, Memory>
-    requires open { is_open session active.old ≡ true }
-    requires distinct { AreOfDistinctSessions active.old }
-    ensures next { IfOk result (λ mark. mark ≡ made_by session active.old + 1) }
-    ensures kept { IfOk result (λ mark. active.new ≡ marked session mark active.old) }
+    requires begun { is_active session active.old ≡ true }
+    requires distinct { AreDistinct active.old }
+    ensures next { IfOk result (λ mark. mark ≡ made_in session active.old + 1) }
+    ensures kept { IfOk result (λ mark. active.new ≡ with_opened session (add_mark mark) active.old) }
     ensures err { OnErr result (active.new ≡ active.old) }
-    ensures distinct { AreOfDistinctSessions active.new }
 {
     for open in active.iter_mut() {
         if open.session() == session {
@@ -110,13 +127,26 @@ pub(crate) fn mark(active: &mut [Transaction], session: u32) -> Result<u64, Memo
     unreachable!()
 }
 
+/// Drops the marks of a session's transaction that are behind one.
+pub(crate) fn cut(active: &mut [Transaction], session: u32, mark: u64)
+    requires begun { is_active session active.old ≡ true }
+    requires distinct { AreDistinct active.old }
+    ensures { active.new ≡ with_opened session (cut_marks mark) active.old }
+{
+    for open in active.iter_mut() {
+        if open.session() == session {
+            open.cut(mark);
+            return;
+        }
+    }
+    unreachable!()
+}
+
 /// Ends a session's transaction.
 pub(crate) fn close(active: &mut Vec<Transaction>, session: u32)
-    requires open { is_open session active.old.items ≡ true }
-    requires distinct { AreOfDistinctSessions active.old.items }
-    ensures closed { active.new.items ≡ closed session active.old.items }
+    requires begun { is_active session active.old.items ≡ true }
+    ensures closed { active.new.items ≡ without_opened session active.old.items }
     ensures fewer { vec_len active.new + 1 ≤ vec_len active.old }
-    ensures distinct { AreOfDistinctSessions active.new.items }
 {
     active.retain(|open| open.session() != session);
 }

@@ -2,10 +2,10 @@
 use Rattle.std.proofs.Common.{◌≡◌, ℕ, suc, ◌+◌, ◌<◌, ◌≤◌, true, false, nat_eq, List, ◌∷◌, drop, length, get_or, add-one, Ok, refl, sym, ap, ◌∙◌}
 use Rattle.std.proofs.Math.Seq.{drop-cons}
 use Rattle.std.proofs.lemmas.List.{drop_all}
-use Rattle.step_model.specs.Exchange.{PortPast}
+use Rattle.step_model.specs.Port.{PortPast}
 use Rattle.session_server.specs.declared.effect.Exit.{Exit}
 use Rattle.session_server.specs.declared.effect.Exit.TheVariants.{On}
-use Rattle.session_server.specs.declared.form.Form.{Form}
+use Rattle.session_server.specs.declared.text.Form.{Form}
 use Rattle.session_server.specs.Progress.{Progress, counts, made}
 use Rattle.session_server.specs.Doing.{Doing, ◌then◌, Does, Leads}
 use Rattle.session_server.specs.Meaning.{acted, means, goes_on, each_of, statements_spent}

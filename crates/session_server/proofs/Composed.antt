@@ -5,7 +5,8 @@ use Rattle.std.specs.Result.{IsErr, IsErrAnd}
 use Rattle.value_types.specs.declared.memory.Memory.{Memory}
 use Rattle.step_model.specs.declared.op.Op.{Op}
 use Rattle.step_model.specs.declared.reply.Reply.{Reply}
-use Rattle.step_model.specs.Exchange.{Exchange, PortPast}
+use Rattle.step_model.specs.Exchange.{Exchange}
+use Rattle.step_model.specs.Port.{PortPast}
 use Rattle.session_server.specs.Progress.{Progress, Step, made, asked}
 use Rattle.session_server.specs.Doing.{Doing, over, reads, makes, asks, room, never, ◌then◌, Held, Left, Came, Does, Asked, Leads}
 use Rattle.session_server.specs.Meaning.{on_ok, ◌>>=◌, acted_by, acted}
@@ -14,7 +15,7 @@ use Rattle.error_table.specs.declared.action.Action.{Action}
 use Rattle.error_table.specs.declared.action.RaisedBy.TheVariants.{Engine}
 use Rattle.error_table.specs.Act.{action_of}
 use Rattle.session_server.specs.declared.effect.Exit.{Exit}
-use Rattle.session_server.specs.declared.form.Form.{Form}
+use Rattle.session_server.specs.declared.text.Form.{Form}
 
 -- ---- fronts
 
@@ -171,6 +172,16 @@ leads_then {before = before} {now = now} {after = after} {whole = whole} tree go
   goes = λ later result new came. subst (λ (x : List Exchange). Came whole old x result new) (sym (append_assoc leads.front does.exchanges later))
       (leads.goes (does.exchanges ++ later) result new (came_then tree go mid q new does.exchanges later a result does.came came));
 }
+
+-- an operation was asked, and the rest goes on by its reply
+pub leads_asks : {before now after : PortPast} {A : Type 0} {whole : Doing A} {op : Op} (go : Reply → Doing A) {old mid q : Progress} {reply : Reply} → Asked now after op mid reply q → Leads before now whole old (asks op go) mid → Leads before after whole old (go reply) q
+unfolding ◌then◌
+leads_asks {op = op} go {reply = reply} was leads = leads_then (asks op over) go leads (does_asks was (does_over refl))
+
+-- there was room, or none
+pub leads_room : {before now : PortPast} {A : Type 0} {whole : Doing A} (enough : Bool) (go : Bool → Doing A) {old mid : Progress} → Leads before now whole old (room go) mid → Leads before now whole old (go enough) mid
+unfolding ◌then◌
+leads_room enough go leads = leads_then (room over) go leads (does_room enough (does_over refl))
 
 -- where the rest comes to the same
 pub leads_same : {before now : PortPast} {A : Type 0} {whole rest other : Doing A} {old mid : Progress}

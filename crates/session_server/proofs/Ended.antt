@@ -1,5 +1,5 @@
 -- The conversation that a connection was, and that it is complete.
-use Rattle.std.proofs.Common.{◌≡◌, ℕ, ◌+◌, ◌-◌, ◌<◌, ◌≤◌, true, false, List, [], ◌∷◌, ◌++◌, length, Option, None, Some, Ok, is_ok, refl, sym, ap, subst, ◌∙◌, arith, length-append, inl, inr}
+use Rattle.std.proofs.Common.{◌≡◌, ℕ, ◌+◌, ◌-◌, ◌<◌, ◌≤◌, true, false, List, [], ◌∷◌, ◌++◌, length, Option, None, Some, Ok, is_ok, refl, sym, ap, subst, ◌∙◌, arith, append_assoc, length-append, inl, inr}
 use Rattle.std.specs.Prelude.{◌⊎◌}
 use Rattle.std.specs.Io.KnownBytes.{Consumes}
 use Rattle.outside_io.specs.Bytes.{Takes}
@@ -12,7 +12,9 @@ use Rattle.tds_packets.specs.Stream.{Joins}
 use Rattle.tds_packets.specs.Reading.{StopsBy, OnCut, byte_limit}
 use Rattle.tds_packets.proofs.Joined.{left_whole}
 use Rattle.tds_packets.proofs.Ends.{refuses_none}
-use Rattle.step_model.specs.Exchange.{PortPast}
+use Rattle.step_model.specs.declared.change.Change.{Change}
+use Rattle.step_model.specs.Fits.{commits_of}
+use Rattle.step_model.specs.Port.{PortPast}
 use Rattle.step_model.proofs.Pasts.{goes_further}
 use Rattle.session_server.specs.declared.end.End.{End}
 use Rattle.session_server.specs.declared.end.End.TheVariants.{Closed, Memory, ReadFault, WriteFault}
@@ -24,6 +26,9 @@ use Rattle.session_server.specs.Conversation.{IsUnended, Caused, Emptied, closed
 use Rattle.session_server.specs.Ends.{Cause, no_message, by_message, unsent, unmade, end_of, end_of_message}
 use Rattle.session_server.specs.Parts.{IsAskedSoFar, Spoke}
 use Rattle.session_server.proofs.Composed.{does_over, does_then}
+use Rattle.session_server.specs.Told.{commits_told}
+use Rattle.session_server.proofs.ToldCommits.{talk_told, told_front, told_within, told_first, closed_told}
+use Rattle.session_server.proofs.LeftCommits.{abandoned_one}
 use Rattle.session_server.proofs.Walks.{front_unended}
 
 -- ---- the closing rollback
@@ -33,9 +38,9 @@ module _ {before mid after : PortPast} {new last : Progress} (end : Does mid aft
   closes does = does_then _ _ does (does_then _ _ end (does_over refl))
 
   means_by : (config : Config) (messages : List Message) (responses : List Response) (cause : Cause) → IsAskedSoFar config before mid messages responses new cause → Means config before after messages responses cause
-  means_by config messages responses (no_message fault) asked = let whole = closes asked in record { exchanges = whole.exchanges; past = whole.past; asked = (last, whole.came) }
-  means_by config messages responses (by_message made) asked = let whole = closes asked in record { exchanges = whole.exchanges; past = whole.past; asked = (last, whole.came) }
-  means_by config messages responses (unsent fault) asked = let whole = closes asked in record { exchanges = whole.exchanges; past = whole.past; asked = (last, whole.came) }
+  means_by config messages responses (no_message fault) asked = let whole = closes asked in record { exchanges = whole.exchanges; past = whole.past; asked = (last, whole.came); told = closed_told config messages whole.exchanges responses last whole.came }
+  means_by config messages responses (by_message made) asked = let whole = closes asked in record { exchanges = whole.exchanges; past = whole.past; asked = (last, whole.came); told = closed_told config messages whole.exchanges responses last whole.came }
+  means_by config messages responses (unsent fault) asked = let whole = closes asked in record { exchanges = whole.exchanges; past = whole.past; asked = (last, whole.came); told = closed_told config messages whole.exchanges responses last whole.came }
   means_by config messages responses unmade asked = record {
     exchanges = (asked.first ++ asked.second) ++ end.exchanges;
     past = goes_further before mid after (asked.first ++ asked.second) end.exchanges asked.past end.past;
@@ -56,6 +61,13 @@ module _ {before mid after : PortPast} {new last : Progress} (end : Does mid aft
       left = asked.left;
       end = end.came;
     };
+    told = (
+      commits_of (asked.second ++ end.exchanges),
+      ap commits_of (append_assoc asked.first asked.second end.exchanges)
+          ∙ told_first config asked.front asked.first (asked.second ++ end.exchanges) responses asked.talked asked.talk
+          ∙ ap (λ (l : List (List Change)). l ++ commits_of (asked.second ++ end.exchanges)) (sym (told_front asked.front (asked.last ∷ []) responses (told_within config asked.front asked.first responses asked.talked asked.talk)) ∙ ap (λ (m : List Message). commits_told m responses) (sym asked.whole)),
+      (asked.front, asked.last, asked.whole, abandoned_one asked.last config asked.state asked.talked new last asked.second end.exchanges (talk_told config asked.front asked.first responses asked.talked asked.talk).closed asked.left end.came),
+    );
   }
 
   pub conversation_of : {config : Config} {session : ℕ} {gave : List ℕ → Type 0} {left sink_before sink_after : Option (List ℕ)} {made : End} → Spoke config (spid_of session) gave left before mid sink_before sink_after new made → Conversation config session gave left before after sink_before sink_after made

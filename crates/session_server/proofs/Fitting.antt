@@ -28,8 +28,8 @@ use Rattle.session_server.specs.declared.effect.Effect.{Effect}
 use Rattle.session_server.specs.declared.effect.Effect.TheVariants.{Number, Created, Inserted, Selected}
 use Rattle.session_server.specs.declared.effect.Exit.{Exit}
 use Rattle.session_server.specs.declared.effect.Exit.TheVariants.{On, End}
-use Rattle.session_server.specs.declared.form.Form.{Form}
-use Rattle.session_server.specs.declared.form.Form.TheVariants.{SelectNumber, CreateTable, Insert, SelectTable, Unread}
+use Rattle.session_server.specs.declared.text.Form.{Form}
+use Rattle.session_server.specs.declared.text.Form.TheVariants.{SelectNumber, CreateTable, Insert, SelectTable, Unread}
 use Rattle.session_server.specs.Text.{Spells, statement_of}
 use Rattle.session_server.specs.Tables.{is_int, is_same, row_fits}
 use Rattle.session_server.specs.Parts.{IsFit, is_table_row, AreTableRows, IsSmall, IsSendable, IsSmallForm}

@@ -1,7 +1,7 @@
 -- How one message is handled, from what its parts do.
 use Rattle.std.proofs.Common.{◌≡◌, ℕ, true, false, List, [], Result, Ok, Err, refl, sym, subst, ap, ◌∙◌}
 use Rattle.value_types.specs.declared.memory.Memory.{Memory}
-use Rattle.step_model.specs.Exchange.{PortPast}
+use Rattle.step_model.specs.Port.{PortPast}
 use Rattle.step_model.proofs.Pasts.{goes_nowhere}
 use Rattle.tds_packets.specs.Header.{tabular_result}
 use Rattle.tds_packets.specs.Packets.{Packets, IsPacketSize}
@@ -10,7 +10,7 @@ use Rattle.tds_tokens.specs.Spelling.{TokenBytes}
 use Rattle.session_server.specs.declared.message.Handling.{Handling as MadeHandling}
 use Rattle.session_server.specs.declared.message.Handling.TheVariants.{Responds, Refuses, Ends}
 use Rattle.session_server.specs.declared.prepared.PreparedResponse.{PreparedResponse}
-use Rattle.session_server.specs.declared.state.Channel.{Channel}
+use Rattle.session_server.specs.declared.prepared.Channel.{Channel}
 use Rattle.session_server.specs.Progress.{Progress}
 use Rattle.session_server.specs.Parts.{Bears, IsHandled, IsAnswered}
 use Rattle.session_server.specs.Response.{Response, tabular}
@@ -19,8 +19,8 @@ use Rattle.tds_login.specs.declared.config.Config.{Config}
 use Rattle.tds_login.specs.Prelogin.{prelogin_of}
 use Rattle.tds_login.specs.Login.{login_of}
 use Rattle.tds_packets.specs.declared.message.Message.{Message}
-use Rattle.session_server.specs.declared.state.ServerState.{ServerState}
-use Rattle.session_server.specs.declared.state.ServerState.TheVariants.{Initial, LoginReady, LoggedIn}
+use Rattle.session_server.specs.declared.message.ServerState.{ServerState}
+use Rattle.session_server.specs.declared.message.ServerState.TheVariants.{Initial, LoginReady, LoggedIn}
 use Rattle.session_server.specs.Doing.{Doing, Does}
 use Rattle.session_server.specs.Talk.{Handling, responds, refuses, ends, handle, handle_prelogin, handle_login, handle_attention}
 use Rattle.session_server.proofs.Composed.{does_over, left_nothing}

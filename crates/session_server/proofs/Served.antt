@@ -12,11 +12,11 @@ use Rattle.tds_packets.specs.declared.fault.MessageFault.{MessageFault}
 use Rattle.tds_packets.specs.declared.fault.MessageFault.TheVariants as reading
 use Rattle.tds_packets.specs.Stream.{IsMessage, IsPartial, Joins, Splits}
 use Rattle.tds_packets.specs.Reading.{StopsBy}
-use Rattle.step_model.specs.Exchange.{PortPast, GoesOn}
+use Rattle.step_model.specs.Port.{PortPast, GoesOn}
 use Rattle.step_model.proofs.Pasts.{goes_further}
 use Rattle.session_server.specs.declared.end.End.{End}
 use Rattle.session_server.specs.declared.end.End.TheVariants.{LoginRefused}
-use Rattle.session_server.specs.declared.state.ServerState.{ServerState}
+use Rattle.session_server.specs.declared.message.ServerState.{ServerState}
 use Rattle.session_server.specs.Progress.{Progress, first_progress}
 use Rattle.session_server.specs.Doing.{Doing, Does}
 use Rattle.session_server.specs.Conversation.{IsUnended, EndsAtLast, IsAnswered, Emptied, response_to}

@@ -5,8 +5,8 @@ use Rattle.std.specs.Prelude.{codes}
 use Rattle.std.proofs.lemmas.List.{append-nil, append_assoc}
 use Rattle.session_server.proofs.Fronts.{earlier, same_parts, number_read, number_stood, name_read, name_stood, end_stood, last_read, last_stood}
 use Rattle.session_server.specs.Text.{◌>>=◌, create_word, columns_text, behind, run_of, number_of, at_end, selected_number, created_table, values_of, inserted_row, selected_table, statement_of, or_else, IsName, SpellsNumber, SpellsSelectNumber, SpellsCreateTable, SpellsInsert, SpellsSelectTable, Spells}
-use Rattle.session_server.specs.declared.form.Form.{Form}
-use Rattle.session_server.specs.declared.form.Form.TheVariants.{SelectNumber, CreateTable, Insert, SelectTable, Unread}
+use Rattle.session_server.specs.declared.text.Form.{Form}
+use Rattle.session_server.specs.declared.text.Form.TheVariants.{SelectNumber, CreateTable, Insert, SelectTable, Unread}
 
 -- the words of the forms
 abbrev select_word : List ℕ

@@ -13,14 +13,14 @@ use Rattle.tds_packets.specs.declared.fault.MessageFault.TheVariants as reading
 use Rattle.tds_packets.specs.declared.fault.SendFault.{SendFault}
 use Rattle.tds_packets.specs.Stream.{IsMessage}
 use Rattle.tds_packets.specs.Reading.{StopsBy, IsEnd}
-use Rattle.step_model.specs.Exchange.{PortPast, GoesOn}
+use Rattle.step_model.specs.Port.{PortPast, GoesOn}
 use Rattle.step_model.proofs.Pasts.{goes_nowhere}
 use Rattle.session_server.specs.declared.end.End.{End}
 use Rattle.session_server.specs.declared.end.End.TheVariants.{LoginRefused, Memory}
 use Rattle.session_server.specs.declared.message.Handling.{Handling as MadeHandling}
 use Rattle.session_server.specs.declared.message.Handling.TheVariants.{Responds, Refuses, Ends}
 use Rattle.session_server.specs.declared.prepared.PreparedResponse.{PreparedResponse}
-use Rattle.session_server.specs.declared.state.ServerState.{ServerState}
+use Rattle.session_server.specs.declared.message.ServerState.{ServerState}
 use Rattle.session_server.specs.Progress.{Progress}
 use Rattle.session_server.specs.Doing.{Doing, Held, over, Does}
 use Rattle.session_server.specs.Response.{Response}

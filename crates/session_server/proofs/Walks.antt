@@ -3,9 +3,9 @@ use Rattle.std.proofs.Common.{◌≡◌, ℕ, true, List, [], ◌∷◌, ◌++�
 use Rattle.std.proofs.lemmas.List.Sums.{fold-append}
 use Rattle.tds_login.specs.declared.config.Config.{Config}
 use Rattle.tds_packets.specs.declared.message.Message.{Message}
-use Rattle.step_model.specs.Exchange.{PortPast}
+use Rattle.step_model.specs.Port.{PortPast}
 use Rattle.session_server.specs.declared.end.End.{End}
-use Rattle.session_server.specs.declared.state.ServerState.{ServerState}
+use Rattle.session_server.specs.declared.message.ServerState.{ServerState}
 use Rattle.session_server.specs.Progress.{Progress}
 use Rattle.session_server.specs.Doing.{Doing, Does}
 use Rattle.session_server.specs.Response.{Response}

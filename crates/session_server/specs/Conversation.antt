@@ -11,15 +11,19 @@ use Rattle.tds_packets.specs.declared.fault.SendFault.{SendFault}
 use Rattle.tds_packets.specs.Stream.{Splits}
 use Rattle.tds_packets.specs.Reading.{StopsBy, byte_limit}
 use Rattle.tds_packets.specs.Packets.{IsPartSent}
-use Rattle.step_model.specs.Exchange.{Exchange, PortPast, GoesOn}
+use Rattle.step_model.specs.declared.change.Change.{Change}
+use Rattle.step_model.specs.Exchange.{Exchange}
+use Rattle.step_model.specs.Fits.{commits_of}
+use Rattle.step_model.specs.Port.{PortPast, GoesOn}
 use Rattle.session_server.specs.declared.end.End.{End}
 use Rattle.session_server.specs.declared.end.End.TheVariants.{Closed, LoginRefused, Memory}
-use Rattle.session_server.specs.declared.state.ServerState.{ServerState}
+use Rattle.session_server.specs.declared.message.ServerState.{ServerState}
 use Rattle.session_server.specs.Progress.{Progress, first_progress}
 use Rattle.session_server.specs.Doing.{Doing, over, never, ◌then◌, Held, Left}
 use Rattle.session_server.specs.Meaning.{rolls_back_open}
 use Rattle.session_server.specs.Response.{Response}
 use Rattle.session_server.specs.Talk.{Handling, responds, refuses, ends, handle, walk_of, response_bytes, Bytes}
+use Rattle.session_server.specs.Told.{commits_by, statement_in, commits_told}
 use Rattle.session_server.specs.Ends.{Cause, no_message, by_message, unsent, unmade, end_of}
 
 -- the SPID of a session
@@ -111,11 +115,22 @@ abbrev pub IsAsked : Config → List Message → List Exchange → List Response
 IsAsked config messages exchanges responses unmade = Abandons config messages exchanges responses
 IsAsked config messages exchanges responses cause = (new : Progress) × Held (closed (walk_of config messages).talk) first_progress exchanges responses new
 
+-- for the last message, of which nothing was told, nothing is committed, or what its statement commits
+abbrev pub IsUntold : List Message → List (List Change) → Type 0
+IsUntold messages commits = (front : List Message) × (last : Message) × (messages ≡ front ++ last ∷ []) × ((commits ≡ []) ⊎ (commits ≡ commits_by (statement_in last)))
+
+-- What was committed is what the responses tell, in order; behind that what the last message commits, where
+-- memory was wanting for its response.
+abbrev pub AreTold : List Message → List Response → List (List Change) → Cause → Type 0
+AreTold messages responses commits unmade = (more : List (List Change)) × (commits ≡ commits_told messages responses ++ more) × IsUntold messages more
+AreTold messages responses commits cause = commits ≡ commits_told messages responses
+
 -- between two moments of the port its exchanges are what was asked for these messages
 pub record Means (config : Config) (before after : PortPast) (messages : List Message) (responses : List Response) (cause : Cause) : Type 0 where
   pub exchanges : List Exchange
   pub past : GoesOn before after exchanges
   pub asked : IsAsked config messages exchanges responses cause
+  pub told : AreTold messages responses (commits_of exchanges) cause
 
 -- ---- the whole
 

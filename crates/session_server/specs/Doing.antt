@@ -5,9 +5,8 @@ use Rattle.std.specs.Prelude.{◌≡◌, ◌⊎◌, Bool, List, [], ◌∷◌, �
 use Rattle.value_types.specs.declared.memory.Memory.{Memory}
 use Rattle.step_model.specs.declared.op.Op.{Op}
 use Rattle.step_model.specs.declared.reply.Reply.{Reply}
-use Rattle.step_model.specs.Exchange.{Exchange, PortPast, GoesOn, CanReply}
-use Rattle.step_model.specs.Dialog as dialog
-use Rattle.step_model.specs.Dialog.{Dialog}
+use Rattle.step_model.specs.Exchange.{Exchange, CanReply}
+use Rattle.step_model.specs.Port.{PortPast, GoesOn}
 use Rattle.session_server.specs.Progress.{Progress, Step, made, asked}
 
 -- A value; how to go on by the progress; a step, and what follows; an operation, and how to go on by its
@@ -30,14 +29,6 @@ unfoldable pub ◌then◌ : {A B : Type 0} → Doing A → (A → Doing B) → D
 (asks op next) then go = asks op (λ reply. next reply then go)
 (room next) then go = room (λ enough. next enough then go)
 never then go = never
-
--- a dialog is held, and behind it another thing is done
-infixl 10 ◌gives◌
-unfoldable pub ◌gives◌ : {A B : Type 0} → Dialog A → (A → Doing B) → Doing B
-(dialog.over a) gives go = go a
-(dialog.asks op quiet next) gives go = asks op (λ reply. next reply gives go)
-(dialog.room next) gives go = room (λ enough. next enough gives go)
-dialog.never gives go = never
 
 -- ---- what was done
 

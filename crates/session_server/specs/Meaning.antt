@@ -18,15 +18,17 @@ use Rattle.step_model.specs.declared.range.Start.TheVariants.{At}
 use Rattle.step_model.specs.declared.range.Stop.TheVariants.{Within}
 use Rattle.step_model.specs.declared.reply.Reply.{Reply}
 use Rattle.step_model.specs.declared.reply.Reply.TheVariants as replies
-use Rattle.step_model.specs.Ranges.{Rows, no_memory, rows_of}
+use Rattle.step_model.specs.Dialog as dialog
+use Rattle.step_model.specs.Dialog.{Dialog}
+use Rattle.step_model.specs.Ranges.{Rows, no_memory, rows_of, lock_timeout}
 use Rattle.session_server.specs.declared.effect.Effect.{Effect}
 use Rattle.session_server.specs.declared.effect.Effect.TheVariants.{Number, Created, Inserted, Selected}
 use Rattle.session_server.specs.declared.effect.Exit.{Exit}
 use Rattle.session_server.specs.declared.effect.Exit.TheVariants.{On, End}
-use Rattle.session_server.specs.declared.form.Form.{Form}
-use Rattle.session_server.specs.declared.form.Form.TheVariants.{SelectNumber, CreateTable, Insert, SelectTable, Unread}
+use Rattle.session_server.specs.declared.text.Form.{Form}
+use Rattle.session_server.specs.declared.text.Form.TheVariants.{SelectNumber, CreateTable, Insert, SelectTable, Unread}
 use Rattle.session_server.specs.Progress.{begins, counts, sends}
-use Rattle.session_server.specs.Doing.{Doing, over, reads, makes, asks, room, never, ◌then◌, ◌gives◌}
+use Rattle.session_server.specs.Doing.{Doing, over, reads, makes, asks, room, never, ◌then◌}
 use Rattle.session_server.specs.Response.{duplicate_key, effect_tokens, failure_tokens, batch_done}
 use Rattle.session_server.specs.Tables.{table_of, objects_name, is_objects, is_definition, object_key, object_row, table_key, table_row, row_fits}
 
@@ -62,12 +64,26 @@ tree >>= go = tree then on_ok go
 abbrev pub with_room : {A : Type 0} → Doing (Result A ℕ) → Doing (Result A ℕ)
 with_room tree = room λ enough. if enough then tree else over (Err no_memory)
 
+-- A reply that refuses the operation is the error of what was done: memory was wanting, or another
+-- session's lock stood in the way.
+abbrev pub unless_refused : {A : Type 0} → (Reply → Doing (Result A ℕ)) → Reply → Doing (Result A ℕ)
+unless_refused go replies.Memory = over (Err no_memory)
+unless_refused go (replies.TimedOut holder held wanted on) = over (Err lock_timeout)
+unless_refused go reply = go reply
+
+-- a dialog is held, and behind it another thing is done; a refusal ends both
+infixl 10 ◌gives◌
+unfoldable pub ◌gives◌ : {A B : Type 0} → Dialog A → (A → Doing (Result B ℕ)) → Doing (Result B ℕ)
+(dialog.over a) gives go = go a
+(dialog.asks op quiet next) gives go = asks op (unless_refused (λ reply. next reply gives go))
+(dialog.room next) gives go = room (λ enough. next enough gives go)
+dialog.never gives go = never
+
 -- whether what stands at a name's key in `objects` is its definition
 abbrev pub known : List ℕ → Reply → Doing (Result (Unit {0}) ℕ)
 known name (replies.Row key row at) = if is_definition name (key, row) then over (Ok tt) else over (Err unknown_table)
 known name (replies.Gone key at) = over (Err unknown_table)
 known name (replies.End at) = over (Err unknown_table)
-known name replies.Memory = over (Err no_memory)
 known name reply = never
 
 -- the fetch of one whole key of `objects`, whose range is held
@@ -76,7 +92,7 @@ definition_fetch name = ops.Fetch (table_of objects_name) (At (object_key name))
 
 -- the name is looked up
 unfoldable pub look_up : List ℕ → Doing (Result (Unit {0}) ℕ)
-look_up name = with_room (asks (definition_fetch name) (known name))
+look_up name = with_room (asks (definition_fetch name) (unless_refused (known name)))
 
 -- the rows of a table are read, in order of their keys
 unfoldable pub reads_rows : List ℕ → Hold → Doing (Result Rows ℕ)
@@ -86,18 +102,16 @@ reads_rows name hold = with_room (rows_of row_fits (table_of name) hold gives ov
 abbrev pub placed : ℕ → Reply → Doing (Result (Unit {0}) ℕ)
 placed present replies.Done = over (Ok tt)
 placed present replies.Exists = over (Err present)
-placed present replies.Memory = over (Err no_memory)
 placed present reply = never
 
 -- behind a mark
 abbrev pub marked : {A : Type 0} → Doing (Result A ℕ) → Reply → Doing (Result A ℕ)
 marked next (replies.Marked mark) = next
-marked next replies.Memory = over (Err no_memory)
 marked next reply = never
 
 -- a row is put at its key behind a mark; a row that stands there is this error
 unfoldable pub puts : TableName → List Value → List Value → ℕ → Doing (Result (Unit {0}) ℕ)
-puts table key row present = with_room (asks ops.Mark (marked (asks (ops.Insert table key row) (placed present))))
+puts table key row present = with_room (asks ops.Mark (unless_refused (marked (asks (ops.Insert table key row) (unless_refused (placed present))))))
 
 -- how many rows a result has at most
 abbrev pub row_limit : ℕ
@@ -163,14 +177,13 @@ closes false = asks ops.Rollback (where_ended (over tt))
 -- behind a transaction's begin
 abbrev pub where_begun : {A : Type 0} → Doing (Result A ℕ) → Reply → Doing (Result A ℕ)
 where_begun next replies.Began = next
-where_begun next replies.Memory = over (Err no_memory)
 where_begun next reply = never
 
 -- done within the open transaction, or one of its own
 unfoldable pub own : {A : Type 0} → Doing (Result A ℕ) → Doing (Result A ℕ)
 own work = reads λ p. if p.is_open
     then work then (λ came. relaxes then λ _. over came)
-    else asks ops.Begin (where_begun (work then λ came. relaxes then λ _. closes (is_ok came) then λ _. over came))
+    else asks ops.Begin (unless_refused (where_begun (work then λ came. relaxes then λ _. closes (is_ok came) then λ _. over came)))
 
 -- an open transaction is rolled back
 unfoldable pub rolls_back_open : Doing (Unit {0})

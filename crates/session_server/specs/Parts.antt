@@ -1,8 +1,9 @@
 -- Own: what the private parts of a connection give. No public clause cites this file.
-use Rattle.std.specs.Prelude.{◌≡◌, ℕ, ◌+◌, ◌<◌, ◌^◌, ◌&&◌, Bool, false, List, [], ◌∷◌, ◌++◌, length, Option, Result, Ok, Err, IsTrue}
+use Rattle.std.specs.Prelude.{◌≡◌, ℕ, ◌+◌, ◌<◌, ◌^◌, ◌&&◌, Bool, false, List, [], ◌∷◌, ◌++◌, length, Option, None, Some, Result, Ok, Err, IsTrue}
 use Rattle.std.specs.List.{All}
 use Rattle.value_types.specs.declared.memory.Memory.{Memory}
 use Rattle.value_types.specs.declared.value.Value.{Value}
+use Rattle.lock_modes.specs.declared.KeyPart.TheVariants.{S}
 use Rattle.tds_packets.specs.Header.{tabular_result}
 use Rattle.tds_packets.specs.Packets.{Packets, IsPacketSize, IsPartSent}
 use Rattle.tds_tokens.specs.declared.columns.ColumnInfo.{ColumnInfo}
@@ -11,19 +12,24 @@ use Rattle.tds_tokens.specs.Fit.{FitTokens}
 use Rattle.step_model.specs.declared.op.Op.{Op}
 use Rattle.step_model.specs.declared.op.Op.TheVariants.{Fetch}
 use Rattle.step_model.specs.declared.range.Start.TheVariants.{Past}
-use Rattle.step_model.specs.Exchange.{Exchange, PortPast, GoesOn}
+use Rattle.step_model.specs.declared.range.Stop.TheVariants.{Last}
+use Rattle.step_model.specs.declared.reply.Reply.{Reply}
+use Rattle.step_model.specs.declared.reply.Reply.TheVariants as replies
+use Rattle.step_model.specs.Ranges.{Rows, with_row, no_memory, lock_timeout}
+use Rattle.step_model.specs.Exchange.{Exchange}
+use Rattle.step_model.specs.Port.{PortPast, GoesOn}
 use Rattle.session_server.specs.declared.effect.Effect.{Effect}
 use Rattle.session_server.specs.declared.effect.Effect.TheVariants.{Number, Selected}
-use Rattle.session_server.specs.declared.form.Form.{Form}
-use Rattle.session_server.specs.declared.form.Form.TheVariants.{SelectNumber}
+use Rattle.session_server.specs.declared.text.Form.{Form}
+use Rattle.session_server.specs.declared.text.Form.TheVariants.{SelectNumber}
 use Rattle.session_server.specs.declared.message.Handling.{Handling as MadeHandling}
 use Rattle.session_server.specs.declared.message.Handling.TheVariants.{Responds, Refuses, Ends}
 use Rattle.session_server.specs.declared.prepared.PreparedResponse.{PreparedResponse}
-use Rattle.session_server.specs.declared.state.ServerState.{ServerState}
-use Rattle.session_server.specs.declared.state.ServerState.TheVariants.{LoggedIn}
+use Rattle.session_server.specs.declared.message.ServerState.{ServerState}
+use Rattle.session_server.specs.declared.message.ServerState.TheVariants.{LoggedIn}
 use Rattle.session_server.specs.Progress.{Progress, first_progress}
-use Rattle.session_server.specs.Doing.{Doing, over, Held, Left, Does}
-use Rattle.session_server.specs.Tables.{is_int}
+use Rattle.session_server.specs.Doing.{Doing, over, Held, Left, Asked, Does}
+use Rattle.session_server.specs.Tables.{is_int, row_fits}
 use Rattle.session_server.specs.Response.{Response}
 use Rattle.session_server.specs.Talk.{Handling, responds, refuses, ends, handle, walk_of, response_bytes}
 use Rattle.session_server.specs.Conversation.{Emptied, Heard, response_to}
@@ -71,6 +77,27 @@ IsSmallForm statement = Unit {0}
 abbrev pub fetch_past : Op → List Value → Op
 fetch_past (Fetch table start stop hold part) key = Fetch table (Past key) stop hold part
 fetch_past op key = op
+
+-- a fetch of the rows of a whole table, from some key on
+abbrev pub ReadsRange : Op → Type 0
+ReadsRange (Fetch table start Last hold S) = Unit {0}
+ReadsRange op = ⊥
+
+-- what a fetch's reply makes of the rows so far: the key to go on from, none at the end, or an error
+abbrev pub Reads : Reply → Rows → Result (Option (List Value)) ℕ → Rows → Type 0
+Reads (replies.Row key row at) old (Ok (Some last)) new = (last ≡ key) × (new ≡ with_row row_fits old key row)
+Reads (replies.Row key row at) old (Err number) new = number ≡ no_memory
+Reads (replies.Gone key at) old (Ok (Some last)) new = (last ≡ key) × (new ≡ old)
+Reads (replies.End at) old (Ok None) new = new ≡ old
+Reads replies.Memory old (Err number) new = number ≡ no_memory
+Reads (replies.TimedOut holder held wanted on) old (Err number) new = number ≡ lock_timeout
+Reads reply old result new = ⊥
+
+-- a fetch was asked, and its reply read so
+pub record IsRead (before after : PortPast) (fetch : Op) (old : Progress) (rows : Rows) (result : Result (Option (List Value)) ℕ) (new : Progress) (more : Rows) : Type 0 where
+  pub reply : Reply
+  pub was : Asked before after fetch old reply new
+  pub reads : Reads reply rows result more
 
 -- ---- a message
 

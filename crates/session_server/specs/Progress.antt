@@ -4,9 +4,10 @@ use Rattle.std.specs.Prelude.{◌≡◌, ℕ, ◌-◌, Bool, true, false, List, 
 use Rattle.step_model.specs.declared.manner.Manner.{Manner}
 use Rattle.step_model.specs.declared.manner.Patience.TheVariants.{Forever}
 use Rattle.step_model.specs.declared.op.Op.{Op}
-use Rattle.step_model.specs.declared.op.Op.TheVariants.{Begin, Fetch, Insert, Mark, Relax, Commit, Rollback}
+use Rattle.step_model.specs.declared.op.Op.TheVariants.{Begin, Fetch, Insert, Replace, Erase, Mark, BackTo, Relax, Commit, Rollback}
 use Rattle.step_model.specs.declared.reply.Reply.{Reply}
-use Rattle.step_model.specs.Exchange.{Exchange, PortPast, IsPriority, in_transaction_after}
+use Rattle.step_model.specs.Exchange.{Exchange, IsPriority}
+use Rattle.step_model.specs.Port.{PortPast, standing_after}
 use Rattle.tds_tokens.specs.declared.token.Token.{Token}
 
 -- how far a session has come
@@ -50,19 +51,26 @@ made (sends tokens) p = record p { tokens = p.tokens ++ tokens }
 
 -- ---- exchanges
 
+-- whether a transaction is open then, by the rule of the port
+abbrev pub is_open_after : Bool → Op → Reply → Bool
+is_open_after before op reply = (standing_after (record { is_open = before; marks = [] }) op reply).is_open
+
 -- whether something was fetched or written since the last Relax, or the transaction's begin
 abbrev pub touched_after : Bool → Op → Bool
 touched_after before Begin = false
 touched_after before (Fetch table start stop hold part) = true
 touched_after before (Insert table key row) = true
+touched_after before (Replace table key row) = true
+touched_after before (Erase table key) = true
 touched_after before Mark = before
+touched_after before (BackTo mark) = before
 touched_after before Relax = false
 touched_after before Commit = false
 touched_after before Rollback = false
 
 -- the progress after one operation was asked and replied so
 abbrev pub asked : Op → Reply → Progress → Progress
-asked op reply p = record p { is_open = in_transaction_after p.is_open op reply; touched = touched_after p.touched op }
+asked op reply p = record p { is_open = is_open_after p.is_open op reply; touched = touched_after p.touched op }
 
 -- the progress after these exchanges
 abbrev pub asked_all : List Exchange → Progress → Progress
@@ -73,5 +81,5 @@ asked_all (x ∷ later) p = asked_all later (asked x.op x.reply p)
 
 -- session and port agree on what is open, and the session may ask
 pub record Ready (p : Progress) (past : PortPast) : Type 0 where
-  pub agree : p.is_open ≡ past.is_open
+  pub agree : p.is_open ≡ past.standing.is_open
   pub priority : IsPriority p.manner.priority

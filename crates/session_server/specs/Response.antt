@@ -19,8 +19,8 @@ use Rattle.session_server.specs.declared.effect.Effect.{Effect}
 use Rattle.session_server.specs.declared.effect.Effect.TheVariants.{Number, Created, Inserted, Selected}
 use Rattle.session_server.specs.declared.effect.Exit.{Exit}
 use Rattle.session_server.specs.declared.effect.Exit.TheVariants.{On, End}
-use Rattle.session_server.specs.declared.form.Form.{Form}
-use Rattle.session_server.specs.declared.form.Form.TheVariants.{SelectNumber, CreateTable, Insert, SelectTable}
+use Rattle.session_server.specs.declared.text.Form.{Form}
+use Rattle.session_server.specs.declared.text.Form.TheVariants.{SelectNumber, CreateTable, Insert, SelectTable}
 
 -- ---- errors
 

@@ -23,9 +23,9 @@ use Rattle.session_server.specs.declared.end.BatchFault.{BatchFault}
 use Rattle.session_server.specs.declared.end.BatchFault.TheVariants.{HeadersShort, HeadersTotal, OddText}
 use Rattle.session_server.specs.declared.end.End.{End}
 use Rattle.session_server.specs.declared.end.End.TheVariants.{OutOfPlace, BadPrelogin, LoginRefused, BadBatch}
-use Rattle.session_server.specs.declared.state.ServerState.{ServerState}
-use Rattle.session_server.specs.declared.state.ServerState.TheVariants.{Initial, LoginReady, LoggedIn}
-use Rattle.session_server.specs.declared.form.Form.{Form}
+use Rattle.session_server.specs.declared.message.ServerState.{ServerState}
+use Rattle.session_server.specs.declared.message.ServerState.TheVariants.{Initial, LoginReady, LoggedIn}
+use Rattle.session_server.specs.declared.text.Form.{Form}
 use Rattle.session_server.specs.Text.{statement_of}
 use Rattle.session_server.specs.Doing.{Doing, over, reads, ◌then◌}
 use Rattle.session_server.specs.Meaning.{batch}

@@ -12,8 +12,8 @@
 use Rattle.std.specs.Prelude.{◌≡◌, ℕ, ◌≤◌, ◌+◌, ◌-◌, ◌*◌, ◌^◌, ◌&&◌, ◌==◌, Bool, nat_le, if◌then◌else◌, IsTrue, List, [], ◌∷◌, ◌++◌, length, take, drop, Option, None, Some, codes}
 use Rattle.std.specs.List.{prefix_len, list_all}
 use Rattle.value_types.specs.Units.{same_units}
-use Rattle.session_server.specs.declared.form.Form.{Form}
-use Rattle.session_server.specs.declared.form.Form.TheVariants.{SelectNumber, CreateTable, Insert, SelectTable, Unread}
+use Rattle.session_server.specs.declared.text.Form.{Form}
+use Rattle.session_server.specs.declared.text.Form.TheVariants.{SelectNumber, CreateTable, Insert, SelectTable, Unread}
 
 -- the units of 0 to 9
 abbrev pub is_digit : ℕ → Bool

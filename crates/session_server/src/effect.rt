@@ -83,6 +83,9 @@ pub(crate) const UNKNOWN_TABLE: u16 = 208;
 /// The error where memory was wanting for a statement.
 pub(crate) const NO_MEMORY: u16 = 701;
 
+/// The error where a lock of another session stands in the way of one that does not wait.
+pub(crate) const LOCK_TIMEOUT: u16 = 1222;
+
 /// The error of a key that has a row.
 pub(crate) const DUPLICATE_KEY: u16 = 2627;
 

@@ -7,21 +7,19 @@
 //! is not said to be wanting where there is enough.
 #![tactic(auto)]
 
-mod asking;
 mod effect;
 mod end;
-mod form;
 mod message;
 mod prepared;
+mod ranges;
 mod response;
 mod serving;
 mod session;
-mod state;
 mod statement;
 mod tables;
 mod text;
 
 pub use end::{BatchFault, End};
-pub use form::Form;
 pub use serving::serve_on_port;
-pub use text::law_texts;
+pub use statement::law_commits;
+pub use text::{Form, law_texts};

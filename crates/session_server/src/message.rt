@@ -1,10 +1,10 @@
-//! How a message is handled, by where the connection stands.
+//! Where a connection stands, and how a message is handled there.
 
 ghost use Rattle.std.specs.Prelude.{◌≡◌, ◌%◌, ◌∷◌, [], ℕ, length, drop, None, Some, Ok, IfOk, IfErr};
 ghost use Rattle.session_server.specs.Parts.{IsHandled, IsAnswered, IsSized, IsSmallForm};
 ghost use Rattle.session_server.specs.Progress.{Ready};
-ghost use Rattle.session_server.specs.Talk.{responds, handle, handle_prelogin, handle_login, handle_verdict, batch_response, handle_batch, handle_attention, refuse, batch_fault, headers_length};
-ghost use Rattle.session_server.specs.declared.state.ServerState.TheVariants.{LoggedIn};
+ghost use Rattle.session_server.specs.Talk.{first_state, responds, handle, handle_prelogin, handle_login, handle_verdict, batch_response, handle_batch, handle_attention, refuse, batch_fault, headers_length};
+ghost use Rattle.session_server.specs.declared.message.ServerState.TheVariants.{LoggedIn};
 ghost use Rattle.session_server.specs.Text.{statement_of};
 ghost use Rattle.tds_login.specs.Login.{login_of};
 ghost use Rattle.tds_login.specs.Prelogin.{prelogin_of};
@@ -12,18 +12,16 @@ ghost use Rattle.tds_packets.specs.Packets.{IsPacketSize, default_size};
 ghost use Rattle.value_types.specs.Units.{units_of};
 
 use crate::end::{BatchFault, End};
-use crate::form::Form;
-use crate::prepared::PreparedResponse;
+use crate::prepared::{Channel, PreparedResponse};
 use crate::response::{attention_done, refusal_tokens};
 use crate::session::Session;
-use crate::state::{Channel, ServerState};
 use crate::statement::run_batch;
-use crate::text::read_statement;
+use crate::text::{Form, read_statement};
 use byteorder::{ByteOrder, LittleEndian};
 use std::alloc::Global;
 use step_model::Port;
 use tds_login::{
-    Config, LoginFault, judge_login, login_reply, prelogin_reply, read_login, read_prelogin,
+    Config, Entry, LoginFault, judge_login, login_reply, prelogin_reply, read_login, read_prelogin,
 };
 use tds_packets::{ATTENTION, DEFAULT_SIZE, LOGIN7, Message, PRELOGIN, SQL_BATCH};
 use value_types::{Memory, UnitsFault, units_of_le};
@@ -36,6 +34,34 @@ const UNREADABLE_LOGIN: i32 = 49010;
 
 /// How many bytes the length of ALL_HEADERS has ([MS-TDS] 2.2.5.3).
 const HEADERS_LENGTH_LEN: usize = 4;
+
+/// Where a connection stands, by the server's states in [MS-TDS] 3.3.5.
+#[derive(Clone, Copy)]
+pub(crate) enum ServerState {
+    /// Before its first message, a PRELOGIN or a LOGIN7.
+    Initial,
+    /// Behind a PRELOGIN: a LOGIN7 comes.
+    LoginReady,
+    /// Logged in: batches and attentions come.
+    LoggedIn {
+        /// The size of the packets that are sent, in bytes.
+        packet_size: u16,
+    },
+}
+
+impl ServerState {
+    /// Where a connection begins.
+    pub(crate) fn first(entry: Entry) -> ServerState
+        ensures { result ≡ first_state entry }
+    {
+        match entry {
+            Entry::Login => ServerState::Initial,
+            Entry::Bare => ServerState::LoggedIn {
+                packet_size: DEFAULT_SIZE,
+            },
+        }
+    }
+}
 
 /// How a message was handled.
 #[derive(Drop)]

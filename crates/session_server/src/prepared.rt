@@ -1,4 +1,4 @@
-//! A response that is about to be sent.
+//! A response that is about to be sent, and how its packets are sent.
 
 ghost use Rattle.std.specs.Prelude.{◌≡◌, ◌≢◌, ◌≤◌, [], Err, IfOk, IfErr, OnOk};
 ghost use Rattle.std.specs.Io.KnownBytes.{Appends};
@@ -8,12 +8,20 @@ ghost use Rattle.tds_packets.specs.Packets.{Packets, IsPartSent, IsPacketSize};
 ghost use Rattle.tds_tokens.specs.Spelling.{TokenBytes};
 ghost use Rattle.tds_tokens.specs.Fit.{FitTokens};
 
-use crate::state::Channel;
 use outside_io::Sink;
 use std::alloc::Global;
 use tds_packets::{SendFault, TABULAR_RESULT, send_message};
 use tds_tokens::{Token, write_tokens};
 use value_types::Memory;
+
+/// How packets are sent: their SPID ([MS-TDS] 2.2.3.1.4) and their size in bytes.
+#[derive(Clone, Copy)]
+pub(crate) struct Channel {
+    /// The SPID.
+    pub(crate) spid: u16,
+    /// The size.
+    pub(crate) packet_size: u16,
+}
 
 /// What is sent for a message.
 #[derive(Drop)]

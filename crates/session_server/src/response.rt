@@ -8,8 +8,8 @@ ghost use Rattle.tds_tokens.specs.Fit.{FitTokens};
 ghost use Rattle.session_server.specs.Response.{error_of, name_in, subject_of, command_of, statement_done, statement_failed, batch_done, attention_tokens, refusal_tokens, number_column, table_columns, row_tokens, result_tokens, effect_tokens, failure_token, failure_tokens};
 
 use crate::effect::{DUPLICATE_KEY, Effect, Exit};
-use crate::form::Form;
 use crate::tables::around;
+use crate::text::Form;
 use error_table::{Action, parts_of, row_of};
 use std::alloc::Global;
 use tds_tokens::{

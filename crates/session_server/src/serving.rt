@@ -7,11 +7,9 @@ ghost use Rattle.session_server.specs.Parts.{IsSized, Spoke, Turned, Ended};
 ghost use Rattle.session_server.specs.Progress.{Ready, first_progress};
 ghost use Rattle.tds_packets.specs.Reading.{byte_limit};
 
-use crate::asking::roll_back_open;
 use crate::end::End;
-use crate::message::{Handling, handle};
+use crate::message::{Handling, ServerState, handle};
 use crate::session::Session;
-use crate::state::ServerState;
 use outside_io::{Sink, Source};
 use std::alloc::Global;
 use step_model::Port;
@@ -36,13 +34,13 @@ pub fn serve_on_port<P: Port, S: Source, K: Sink>(
     requires first { 1 ≤ session }
     requires last { session ≤ 64 }
     requires session { (P.past port.old).session ≡ session }
-    requires idle { (P.past port.old).is_open ≡ false }
+    requires idle { (P.past port.old).standing.is_open ≡ false }
 
     // What was taken, asked, written and committed, and why the connection ended.
     ensures conversation { Conversation config.now session (Takes S.left S.given source.old source.new) (S.left source.new)
         (P.past port.old) (P.past port.new) (K.written sink.old) (K.written sink.new) result }
     ensures session { (P.past port.new).session ≡ session }
-    ensures idle { (P.past port.new).is_open ≡ false }
+    ensures idle { (P.past port.new).standing.is_open ≡ false }
 
     // When reading and writing have failed.
     ensures reads { CountsFault (S.faults source.old) (S.faults source.new) (result ≡ End.ReadFault) }
@@ -55,7 +53,7 @@ pub fn serve_on_port<P: Port, S: Source, K: Sink>(
     let spid = SPID_BASE + session as u16;
     let mut progress = Session::new(alloc);
     let end = serve_messages(alloc, config, spid, &mut progress, port, source, sink);
-    roll_back_open(&mut progress, port);
+    progress.roll_back_open(port);
     end
 }
 

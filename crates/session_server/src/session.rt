@@ -1,14 +1,16 @@
-//! How far a session has come.
+//! How far a session has come, and what it asks of its port.
 
-ghost use Rattle.std.specs.Prelude.{◌≡◌, ◌<◌, ◌==◌, [], true, IfOk, IfErr};
-ghost use Rattle.step_model.specs.Exchange.{CanReply};
+ghost use Rattle.std.specs.Prelude.{◌≡◌, ◌<◌, ◌==◌, [], true, false, Ok, IfOk, IfErr};
+ghost use Rattle.step_model.specs.Exchange.{MayCome, CanReply};
+ghost use Rattle.session_server.specs.Doing.{Asked, Does};
+ghost use Rattle.session_server.specs.Meaning.{rolls_back_open};
 ghost use Rattle.session_server.specs.Parts.{IsFit};
 ghost use Rattle.tds_tokens.specs.Fit.{FitTokens};
-ghost use Rattle.session_server.specs.Progress.{first_progress, made, asked, begins, counts, sends};
+ghost use Rattle.session_server.specs.Progress.{Ready, first_progress, made, asked, begins, counts, sends};
 
 use std::alloc::Global;
 use std::marker::Model;
-use step_model::{Manner, Op, Patience, Reply};
+use step_model::{Manner, Op, Patience, Port, Reply};
 use tds_tokens::Token;
 use value_types::Memory;
 
@@ -56,19 +58,40 @@ impl Session {
         }
     }
 
+    /// Asks one operation in the session's manner.
+    pub(crate) fn ask<P: Port>(&mut self, port: &mut P, op: &Op) -> Reply
+        requires ready { Ready self.old (P.past port.old) }
+        requires may { MayCome (P.past port.old).standing op.now }
+        ensures asked { Asked (P.past port.old) (P.past port.new) op.now self.old result self.new }
+        ensures reply { CanReply op.now result }
+        ensures ready { Ready self.new (P.past port.new) }
+    {
+        let reply = port.ask(op, self.manner);
+        self.note(op, &reply);
+        reply
+    }
+
+    /// Rolls an open transaction back.
+    pub(crate) fn roll_back_open<P: Port>(&mut self, port: &mut P)
+        requires ready { Ready self.old (P.past port.old) }
+        ensures does { Does (P.past port.old) (P.past port.new) rolls_back_open self.old (Ok result) self.new }
+        ensures ready { Ready self.new (P.past port.new) }
+        ensures closed { self.new.is_open ≡ false }
+    {
+        if self.is_open() {
+            match self.ask(port, &Op::Rollback) {
+                Reply::Ended { .. } => {}
+                _ => unreachable!(),
+            }
+        }
+    }
+
     /// What the batch has sent.
     pub(crate) fn tokens(&self) -> &[Token]
         ensures tokens { result.now ≡ self.now.tokens }
         ensures fit { FitTokens [] self.now.tokens }
     {
         self.tokens.as_slice()
-    }
-
-    /// How the session asks.
-    pub(crate) fn manner(&self) -> Manner
-        ensures { result ≡ self.now.manner }
-    {
-        self.manner
     }
 
     /// Whether a transaction is open.
@@ -119,35 +142,24 @@ impl Session {
         Ok(())
     }
 
-    /// Something was fetched or written.
-    pub(crate) fn touch(&mut self)
-        ensures { self.new ≡ record self.old { touched = true } }
-    {
-        self.touched = true;
-    }
-
     /// An operation was asked, and replied so.
-    pub(crate) fn note(&mut self, op: &Op, reply: &Reply)
+    fn note(&mut self, op: &Op, reply: &Reply)
         requires { CanReply op.now reply.now }
         ensures { self.new ≡ asked op.now reply.now self.old }
     {
+        match reply {
+            Reply::Began => self.is_open = true,
+            Reply::Ended { .. } => self.is_open = false,
+            _ => {}
+        }
         match op {
-            Op::Begin => {
-                self.is_open = matches!(reply, Reply::Began) || self.is_open;
-                self.touched = false;
-            }
-            Op::Commit => {
-                self.is_open = false;
-                self.touched = false;
-            }
-            Op::Rollback => {
-                self.is_open = false;
-                self.touched = false;
-            }
-            Op::Relax => self.touched = false,
             Op::Fetch { .. } => self.touched = true,
             Op::Insert { .. } => self.touched = true,
+            Op::Replace { .. } => self.touched = true,
+            Op::Erase { .. } => self.touched = true,
             Op::Mark => {}
+            Op::BackTo { .. } => {}
+            _ => self.touched = false,
         }
     }
 }

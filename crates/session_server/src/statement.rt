@@ -1,31 +1,34 @@
 //! What a batch runs: its statements, one after another.
 
-ghost use Rattle.std.specs.Prelude.{◌≡◌, true, Ok, IfOk};
+ghost use Rattle.std.specs.Prelude.{◌≡◌, true, false, Ok, IfOk, List, [], ◌∷◌};
 ghost use Rattle.std.specs.List.{All};
 ghost use Rattle.step_model.specs.declared.op.Hold.TheVariants as hold;
 ghost use Rattle.lock_modes.specs.declared.KeyPart.TheVariants.{S};
 ghost use Rattle.step_model.specs.declared.op.Op.TheVariants as ops;
 ghost use Rattle.step_model.specs.declared.range.Start.TheVariants.{At};
 ghost use Rattle.step_model.specs.declared.range.Stop.TheVariants.{Within};
-ghost use Rattle.step_model.specs.Ranges.{rows_of};
-ghost use Rattle.session_server.specs.Doing.{Does, asks, over, ◌gives◌};
-ghost use Rattle.session_server.specs.Meaning.{object_present, known, look_up, reads_rows, placed, marked, puts, creates, inserts, selects, work_of, relaxes, closes, own, unless_objects, came_of, ended_by, acted, finished, means, each_of, batch};
+ghost use Rattle.session_server.specs.Doing.{Held, Does, asks};
+ghost use Rattle.session_server.specs.Meaning.{object_present, unless_refused, known, look_up, reads_rows, placed, marked, puts, creates, inserts, selects, work_of, relaxes, closes, own, unless_objects, came_of, ended_by, acted, finished, means, each_of, batch};
 ghost use Rattle.session_server.specs.Parts.{AreTableRows, IsSendable, IsSmallForm};
-ghost use Rattle.session_server.specs.Progress.{Ready};
+ghost use Rattle.session_server.specs.Progress.{Progress, Ready};
 ghost use Rattle.session_server.specs.Response.{duplicate_key};
-ghost use Rattle.session_server.specs.Tables.{table_of, objects_name, object_key, object_row, table_key, table_row, row_fits};
+ghost use Rattle.session_server.specs.Told.{told_commits};
+ghost use Rattle.session_server.specs.declared.text.Form.{Form as BatchForm};
+ghost use Rattle.step_model.specs.Exchange.{Exchange};
+ghost use Rattle.step_model.specs.Fits.{commits_of};
+ghost use Rattle.session_server.specs.Tables.{table_of, objects_name, object_key, object_row, table_key, table_row};
 
-use crate::asking::{ask, read_rows, roll_back_open};
 use crate::effect::{
-    DUPLICATE_KEY, Effect, Exit, NO_MEMORY, NOT_BUILT, OBJECT_PRESENT, RESULT_FULL, RowList,
-    STATEMENTS_SPENT, UNKNOWN_TABLE,
+    DUPLICATE_KEY, Effect, Exit, LOCK_TIMEOUT, NO_MEMORY, NOT_BUILT, OBJECT_PRESENT, RESULT_FULL,
+    RowList, STATEMENTS_SPENT, UNKNOWN_TABLE,
 };
-use crate::form::Form;
+use crate::ranges::read_rows;
 use crate::response::{batch_done, effect_tokens, failure_tokens};
 use crate::session::Session;
 use crate::tables::{
     is_definition, is_objects, object_key, object_row, objects, table, table_key, table_row,
 };
+use crate::text::Form;
 use error_table::{Action, RaisedBy, action_of};
 use lock_modes::KeyPart;
 use std::alloc::Global;
@@ -147,7 +150,7 @@ fn end_by<P: Port>(session: &mut Session, port: &mut P, action: Action) -> Exit
         Action::Doom => Exit::On,
         Action::Batch => Exit::End,
         Action::BatchAndTransaction => {
-            roll_back_open(session, port);
+            session.roll_back_open(port);
             Exit::End
         }
     }
@@ -220,7 +223,7 @@ fn run_own<P: Port>(
         relax(session, port);
         return came;
     }
-    match ask(session, port, &Op::Begin) {
+    match session.ask(port, &Op::Begin) {
         Reply::Began => {
             let came = work(alloc, session, port, statement);
             relax(session, port);
@@ -241,7 +244,7 @@ fn relax<P: Port>(session: &mut Session, port: &mut P)
     ensures begun { session.new.is_open ≡ true }
 {
     if session.is_touched() {
-        match ask(session, port, &Op::Relax) {
+        match session.ask(port, &Op::Relax) {
             Reply::Done => {}
             _ => unreachable!(),
         }
@@ -256,12 +259,12 @@ fn close<P: Port>(session: &mut Session, port: &mut P, succeeded: bool)
     ensures ready { Ready session.new (P.past port.new) }
 {
     if succeeded {
-        match ask(session, port, &Op::Commit) {
+        match session.ask(port, &Op::Commit) {
             Reply::Ended { .. } => {}
             _ => unreachable!(),
         }
     } else {
-        match ask(session, port, &Op::Rollback) {
+        match session.ask(port, &Op::Rollback) {
             Reply::Ended { .. } => {}
             _ => unreachable!(),
         }
@@ -385,7 +388,7 @@ fn find<P: Port>(
 ) -> Result<(), u16>
     requires ready { Ready session.old (P.past port.old) }
     requires begun { session.old.is_open ≡ true }
-    ensures does { Does (P.past port.old) (P.past port.new) (asks (ops.Fetch table (At start) (Within stop) hold.Range S) (known name.now)) session.old (Ok result) session.new }
+    ensures does { Does (P.past port.old) (P.past port.new) (asks (ops.Fetch table (At start) (Within stop) hold.Range S) (unless_refused (known name.now))) session.old (Ok result) session.new }
     ensures ready { Ready session.new (P.past port.new) }
     ensures begun { session.new.is_open ≡ true }
 {
@@ -396,7 +399,7 @@ fn find<P: Port>(
         hold: Hold::Range,
         part: KeyPart::S,
     };
-    match ask(session, port, &fetch) {
+    match session.ask(port, &fetch) {
         Reply::Row { key, row, .. } => {
             if is_definition(name, &(key, row)) {
                 Ok(())
@@ -407,6 +410,7 @@ fn find<P: Port>(
         Reply::Gone { .. } => Err(UNKNOWN_TABLE),
         Reply::End { .. } => Err(UNKNOWN_TABLE),
         Reply::Memory => Err(NO_MEMORY),
+        Reply::TimedOut { .. } => Err(LOCK_TIMEOUT),
         _ => unreachable!(),
     }
 }
@@ -424,7 +428,7 @@ fn look_for_triggers<P: Port>(
     ensures begun { session.new.is_open ≡ true }
 {
     match objects(alloc) {
-        Ok(table) => read(alloc, session, port, table, Hold::Range),
+        Ok(table) => read_rows(alloc, session, port, table, Hold::Range),
         Err(_) => Err(NO_MEMORY),
     }
 }
@@ -444,29 +448,9 @@ fn read_table<P: Port>(
     ensures fit { IfOk result AreTableRows }
 {
     match table(alloc, name) {
-        Ok(table) => read(alloc, session, port, table, Hold::Row),
+        Ok(table) => read_rows(alloc, session, port, table, Hold::Row),
         Err(_) => Err(NO_MEMORY),
     }
-}
-
-/// Reads all rows of a table, which are touched then.
-fn read<P: Port>(
-    alloc: Global,
-    session: &mut Session,
-    port: &mut P,
-    table: TableName,
-    hold: Hold,
-) -> Result<RowList, u16>
-    requires ready { Ready session.old (P.past port.old) }
-    requires begun { session.old.is_open ≡ true }
-    ensures does { Does (P.past port.old) (P.past port.new) (rows_of row_fits table hold gives over) session.old (Ok result) session.new }
-    ensures ready { Ready session.new (P.past port.new) }
-    ensures begun { session.new.is_open ≡ true }
-    ensures fit { IfOk result AreTableRows }
-{
-    let rows = read_rows(alloc, port, session.manner(), table, hold);
-    session.touch();
-    rows
 }
 
 /// Puts a table's definition at its key.
@@ -520,11 +504,11 @@ fn put<P: Port>(
 ) -> Result<(), u16>
     requires ready { Ready session.old (P.past port.old) }
     requires begun { session.old.is_open ≡ true }
-    ensures does { Does (P.past port.old) (P.past port.new) (asks ops.Mark (marked (asks (ops.Insert table key row) (placed present)))) session.old (Ok result) session.new }
+    ensures does { Does (P.past port.old) (P.past port.new) (asks ops.Mark (unless_refused (marked (asks (ops.Insert table key row) (unless_refused (placed present)))))) session.old (Ok result) session.new }
     ensures ready { Ready session.new (P.past port.new) }
     ensures begun { session.new.is_open ≡ true }
 {
-    match ask(session, port, &Op::Mark) {
+    match session.ask(port, &Op::Mark) {
         Reply::Marked(_) => insert_row(session, port, table, key, row, present),
         Reply::Memory => Err(NO_MEMORY),
         _ => unreachable!(),
@@ -542,14 +526,15 @@ fn insert_row<P: Port>(
 ) -> Result<(), u16>
     requires ready { Ready session.old (P.past port.old) }
     requires begun { session.old.is_open ≡ true }
-    ensures does { Does (P.past port.old) (P.past port.new) (asks (ops.Insert table key row) (placed present)) session.old (Ok result) session.new }
+    ensures does { Does (P.past port.old) (P.past port.new) (asks (ops.Insert table key row) (unless_refused (placed present))) session.old (Ok result) session.new }
     ensures ready { Ready session.new (P.past port.new) }
     ensures begun { session.new.is_open ≡ true }
 {
-    match ask(session, port, &Op::Insert { table, key, row }) {
+    match session.ask(port, &Op::Insert { table, key, row }) {
         Reply::Done => Ok(()),
         Reply::Exists => Err(present),
         Reply::Memory => Err(NO_MEMORY),
+        Reply::TimedOut { .. } => Err(LOCK_TIMEOUT),
         _ => unreachable!(),
     }
 }
@@ -591,3 +576,10 @@ fn table_change(
         table_row(alloc, key, value)?,
     ))
 }
+
+/// What is committed for a batch of one statement, begun where no transaction is open, is what its tokens
+/// tell, and no transaction is open behind it.
+pub fn law_commits()
+    ensures told { (statement : BatchForm) (old new : Progress) (exchanges : List Exchange) → old.is_open ≡ false → Held (batch (statement ∷ [])) old exchanges tt new → commits_of exchanges ≡ told_commits statement new.tokens }
+    ensures closed { (statement : BatchForm) (old new : Progress) (exchanges : List Exchange) → old.is_open ≡ false → Held (batch (statement ∷ [])) old exchanges tt new → new.is_open ≡ false }
+{}

@@ -5,11 +5,41 @@ ghost use Rattle.std.specs.Cmp.Lexicographic.{pointwise};
 ghost use Rattle.std.specs.List.{prefix_len, list_all};
 ghost use Rattle.std.specs.Option.{option_map};
 ghost use Rattle.session_server.specs.Text.{behind, run_of, name_of, number_of, is_digit, is_letter, digits_value, selected_number, created_table, selected_table, values_of, inserted_row, statement_of, Spells};
-ghost use Rattle.session_server.specs.declared.form.Form.{Form as BatchForm};
+ghost use Rattle.session_server.specs.declared.text.Form.{Form as BatchForm};
 
-use crate::form::Form;
 use std::alloc::Global;
 use value_types::{Memory, Units};
+
+/// A statement that is served, as one of the forms that a text may have.
+#[derive(Debug, Drop, PartialEq)]
+pub enum Form {
+    /// `SELECT` of one number.
+    SelectNumber {
+        /// The number.
+        number: u32,
+    },
+    /// `CREATE TABLE` of a table with the columns `k`, the key, and `v`.
+    CreateTable {
+        /// The table's name.
+        name: Units,
+    },
+    /// `INSERT` of one row.
+    Insert {
+        /// The table's name.
+        name: Units,
+        /// The value of `k`.
+        key: u32,
+        /// The value of `v`.
+        value: u32,
+    },
+    /// `SELECT` of a whole table.
+    SelectTable {
+        /// The table's name.
+        name: Units,
+    },
+    /// Any other text.
+    Unread,
+}
 
 /// What stands before the name where a table is created.
 pub(crate) const CREATE_TABLE: &str = "CREATE TABLE ";

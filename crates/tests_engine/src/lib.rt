@@ -1,13 +1,10 @@
-//! Tests of values, lock modes and the engine, as tables: how values and keys are compared, which modes agree
-//! and what they join to, what the engine answers, step by step, and that a port goes on telling.
+//! Tests of lock modes and of the engine by what no script of steps can say. Scripts are rows of `tests_rows`.
 #![tactic(auto)]
 
 #[cfg(test)]
-mod answers;
-#[cfg(test)]
 mod modes;
 #[cfg(test)]
-mod values;
+mod sessions;
 
 /// The crate has tests alone.
 pub fn nothing() {}

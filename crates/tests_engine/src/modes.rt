@@ -4,97 +4,101 @@ use lock_modes::{
     KeyPart, Pair, RangePart, agree, join, law_agree_join, law_agree_symmetric,
     law_join_associative, law_join_commutative, law_join_idempotent, law_mode_names,
 };
+use std::test::Fail;
 
-const S: Pair = Pair::SHARED;
+/// Two modes, `+` where they agree, and their join.
+const EVERY_TWO: &str = "S S + S
+S U + U
+S X - X
+S RangeS-S + RangeS-S
+S RangeS-U + RangeS-U
+S RangeI-N + RangeI-S
+S RangeX-X - RangeX-X
+U U - U
+U X - X
+U RangeS-S + RangeS-U
+U RangeS-U - RangeS-U
+U RangeI-N + RangeI-U
+U RangeX-X - RangeX-X
+X X - X
+X RangeS-S - RangeS-X
+X RangeS-U - RangeS-X
+X RangeI-N + RangeI-X
+X RangeX-X - RangeX-X
+RangeS-S RangeS-S + RangeS-S
+RangeS-S RangeS-U + RangeS-U
+RangeS-S RangeI-N - RangeX-S
+RangeS-S RangeX-X - RangeX-X
+RangeS-U RangeS-U - RangeS-U
+RangeS-U RangeI-N - RangeX-U
+RangeS-U RangeX-X - RangeX-X
+RangeI-N RangeI-N + RangeI-N
+RangeI-N RangeX-X - RangeX-X
+RangeX-X RangeX-X - RangeX-X";
 
-const U: Pair = Pair::UPDATE;
+fn range_part(word: &str) -> Option<RangePart> {
+    match word {
+        "S" => Some(RangePart::S),
+        "I" => Some(RangePart::I),
+        "X" => Some(RangePart::X),
+        _ => None,
+    }
+}
 
-const X: Pair = Pair::EXCLUSIVE;
+fn key_part(word: &str) -> Option<KeyPart> {
+    match word {
+        "N" => Some(KeyPart::N),
+        "S" => Some(KeyPart::S),
+        "U" => Some(KeyPart::U),
+        "X" => Some(KeyPart::X),
+        _ => None,
+    }
+}
 
-const RANGE_S_S: Pair = Pair::RANGE_S_S;
+/// The mode of a name.
+fn mode_of(name: &str) -> Option<Pair> {
+    let (range, key) = match name.strip_prefix("Range") {
+        Some(parts) => {
+            let (range, key) = parts.split_once('-')?;
+            (range_part(range)?, key)
+        }
+        None => (RangePart::N, name),
+    };
+    Some(Pair {
+        range,
+        key: key_part(key)?,
+    })
+}
 
-const RANGE_S_U: Pair = Pair::RANGE_S_U;
-
-const RANGE_I_N: Pair = Pair::RANGE_I_N;
-
-const RANGE_X_X: Pair = Pair::RANGE_X_X;
-
-const RANGE_S_X: Pair = Pair {
-    range: RangePart::S,
-    key: KeyPart::X,
-};
-
-const RANGE_I_S: Pair = Pair {
-    range: RangePart::I,
-    key: KeyPart::S,
-};
-
-const RANGE_I_U: Pair = Pair {
-    range: RangePart::I,
-    key: KeyPart::U,
-};
-
-const RANGE_I_X: Pair = Pair {
-    range: RangePart::I,
-    key: KeyPart::X,
-};
-
-const RANGE_X_S: Pair = Pair {
-    range: RangePart::X,
-    key: KeyPart::S,
-};
-
-const RANGE_X_U: Pair = Pair {
-    range: RangePart::X,
-    key: KeyPart::U,
-};
+/// Two modes, whether they agree, and their join.
+fn line_of(line: &str) -> Option<(Pair, Pair, bool, Pair)> {
+    let (first, others) = line.split_once(' ')?;
+    let (second, others) = others.split_once(' ')?;
+    let (sign, joined) = others.split_once(' ')?;
+    Some((
+        mode_of(first)?,
+        mode_of(second)?,
+        sign == "+",
+        mode_of(joined)?,
+    ))
+}
 
 #[test]
-fn every_two_modes(rt: HostRuntime) {
-    // Two modes in either order, whether they agree, and their join.
-    let table = [
-        (S, S, true, S),
-        (S, U, true, U),
-        (S, X, false, X),
-        (S, RANGE_S_S, true, RANGE_S_S),
-        (S, RANGE_S_U, true, RANGE_S_U),
-        (S, RANGE_I_N, true, RANGE_I_S),
-        (S, RANGE_X_X, false, RANGE_X_X),
-        (U, U, false, U),
-        (U, X, false, X),
-        (U, RANGE_S_S, true, RANGE_S_U),
-        (U, RANGE_S_U, false, RANGE_S_U),
-        (U, RANGE_I_N, true, RANGE_I_U),
-        (U, RANGE_X_X, false, RANGE_X_X),
-        (X, X, false, X),
-        (X, RANGE_S_S, false, RANGE_S_X),
-        (X, RANGE_S_U, false, RANGE_S_X),
-        (X, RANGE_I_N, true, RANGE_I_X),
-        (X, RANGE_X_X, false, RANGE_X_X),
-        (RANGE_S_S, RANGE_S_S, true, RANGE_S_S),
-        (RANGE_S_S, RANGE_S_U, true, RANGE_S_U),
-        (RANGE_S_S, RANGE_I_N, false, RANGE_X_S),
-        (RANGE_S_S, RANGE_X_X, false, RANGE_X_X),
-        (RANGE_S_U, RANGE_S_U, false, RANGE_S_U),
-        (RANGE_S_U, RANGE_I_N, false, RANGE_X_U),
-        (RANGE_S_U, RANGE_X_X, false, RANGE_X_X),
-        (RANGE_I_N, RANGE_I_N, true, RANGE_I_N),
-        (RANGE_I_N, RANGE_X_X, false, RANGE_X_X),
-        (RANGE_X_X, RANGE_X_X, false, RANGE_X_X),
-    ];
-    for (a, b, agrees, joined) in table {
-        assert_eq!(rt; agree(a, b), agrees, "{a:?} with {b:?}");
-        assert_eq!(rt; agree(b, a), agrees, "{b:?} with {a:?}");
-        assert_eq!(rt; join(a, b), joined, "{a:?} with {b:?}");
-        assert_eq!(rt; join(b, a), joined, "{b:?} with {a:?}");
-        assert!(rt; agree(Pair::NONE, a), "no lock with {a:?}");
-        assert_eq!(rt; join(Pair::NONE, a), a, "no lock with {a:?}");
+fn every_two_modes(rt: HostRuntime) -> Result<(), Fail> {
+    for line in EVERY_TWO.lines() {
+        let (a, b, agrees, joined) = line_of(line).ok_or(line)?;
+        assert_eq!(rt; agree(a, b), agrees, "{line}");
+        assert_eq!(rt; agree(b, a), agrees, "{line}");
+        assert_eq!(rt; join(a, b), joined, "{line}");
+        assert_eq!(rt; join(b, a), joined, "{line}");
+        assert!(rt; agree(Pair::NONE, a), "{line}");
+        assert_eq!(rt; join(Pair::NONE, a), a, "{line}");
     }
-
     law_mode_names();
     law_agree_symmetric();
     law_agree_join();
     law_join_commutative();
     law_join_associative();
     law_join_idempotent();
+    Ok(())
 }

@@ -6,7 +6,7 @@ ghost use Rattle.step_model.specs.Exchange.{CanReply};
 ghost use Rattle.step_model.specs.Database.{is_within};
 ghost use Rattle.step_model.specs.declared.op.Hold.{Hold};
 ghost use Rattle.value_types.specs.declared.table_name.TableName.{TableName as Name};
-ghost use Rattle.engine_core.specs.Solo.{solo_open, solo_marks};
+ghost use Rattle.engine_core.specs.Solo.{solo_past};
 
 use engine_core::SoloPort;
 use std::alloc::Global;
@@ -53,8 +53,8 @@ impl Counting {
 impl Port for Counting {
     ghost past = { λ counting. record {
       session = counting.port.session;
-      is_open = solo_open counting.port;
-      marks = solo_marks counting.port;
+      standing = (solo_past counting.port).standing;
+      sure = λ span t x. Unit {0};
       told = None;
       led_by = λ _. Unit {0};
     } };
@@ -67,6 +67,8 @@ impl Port for Counting {
                 stop,
                 ..
             } if is_counted(table) => self.first(start, stop),
+            // No row is written, and so none is missing where one is sure.
+            Op::Replace { .. } | Op::Erase { .. } => Reply::Memory,
             _ => self.port.ask(op, manner),
         }
     }

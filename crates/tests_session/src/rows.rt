@@ -2,7 +2,7 @@
 
 ghost use Rattle.std.specs.Prelude.{◌≡◌, ℕ, List, true, false, IfOk};
 ghost use Rattle.step_model.specs.Exchange.{MayAsk, MayCome};
-ghost use Rattle.engine_core.specs.Solo.{solo_open, solo_marks};
+ghost use Rattle.engine_core.specs.Solo.{solo_open, solo_past};
 
 use self::Cell::{Bit, Null, Text, Whole};
 use crate::served::{assert_lines, reply_to};
@@ -113,12 +113,14 @@ fn insertion(rt: &impl Abort, alloc: Global, table: &str, keyed: Keyed) -> Resul
 }
 
 fn may_ask(port: &SoloPort, op: &Op) -> bool
-    ensures { result ≡ true → MayAsk (solo_open port.now) (solo_marks port.now) op.now MANNER }
+    ensures { result ≡ true → MayAsk (solo_past port.now).standing op.now MANNER }
 {
     let open = port.in_transaction();
     match op {
         Op::Begin => !open,
         Op::Fetch { part, .. } => open && matches!(part, KeyPart::S | KeyPart::U),
+        // None of these goes back to a mark.
+        Op::BackTo { .. } => false,
         _ => open,
     }
 }

@@ -34,8 +34,8 @@ pub(crate) fn with_login(alloc: Global) -> Result<Config, Memory> {
 /// The end of a bare connection of session 1 with this input, and what it wrote.
 pub(crate) fn serve<P: Port>(alloc: Global, port: &mut P, input: Vec<u8>) -> (End, Vec<u8>)
     requires session { (P.past port.old).session ≡ 1 }
-    requires idle { (P.past port.old).is_open ≡ false }
-    ensures idle { (P.past port.new).is_open ≡ false }
+    requires idle { (P.past port.old).standing.is_open ≡ false }
+    ensures idle { (P.past port.new).standing.is_open ≡ false }
     ensures session { (P.past port.new).session ≡ 1 }
 {
     let config = bare(alloc);
@@ -53,8 +53,8 @@ pub(crate) fn reply_to<P: Port>(
     text: &str,
 ) -> Result<Vec<String>, Fail>
     requires session { (P.past port.old).session ≡ 1 }
-    requires idle { (P.past port.old).is_open ≡ false }
-    ensures idle { (P.past port.new).is_open ≡ false }
+    requires idle { (P.past port.old).standing.is_open ≡ false }
+    ensures idle { (P.past port.new).standing.is_open ≡ false }
     ensures session { (P.past port.new).session ≡ 1 }
 {
     let input = batch(alloc, text);

@@ -7,7 +7,7 @@ ghost use Rattle.step_model.specs.declared.op.Hold.{Hold};
 ghost use Rattle.step_model.specs.declared.range.Start.{Start as From};
 ghost use Rattle.step_model.specs.declared.range.Stop.{Stop as To};
 ghost use Rattle.value_types.specs.declared.table_name.TableName.{TableName as Name};
-ghost use Rattle.engine_core.specs.Solo.{solo_open, solo_marks};
+ghost use Rattle.engine_core.specs.Solo.{solo_open, solo_past};
 
 use engine_core::SoloPort;
 use std::alloc::{AllocError, Global};
@@ -46,8 +46,8 @@ impl Watched {
 impl Port for Watched {
     ghost past = { λ watched. record {
       session = watched.port.session;
-      is_open = solo_open watched.port;
-      marks = solo_marks watched.port;
+      standing = (solo_past watched.port).standing;
+      sure = λ span t x. Unit {0};
       told = None;
       led_by = λ _. Unit {0};
     } };
@@ -56,6 +56,10 @@ impl Port for Watched {
         // A line for which there is no memory is missed by whoever compares them.
         let _ = put_line(self.alloc, &mut self.asked, op, manner);
         if self.asked.len() == self.lacking && may_lack_memory(op) {
+            return Reply::Memory;
+        }
+        // No row is written, and so none is missing where one is sure.
+        if matches!(op, Op::Replace { .. } | Op::Erase { .. }) {
             return Reply::Memory;
         }
         let reply = self.port.ask(op, manner);
@@ -87,8 +91,8 @@ fn may_lack_memory(op: &Op) -> bool
     ensures { result ≡ true → MayLackMemory op.now }
 {
     match op {
-        Op::Begin | Op::Fetch { .. } | Op::Insert { .. } | Op::Mark => true,
-        Op::Relax | Op::Commit | Op::Rollback => false,
+        Op::BackTo { .. } | Op::Relax | Op::Commit | Op::Rollback => false,
+        _ => true,
     }
 }
 
@@ -136,6 +140,18 @@ fn put_op(line: &mut String, op: &Op) -> Result<(), AllocError> {
             put_values(line, key.as_slice())?;
             put_values(line, row.as_slice())
         }
+        Op::Replace { table, key, row } => {
+            line.push_str("Replace ")?;
+            put_table(line, table)?;
+            put_values(line, key.as_slice())?;
+            put_values(line, row.as_slice())
+        }
+        Op::Erase { table, key } => {
+            line.push_str("Erase ")?;
+            put_table(line, table)?;
+            put_values(line, key.as_slice())
+        }
+        Op::BackTo { mark } => write!(line, "BackTo {mark}"),
         Op::Mark => line.push_str("Mark"),
         Op::Relax => line.push_str("Relax"),
         Op::Commit => line.push_str("Commit"),

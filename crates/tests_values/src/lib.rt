@@ -1,10 +1,13 @@
-//! Tests of conversions, variables and transaction states, with ample memory. What they answer is proved; that they answer is shown here.
+//! Tests of values, conversions, variables and transaction states, with ample memory. What they answer is
+//! proved; that they answer is shown here.
 #![tactic(auto)]
 
 #[cfg(test)]
 mod conversions;
 #[cfg(test)]
 mod transactions;
+#[cfg(test)]
+mod values;
 #[cfg(test)]
 mod variables;
 

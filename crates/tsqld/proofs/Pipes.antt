@@ -10,11 +10,13 @@ use Rattle.tds_packets.specs.Reading.{StopsBy}
 use Rattle.tds_packets.specs.declared.fault.MessageFault.{MessageFault}
 use Rattle.tds_packets.specs.declared.fault.MessageFault.TheVariants as reading
 use Rattle.tds_packets.proofs.Joined.{message_length}
-use Rattle.step_model.specs.Exchange.{Exchange, TellsAll}
+use Rattle.step_model.specs.Exchange.{Exchange}
+use Rattle.step_model.specs.Port.{TellsAll}
 use Rattle.step_model.specs.Log.{Commit}
 use Rattle.step_model.specs.Fits.{Fits, commits_of}
-use Rattle.step_model.specs.Step.{Run, asked_by, opening, is_open}
-use Rattle.engine_core.specs.Solo.{Solo, solo_open, solo_past}
+use Rattle.step_model.specs.State.{is_open}
+use Rattle.step_model.specs.Runs.{Run, opening}
+use Rattle.engine_core.specs.Solo.{Solo, asked_by, solo_open, solo_past}
 use Rattle.engine_core.proofs.Fitting.{run_fits, run_own}
 use Rattle.session_server.specs.declared.end.End.{End}
 use Rattle.session_server.specs.declared.end.End.TheVariants as ends
@@ -33,7 +35,7 @@ all_own session [] own = refl
 all_own session (commit ∷ log) own = rw (eq-eqb commit.session session (own 0 commit (omega arith))) (ap (λ (others : List Commit). commit ∷ others) (all_own session log (λ k d below. own (suc k) d (omega (arith, below)))))
 
 -- the commits of the log are those of the exchanges
-logged : (exchanges : List Exchange) (log : List Commit) → Fits 1 [] log exchanges → All (λ commit. commit.session ≡ 1) log → map (λ commit. commit.changes) log ≡ commits_of [] exchanges
+logged : (exchanges : List Exchange) (log : List Commit) → Fits 1 [] log exchanges → All (λ commit. commit.session ≡ 1) log → map (λ commit. commit.changes) log ≡ commits_of exchanges
 logged exchanges log fits own = ap (map {A = Commit} (λ commit. commit.changes)) (sym (all_own 1 log own)) ∙ fits.commits.1
 
 -- ---- want of memory
@@ -126,7 +128,7 @@ piped config gave left sink_before sink_after before after end status new served
       fits = fits;
       commits = logged means.exchanges after.engine.log fits own;
       own = own;
-      idle = ap (λ (session : ℕ). is_open session after.engine.active) (sym one) ∙ closed;
+      idle = ap (λ (session : ℕ). is_open session after.engine) (sym one) ∙ closed;
       memory = wanted config sink_before sink_after heard.taken heard.rest means.exchanges heard.responses after.told end status heard.messages heard.cause is heard.end_is heard.split.joined means.asked means.past.told heard.caused heard.written;
     }
 

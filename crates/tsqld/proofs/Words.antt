@@ -6,7 +6,7 @@ use Rattle.std.specs.Str.{chars}
 use Rattle.std.specs.Cmp.Lexicographic.{pointwise, bytes_decides}
 use Rattle.value_types.specs.Units.{utf16_of}
 use Rattle.tds_login.specs.declared.config.Config.{Config}
-use Rattle.tsqld.specs.Program.{IsPipe, login_config}
+use Rattle.tsqld.specs.Program.{IsPipe, IsSteps, login_config}
 
 -- ---- texts
 
@@ -98,3 +98,10 @@ module _ {A : Type 0} (bytes : A → List ℕ) where
   other_count options config is zero one four =
       let same = length-map options bytes in
       counted (map bytes options) config is (λ none. zero (sym same ∙ none)) (λ single. one (sym same ∙ single)) (λ all. four (sym same ∙ all))
+
+-- ---- `steps`
+
+module _ {A : Type 0} (bytes : A → List ℕ) where
+  -- one word is the word
+  pub one_steps : (words : List A) (first : A) → 1 ≤ length words → length words < 2 → first ≡ get_or words 0 first → bytes first ≡ codes "steps" → IsSteps (map bytes words)
+  one_steps words first least below is same = one_word bytes words first least below is ∙ ap (λ (text : List ℕ). text ∷ []) same

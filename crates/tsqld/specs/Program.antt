@@ -1,4 +1,4 @@
--- Own: the words of the program, its statuses, and what `pipe` does. It is said of the whole run; the
+-- Own: the words of the program, its statuses, and what `pipe` and `steps` do. It is said of the whole run; the
 -- code calls the connection, and asks the port whether it tells.
 use Rattle.std.specs.Prelude.{◌≡◌, ℕ, ◌<◌, ◌≤◌, ◌⊎◌, Bool, true, false, List, [], ◌∷◌, length, map, Option, Some, is_some, IfSome, codes}
 use Rattle.std.specs.List.{All}
@@ -9,8 +9,10 @@ use Rattle.tds_packets.specs.declared.message.Message.{Message}
 use Rattle.tds_packets.specs.Stream.{Splits}
 use Rattle.tds_packets.specs.Reading.{byte_limit}
 use Rattle.step_model.specs.Fits.{Fits, commits_of}
-use Rattle.step_model.specs.Step.{Run, asked_by, opening, is_open}
-use Rattle.engine_core.specs.Solo.{Solo, solo_past}
+use Rattle.step_model.specs.State.{is_open}
+use Rattle.step_model.specs.Runs.{Run, opening}
+use Rattle.engine_core.specs.Solo.{Solo, asked_by, solo_past}
+use Rattle.steps_command.specs.Play.{Stage, first_manners}
 use Rattle.session_server.specs.declared.end.End.{End}
 use Rattle.session_server.specs.declared.end.End.TheVariants.{Closed, Cut, BadHeader, TooLong, OutOfPlace, BadPrelogin, LoginRefused, BadBatch, Spent, ReadFault, WriteFault, Memory}
 use Rattle.session_server.specs.Conversation.{Conversation, IsUnended}
@@ -33,9 +35,17 @@ IsPipe words config =
     ⊎ (((user : List ℕ) × (password : List ℕ) × (words ≡ codes "pipe" ∷ codes "--user" ∷ user ∷ codes "--password" ∷ password ∷ []) × (config ≡ login_config (utf16_of user) (utf16_of password)))
     ⊎ ((words ≡ codes "pipe" ∷ codes "--bare" ∷ []) × (config ≡ bare_config)))
 
--- the words are no command
+-- the words are none of these
+abbrev pub IsNoPipe : List (List ℕ) → Type 0
+IsNoPipe words = (config : Config) → IsPipe words config → ⊥
+
+-- they are `steps`
+abbrev pub IsSteps : List (List ℕ) → Type 0
+IsSteps words = words ≡ codes "steps" ∷ []
+
+-- they are no command
 abbrev pub IsNoCommand : List (List ℕ) → Type 0
-IsNoCommand words = (config : Config) → IsPipe words config → ⊥
+IsNoCommand words = IsNoPipe words × (IsSteps words → ⊥)
 
 -- ---- statuses
 
@@ -72,10 +82,10 @@ pub record PipedOver (config : Config) (gave : List ℕ → Type 0) (left sink_b
   pub run : Run opening (asked_by 1 conversation.means.exchanges) port.engine
   pub fits : Fits 1 [] port.engine.log conversation.means.exchanges
   -- the commits of the log are those of the exchanges, each once, in order, and no others
-  pub commits : map (λ commit. commit.changes) port.engine.log ≡ commits_of [] conversation.means.exchanges
+  pub commits : map (λ commit. commit.changes) port.engine.log ≡ commits_of conversation.means.exchanges
   pub own : All (λ commit. commit.session ≡ 1) port.engine.log
   -- no transaction is left open
-  pub idle : is_open 1 port.engine.active ≡ false
+  pub idle : is_open 1 port.engine ≡ false
   -- memory was wanting only after a whole header was taken
   pub memory : status ≡ 6 → 8 ≤ length conversation.heard.taken
 
@@ -87,3 +97,9 @@ Piped config gave left sink_before sink_after status = (port : Solo) × PipedOve
 -- the talk, as a refused login does: all were answered, or memory was wanting.
 abbrev pub EndsWell : Config → Option (List ℕ) → ℕ → Type 0
 EndsWell config told status = IfSome told (λ bytes. length bytes < byte_limit → (messages : List Message) → Splits bytes messages [] → IsUnended config messages → (status ≡ 0) ⊎ (status ≡ 6))
+
+-- ---- what `steps` does
+
+-- an engine before any step, and the manners in which sessions ask at first
+abbrev pub first_stage : Stage
+first_stage = record { engine = opening; manners = first_manners }

@@ -86,8 +86,34 @@ fn a_login_is_by_the_user_and_the_password_that_are_given(rt: HostRuntime) -> Re
     Ok(())
 }
 
-/// Words next to `pipe`, `pipe --user U --password P` and `pipe --bare`.
-static NO_COMMANDS: [&[&str]; 23] = [
+#[test]
+fn a_script_ends_with_its_status(rt: HostRuntime) -> Result<(), Fail> {
+    let alloc = rt.alloc();
+    let table: [(&str, &[u32], &[u32], u8, &str); 6] = [
+        ("", &[], &[], 0, ""),
+        ("1 begin\n1 commit", &[], &[], 0, "1 began\n1 ended 0\n"),
+        (
+            "1 begin\n1 hop\n1 commit\n",
+            &[],
+            &[],
+            5,
+            "1 began\nbad line 2\n",
+        ),
+        ("1 begin\n", &[1], &[], 3, ""),
+        ("1 begin\n1 commit\n", &[], &[2], 4, "1 began"),
+        ("1 hop\n", &[], &[1], 4, ""),
+    ];
+    for (script, reads, writes, wanted, printed) in table {
+        let input = script.as_bytes().to_vec(alloc)?;
+        let (status, written) = run(alloc, &["steps"], input, reads, writes)?;
+        assert_eq!(rt; status, wanted, "{script:?}");
+        assert_eq!(rt; written.as_slice(), printed.as_bytes(), "{script:?}");
+    }
+    Ok(())
+}
+
+/// Words next to `pipe`, `pipe --user U --password P`, `pipe --bare` and `steps`.
+static NO_COMMANDS: [&[&str]; 26] = [
     &[],
     &[""],
     &["Pipe"],
@@ -95,6 +121,9 @@ static NO_COMMANDS: [&[&str]; 23] = [
     &["--help"],
     &["--version"],
     &["listen"],
+    &["Steps"],
+    &["step"],
+    &["steps", "--bare"],
     &["pipe --bare"],
     &["pipe", ""],
     &["pipe", "pipe"],

@@ -10,3 +10,6 @@ returns-in-Exists-clause-does g c = does_asks c.in-Exists.ensures.asked (does_ov
 
 pub returns-in-Memory-clause-does : goal.returns-in-Memory-clause-does
 returns-in-Memory-clause-does g c = does_asks c.in-Memory.ensures.asked (does_over refl)
+
+pub returns-in-TimedOut-clause-does : goal.returns-in-TimedOut-clause-does
+returns-in-TimedOut-clause-does g c = does_asks c.in-TimedOut.ensures.asked (does_over refl)

@@ -5,7 +5,7 @@ use Rattle.session_server.proofs.statement.look_for_triggers.Goals as goal
 
 pub returns-in-Ok-clause-does : goal.returns-in-Ok-clause-does
 unfolding reads_rows
-returns-in-Ok-clause-does g c = does_room true (rw c.in-Ok.ensures at c.read.ensures.does)
+returns-in-Ok-clause-does g c = does_room true (rw c.in-Ok.ensures at c.read_rows.ensures.does)
 
 pub returns-in-Err-clause-does : goal.returns-in-Err-clause-does
 unfolding reads_rows

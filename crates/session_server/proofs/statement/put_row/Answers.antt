@@ -4,14 +4,14 @@ use Rattle.value_types.specs.declared.table_name.TableName.{TableName}
 use Rattle.value_types.specs.declared.key.Key.{Key}
 use Rattle.value_types.specs.declared.row.Row.{Row}
 use Rattle.session_server.specs.Doing.{Does, asks}
-use Rattle.session_server.specs.Meaning.{placed, marked, puts}
+use Rattle.session_server.specs.Meaning.{unless_refused, placed, marked, puts}
 use Rattle.session_server.specs.Response.{duplicate_key}
 use Rattle.session_server.proofs.Composed.{does_over, does_room}
 use Rattle.session_server.proofs.statement.put_row.Goals as goal
 
 pub returns-in-Ok-clause-does : goal.returns-in-Ok-clause-does
 unfolding puts
-returns-in-Ok-clause-does g c = does_room true (subst (λ (t : TableName × Key × Row). Does (g.P.Port.past c.args.port.now) (g.P.Port.past c.put.new.port) (asks Mark (marked (asks (Insert t.0 t.1 t.2) (placed duplicate_key)))) c.args.session.now (Ok c.put.result) c.put.new.session) c.in-Ok.ensures c.put.ensures.does)
+returns-in-Ok-clause-does g c = does_room true (subst (λ (t : TableName × Key × Row). Does (g.P.Port.past c.args.port.now) (g.P.Port.past c.put.new.port) (asks Mark (unless_refused (marked (asks (Insert t.0 t.1 t.2) (unless_refused (placed duplicate_key)))))) c.args.session.now (Ok c.put.result) c.put.new.session) c.in-Ok.ensures c.put.ensures.does)
 
 pub returns-in-Err-clause-does : goal.returns-in-Err-clause-does
 unfolding puts

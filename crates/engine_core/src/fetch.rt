@@ -1,0 +1,76 @@
+//! A fetch: the first key of a range, with the row that the session sees there.
+
+ghost use Rattle.std.specs.Prelude.{◌≡◌, true, length, IfOk, OnErr};
+ghost use Rattle.std.specs.Option.{option_copied};
+ghost use Rattle.step_model.specs.Exchange.{IsSession};
+ghost use Rattle.step_model.specs.State.{is_open};
+ghost use Rattle.history_laws.specs.Sane.{Sane};
+ghost use Rattle.engine_core.specs.AtKeys.{StepsWith, fetch_reply_at};
+
+use crate::claim::{fetch_claim_at, includes};
+use crate::parts::Parts;
+use lock_modes::KeyPart;
+use step_model::{Hold, Op, Patience, Reply, Start, Stop};
+use value_types::{Key, Memory, TableName};
+
+impl Parts {
+    /// Looks for the first key of a range, and locks what is asked there.
+    pub(crate) fn fetch(
+        &mut self,
+        session: u32,
+        table: &TableName,
+        start: &Start,
+        stop: &Stop,
+        hold: Hold,
+        part: KeyPart,
+        patience: Patience,
+    ) -> Result<Reply, Memory>
+        requires session { IsSession session }
+        requires begun { is_open session self.old ≡ true }
+        requires sane { Sane self.old }
+        ensures step { let op = Op.Fetch table.now start.now stop.now hold part in
+            IfOk result (λ reply. StepsWith patience self.old session op reply self.new) }
+        ensures err { OnErr result (self.new ≡ self.old) }
+    {
+        let found = self.rows.next_entry(table, start);
+        let reply = self.fetch_reply_at(session, table, stop, found)?;
+        let Some(claim) = fetch_claim_at(self.alloc, hold, part, table, stop, found)? else {
+            return Ok(reply);
+        };
+        match self.passed(session, claim, patience) {
+            Err(refusal) => Ok(refusal),
+            Ok(claim) => {
+                self.keep(session, &claim)?;
+                Ok(reply)
+            }
+        }
+    }
+
+    // What a fetch is answered, by the key that it finds.
+    fn fetch_reply_at(
+        &self,
+        session: u32,
+        table: &TableName,
+        stop: &Stop,
+        found: Option<&Key>,
+    ) -> Result<Reply, Memory>
+        ensures { let answer = fetch_reply_at self.now.entries session table.now stop.now in
+            IfOk result (λ reply. reply ≡ answer (length self.now.log) (option_copied found.entry)) }
+    {
+        let at = self.log.len() as u64;
+        match found {
+            Some(found) if includes(stop, found) => {
+                let key = found.copy(self.alloc)?;
+                Ok(match self.rows.visible(session, table, found) {
+                    Some(row) => Reply::Row {
+                        key,
+                        row: row.copy(self.alloc)?,
+                        at,
+                    },
+                    None => Reply::Gone { key, at },
+                })
+            }
+            _ => Ok(Reply::End { at }),
+        }
+    }
+}

@@ -1,0 +1,4 @@
+mod Ends
+mod Leads
+mod Moved
+mod Runs
