@@ -1,2 +1,2 @@
--- Read in this order; the last definition of a file is what the file is for.
+-- Read in this order; the comment behind a name says what the file is for.
 pub mod Variables  -- place_of: the place of a name among the variables

@@ -1,4 +1,4 @@
--- Read in this order; the last definition of a file is what the file is for.
+-- Read in this order; the comment behind a name says what the file is for.
 pub mod Login  -- login_of: what a payload says as a LOGIN7, or why it is refused
 pub mod Prelogin  -- prelogin_of: what a payload says as a PRELOGIN; prelogin_reply
 pub mod Verdict  -- judge_login: who may log in; login_reply

@@ -1,4 +1,4 @@
--- Read in this order; the last definition of a file is what the file is for.
+-- Read in this order; the comment behind a name says what the file is for.
 pub mod Numbers  -- the numbers of [MS-TDS]: tags, status and command of DONE, kinds of ENVCHANGE
 pub mod Spelling  -- TokenBytes: the bytes of tokens
 pub mod Fit  -- FitTokens: which tokens have a spelling
