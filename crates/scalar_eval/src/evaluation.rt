@@ -1,0 +1,265 @@
+//! The evaluation of expressions and tests.
+
+ghost use Rattle.std.specs.Prelude.{◌≡◌, IsTrue, map, Ok};
+ghost use Rattle.bound_tree.specs.Setting.{Setting};
+ghost use Rattle.bound_tree.specs.Numbers.{number_outcome};
+ghost use Rattle.bound_tree.specs.Comparisons as spec;
+ghost use Rattle.bound_tree.specs.Meaning as meaning;
+ghost use Rattle.scalar_eval.specs.Answers.{Finds, Gives};
+ghost use Rattle.scalar_eval.specs.Operands.{FindsOperand};
+ghost use Rattle.scalar_eval.specs.Scopes.{setting_of};
+
+use crate::comparison::{
+    brought, conversion, in_rows, is_false, is_null, is_text, is_true, joined, length_of, order_of,
+    order_truth, truth_of,
+};
+use crate::fault::{EvalFault, Stop, widened};
+use crate::numbers::{arithmetic, negation, number_of, value_of};
+use crate::operand::Operand;
+use crate::scope::{Scope, cell, rows, scalar, variable};
+use bound_tree::{BoundArm, BoundExpr, BoundSide, BoundTest, CompareOp, Truth};
+use std::alloc::Global;
+use value_types::{SqlType, Value};
+
+/// What an expression gives.
+pub fn eval(alloc: Global, expr: &BoundExpr, scope: &Scope<'_>) -> Result<Value, EvalFault>
+    ensures { Gives result (meaning.value (setting_of scope.now) expr.now) }
+{
+    match value(alloc, expr, &scope.shorter()) {
+        Ok(value) => Ok(value),
+        Err(stop) => Err(widened(stop)),
+    }
+}
+
+/// What a test says.
+pub fn test(alloc: Global, of: &BoundTest, scope: &Scope<'_>) -> Result<Truth, EvalFault>
+    ensures { Gives result (meaning.truth (setting_of scope.now) of.now) }
+{
+    match truth(alloc, of, &scope.shorter()) {
+        Ok(truth) => Ok(truth),
+        Err(stop) => Err(widened(stop)),
+    }
+}
+
+/// The value of an expression, owned.
+#[cycle(evaluate)]
+fn value<'a>(alloc: Global, expr: &'a BoundExpr, scope: &Scope<'a>) -> Result<Value, Stop>
+    ensures { Finds result (meaning.value (setting_of scope.now) expr.now) }
+{
+    match expr {
+        BoundExpr::Constant(value) => Ok(value.copy(alloc)?),
+        BoundExpr::Cell(place) => Ok(cell(scope.row, *place).into_value(alloc)?),
+        BoundExpr::Variable(place) => Ok(variable(scope.vars, *place).into_value(alloc)?),
+        BoundExpr::System(of) => Ok(scope.system.get(*of).copy(alloc)?),
+        BoundExpr::Negate(kind, a) => {
+            let a = number(alloc, a.get(), scope)?;
+            Ok(value_of(negation(*kind, a)?))
+        }
+        BoundExpr::Infix(op, kind, a, b) => {
+            if is_text(*kind) {
+                let x = value(alloc, a.get(), scope)?;
+                let y = operand(alloc, b.get(), scope)?;
+                return joined(x, y.get());
+            }
+            let x = number(alloc, a.get(), scope)?;
+            let y = number(alloc, b.get(), scope)?;
+            Ok(value_of(arithmetic(*op, *kind, x, y)?))
+        }
+        BoundExpr::Convert(from, to, a) => {
+            let a = operand(alloc, a.get(), scope)?;
+            conversion(alloc, *from, *to, a.get())
+        }
+        BoundExpr::Case(arms, other) => match chosen(alloc, arms.as_slice(), scope)? {
+            Some(value) => Ok(value),
+            None => value(alloc, other.get(), scope),
+        },
+        BoundExpr::Coalesce(items) => first_known(alloc, items.as_slice(), scope),
+        BoundExpr::NullIf(kind, a, side) => {
+            let a = operand(alloc, a.get(), scope)?;
+            let equal = compared(alloc, CompareOp::Equal, *kind, a.get(), side.get(), scope)?;
+            if is_true(equal) {
+                return Ok(Value::Null);
+            }
+            Ok(a.into_value(alloc)?)
+        }
+        BoundExpr::Length(a) => {
+            let a = operand(alloc, a.get(), scope)?;
+            Ok(value_of(length_of(a.get())?))
+        }
+        BoundExpr::Scalar(place) => Ok(scalar(rows(scope.inner, *place))?.into_value(alloc)?),
+    }
+}
+
+/// The value of an expression, lent where it stands somewhere.
+#[cycle(evaluate)]
+fn operand<'a>(alloc: Global, expr: &'a BoundExpr, scope: &Scope<'a>) -> Result<Operand<'a>, Stop>
+    ensures { FindsOperand result (meaning.value (setting_of scope.now) expr.now) }
+{
+    match expr {
+        BoundExpr::Constant(value) => Ok(Operand::Lent(value)),
+        BoundExpr::Cell(place) => Ok(cell(scope.row, *place)),
+        BoundExpr::Variable(place) => Ok(variable(scope.vars, *place)),
+        BoundExpr::System(of) => Ok(Operand::Lent(scope.system.get(*of))),
+        BoundExpr::Scalar(place) => scalar(rows(scope.inner, *place)),
+        _ => Ok(Operand::Made(value(alloc, expr, scope)?)),
+    }
+}
+
+/// The number that an expression gives, where it gives one. No value is made on the way.
+#[cycle(evaluate)]
+fn number<'a>(alloc: Global, expr: &'a BoundExpr, scope: &Scope<'a>) -> Result<Option<i64>, Stop>
+    ensures { Finds result (number_outcome (meaning.value (setting_of scope.now) expr.now)) }
+{
+    match expr {
+        BoundExpr::Constant(value) => Ok(number_of(value)),
+        BoundExpr::Cell(place) => Ok(number_of(cell(scope.row, *place).get())),
+        BoundExpr::Variable(place) => Ok(number_of(variable(scope.vars, *place).get())),
+        BoundExpr::Infix(op, kind, a, b) if !is_text(*kind) => {
+            let x = number(alloc, a.get(), scope)?;
+            let y = number(alloc, b.get(), scope)?;
+            arithmetic(*op, *kind, x, y)
+        }
+        BoundExpr::Negate(kind, a) => {
+            let a = number(alloc, a.get(), scope)?;
+            negation(*kind, a)
+        }
+        _ => number_by_value(alloc, expr, scope),
+    }
+}
+
+#[cycle(evaluate)]
+fn number_by_value<'a>(
+    alloc: Global,
+    expr: &'a BoundExpr,
+    scope: &Scope<'a>,
+) -> Result<Option<i64>, Stop>
+    ensures { Finds result (number_outcome (meaning.value (setting_of scope.now) expr.now)) }
+{
+    let value = value(alloc, expr, scope)?;
+    Ok(number_of(&value))
+}
+
+/// The first value that isn't NULL.
+#[cycle(evaluate)]
+fn first_known<'a>(alloc: Global, items: &'a [BoundExpr], scope: &Scope<'a>) -> Result<Value, Stop>
+    ensures { let value = meaning.value (setting_of scope.now) in
+        Finds result (meaning.first_known (map value items.now)) }
+{
+    for item in items {
+        let value = value(alloc, item, scope)?;
+        if !is_null(&value) {
+            return Ok(value);
+        }
+    }
+    Ok(Value::Null)
+}
+
+/// What the first arm gives whose test is true, where there is one.
+#[cycle(evaluate)]
+fn chosen<'a>(alloc: Global, arms: &'a [BoundArm], scope: &Scope<'a>) -> Result<Option<Value>, Stop>
+    ensures { Finds result (meaning.chosen (map (meaning.arm_of (setting_of scope.now)) arms.now)) }
+{
+    for arm in arms {
+        let truth = truth(alloc, &arm.test, scope)?;
+        if is_true(truth) {
+            return Ok(Some(value(alloc, &arm.gives, scope)?));
+        }
+    }
+    Ok(None)
+}
+
+/// How a value of a type compares with the other side of its pair.
+#[cycle(evaluate)]
+fn compared<'a>(
+    alloc: Global,
+    op: CompareOp,
+    kind: SqlType,
+    value: &Value,
+    side: &'a BoundSide,
+    scope: &Scope<'a>,
+) -> Result<Truth, Stop>
+    ensures { let side = meaning.side_of (setting_of scope.now) side.now in
+        Finds result (meaning.with_side op kind value.now side) }
+{
+    let x = brought(alloc, kind, side.pair, &*value)?;
+    let y = operand(alloc, &side.expr, scope)?;
+    Ok(order_truth(op, order_of(x.get(), y.get())))
+}
+
+/// Whether a value of a type equals one of the sides.
+#[cycle(evaluate)]
+#[tactic(auto, using(crate::proofs::Reading::any_onto_decided))]
+fn in_sides<'a>(
+    alloc: Global,
+    kind: SqlType,
+    value: &Value,
+    sides: &'a [BoundSide],
+    scope: &Scope<'a>,
+) -> Result<Truth, Stop>
+    ensures { let sides = map (meaning.side_of (setting_of scope.now)) sides.now in
+        Finds result (spec.any_of (map (meaning.equals_side kind value.now) sides)) }
+{
+    let mut so_far = Truth::False;
+    for side in sides {
+        if is_true(so_far) {
+            return Ok(Truth::True);
+        }
+        so_far = so_far.or(compared(alloc, CompareOp::Equal, kind, value, side, scope)?);
+    }
+    Ok(so_far)
+}
+
+/// What a test says.
+#[cycle(evaluate)]
+fn truth<'a>(alloc: Global, of: &'a BoundTest, scope: &Scope<'a>) -> Result<Truth, Stop>
+    ensures { Finds result (meaning.truth (setting_of scope.now) of.now) }
+{
+    match of {
+        BoundTest::And(a, b) => {
+            let x = truth(alloc, a.get(), scope)?;
+            if is_false(x) {
+                return Ok(Truth::False);
+            }
+            let y = truth(alloc, b.get(), scope)?;
+            Ok(x.and(y))
+        }
+        BoundTest::Or(a, b) => {
+            let x = truth(alloc, a.get(), scope)?;
+            if is_true(x) {
+                return Ok(Truth::True);
+            }
+            let y = truth(alloc, b.get(), scope)?;
+            Ok(x.or(y))
+        }
+        BoundTest::Not(a) => Ok(truth(alloc, a.get(), scope)?.not()),
+        BoundTest::Exists(place) => Ok(truth_of(!rows(scope.inner, *place).is_empty())),
+        BoundTest::Compare(op, a, b) => {
+            let x = operand(alloc, a.get(), scope)?;
+            let y = operand(alloc, b.get(), scope)?;
+            Ok(order_truth(*op, order_of(x.get(), y.get())))
+        }
+        BoundTest::IsNull(a) => {
+            let a = operand(alloc, a.get(), scope)?;
+            Ok(truth_of(is_null(a.get())))
+        }
+        BoundTest::Between(kind, a, low, high) => {
+            let a = operand(alloc, a.get(), scope)?;
+            let least = CompareOp::GreaterEqual;
+            let above = compared(alloc, least, *kind, a.get(), low.get(), scope)?;
+            if is_false(above) {
+                return Ok(Truth::False);
+            }
+            let most = CompareOp::LessEqual;
+            let below = compared(alloc, most, *kind, a.get(), high.get(), scope)?;
+            Ok(above.and(below))
+        }
+        BoundTest::InList(kind, a, sides) => {
+            let a = operand(alloc, a.get(), scope)?;
+            in_sides(alloc, *kind, a.get(), sides.as_slice(), scope)
+        }
+        BoundTest::InQuery(kind, a, other, place) => {
+            let a = operand(alloc, a.get(), scope)?;
+            in_rows(alloc, *kind, a.get(), *other, rows(scope.inner, *place))
+        }
+    }
+}
