@@ -35,7 +35,7 @@ fn is_plain_name(kind: Kind) -> bool
 }
 
 /// Whether lexemes of the kind are of the class.
-pub(crate) fn admits(class: Class, kind: Kind) -> bool
+pub fn admits(class: Class, kind: Kind) -> bool
     ensures { result ≡ admits class kind }
 {
     match class {

@@ -7,6 +7,36 @@ use tsql_grammar::{Class, Kind, Reserved, Rule, Word};
 use tsql_lexer::Sign;
 use tsql_tree::FixedOption;
 
+/// A class: a kind of lexeme in parentheses, or a word, a sign, an option or a function in brackets; else
+/// by its name.
+macro_rules! class {
+    ([Reserved $word:ident]) => {
+        Class::One(Kind::Reserved(Reserved::$word))
+    };
+    ([Word $word:ident]) => {
+        Class::One(Kind::Word(Word::$word))
+    };
+    ([Sign $sign:ident]) => {
+        Class::One(Kind::Sign(Sign::$sign))
+    };
+    ([Fixed $option:ident]) => {
+        Class::One(Kind::Fixed(FixedOption::$option))
+    };
+    (($kind:ident)) => {
+        Class::One(Kind::$kind)
+    };
+    ($class:ident) => {
+        Class::$class
+    };
+}
+
+/// Classes, one behind another.
+macro_rules! classes {
+    ($($class:tt)*) => {
+        [$(class!($class)),*]
+    };
+}
+
 /// The classes of the lexemes that a text of the rule may begin with.
 pub(crate) fn first_classes(rule: Rule) -> &'static [Class]
     ensures { result.now ≡ first_classes rule }
@@ -230,822 +260,335 @@ pub(crate) fn nullable(rule: Rule) -> bool
     }
 }
 
-const BEGINS_EXPR: [Class; 15] = [
-    Class::One(Kind::Sign(Sign::Open)),
-    Class::One(Kind::Sign(Sign::Plus)),
-    Class::One(Kind::Sign(Sign::Minus)),
-    Class::Name,
-    Class::One(Kind::Variable),
-    Class::One(Kind::Number),
-    Class::One(Kind::Text),
-    Class::One(Kind::TranCount),
-    Class::One(Kind::Error),
-    Class::One(Kind::RowCount),
-    Class::One(Kind::FetchStatus),
-    Class::One(Kind::Reserved(Reserved::Case)),
-    Class::One(Kind::Reserved(Reserved::Coalesce)),
-    Class::One(Kind::Reserved(Reserved::Null)),
-    Class::One(Kind::Reserved(Reserved::NullIf)),
-];
-
-const COMPARES: [Class; 6] = [
-    Class::One(Kind::Sign(Sign::Equal)),
-    Class::One(Kind::Sign(Sign::NotEqual)),
-    Class::One(Kind::Sign(Sign::Less)),
-    Class::One(Kind::Sign(Sign::LessEqual)),
-    Class::One(Kind::Sign(Sign::Greater)),
-    Class::One(Kind::Sign(Sign::GreaterEqual)),
-];
-
-const MULTIPLIES: [Class; 3] = [
-    Class::One(Kind::Sign(Sign::Star)),
-    Class::One(Kind::Sign(Sign::Slash)),
-    Class::One(Kind::Sign(Sign::Percent)),
-];
-
-const ADDS: [Class; 2] = [
-    Class::One(Kind::Sign(Sign::Plus)),
-    Class::One(Kind::Sign(Sign::Minus)),
-];
-
-const BEGINS_OTHER: [Class; 10] = [
-    Class::One(Kind::Number),
-    Class::One(Kind::Text),
-    Class::One(Kind::TranCount),
-    Class::One(Kind::Error),
-    Class::One(Kind::RowCount),
-    Class::One(Kind::FetchStatus),
-    Class::One(Kind::Reserved(Reserved::Case)),
-    Class::One(Kind::Reserved(Reserved::Coalesce)),
-    Class::One(Kind::Reserved(Reserved::Null)),
-    Class::One(Kind::Reserved(Reserved::NullIf)),
-];
-
-const BEGINS_SIMPLE: [Class; 12] = [
-    Class::Name,
-    Class::One(Kind::Variable),
-    Class::One(Kind::Number),
-    Class::One(Kind::Text),
-    Class::One(Kind::TranCount),
-    Class::One(Kind::Error),
-    Class::One(Kind::RowCount),
-    Class::One(Kind::FetchStatus),
-    Class::One(Kind::Reserved(Reserved::Case)),
-    Class::One(Kind::Reserved(Reserved::Coalesce)),
-    Class::One(Kind::Reserved(Reserved::Null)),
-    Class::One(Kind::Reserved(Reserved::NullIf)),
-];
-
-const JOINS_TABLES: [Class; 5] = [
-    Class::One(Kind::Sign(Sign::Comma)),
-    Class::One(Kind::Reserved(Reserved::Join)),
-    Class::One(Kind::Reserved(Reserved::Inner)),
-    Class::One(Kind::Reserved(Reserved::Left)),
-    Class::One(Kind::Reserved(Reserved::Cross)),
-];
-
-const AFTER_OPERAND: [Class; 9] = [
-    Class::Name,
-    Class::One(Kind::Reserved(Reserved::As)),
-    Class::One(Kind::Sign(Sign::Open)),
-    Class::One(Kind::Sign(Sign::Dot)),
-    Class::One(Kind::Sign(Sign::Plus)),
-    Class::One(Kind::Sign(Sign::Minus)),
-    Class::One(Kind::Sign(Sign::Star)),
-    Class::One(Kind::Sign(Sign::Slash)),
-    Class::One(Kind::Sign(Sign::Percent)),
-];
-
-const FIRST_BATCH: [Class; 24] = [
-    Class::One(Kind::Reserved(Reserved::Create)),
-    Class::Semicolon,
-    Class::One(Kind::Reserved(Reserved::Begin)),
-    Class::One(Kind::Reserved(Reserved::Close)),
-    Class::One(Kind::Reserved(Reserved::Commit)),
-    Class::One(Kind::Reserved(Reserved::Deallocate)),
-    Class::One(Kind::Reserved(Reserved::Declare)),
-    Class::One(Kind::Reserved(Reserved::Delete)),
-    Class::One(Kind::Reserved(Reserved::Drop)),
-    Class::One(Kind::Reserved(Reserved::Execute)),
-    Class::One(Kind::Reserved(Reserved::Fetch)),
-    Class::One(Kind::Reserved(Reserved::If)),
-    Class::One(Kind::Reserved(Reserved::Insert)),
-    Class::One(Kind::Reserved(Reserved::Open)),
-    Class::One(Kind::Reserved(Reserved::Print)),
-    Class::One(Kind::Reserved(Reserved::RaiseError)),
-    Class::One(Kind::Reserved(Reserved::Return)),
-    Class::One(Kind::Reserved(Reserved::Rollback)),
-    Class::One(Kind::Reserved(Reserved::Save)),
-    Class::One(Kind::Reserved(Reserved::Select)),
-    Class::One(Kind::Reserved(Reserved::Set)),
-    Class::One(Kind::Reserved(Reserved::Throw)),
-    Class::One(Kind::Reserved(Reserved::Update)),
-    Class::One(Kind::Reserved(Reserved::While)),
-];
-
-const FIRST_AFTER_FIRST_CREATE: [Class; 3] = [
-    Class::One(Kind::Reserved(Reserved::Procedure)),
-    Class::One(Kind::Reserved(Reserved::Table)),
-    Class::One(Kind::Reserved(Reserved::Trigger)),
-];
-
-const FIRST_CREATE: [Class; 1] = [Class::One(Kind::Reserved(Reserved::Create))];
-
-const FIRST_PROCEDURE: [Class; 1] = [Class::One(Kind::Reserved(Reserved::Procedure))];
-
-const FIRST_TRIGGER: [Class; 1] = [Class::One(Kind::Reserved(Reserved::Trigger))];
-
-const FIRST_TRIGGER_TIME: [Class; 2] = [
-    Class::One(Kind::Word(Word::After)),
-    Class::One(Kind::Reserved(Reserved::For)),
-];
-
-const FIRST_EVENT: [Class; 3] = [
-    Class::One(Kind::Reserved(Reserved::Delete)),
-    Class::One(Kind::Reserved(Reserved::Insert)),
-    Class::One(Kind::Reserved(Reserved::Update)),
-];
-
-const FIRST_COMMA: [Class; 1] = [Class::One(Kind::Sign(Sign::Comma))];
-
-const FIRST_ONE_VARIABLE: [Class; 1] = [Class::One(Kind::Variable)];
-
-const FIRST_OUTPUT: [Class; 1] = [Class::One(Kind::Word(Word::Output))];
-
-const FIRST_NAME: [Class; 1] = [Class::Name];
-
-const FIRST_DOT: [Class; 1] = [Class::One(Kind::Sign(Sign::Dot))];
-
-const FIRST_TYPE: [Class; 6] = [
-    Class::One(Kind::Word(Word::TinyInt)),
-    Class::One(Kind::Word(Word::SmallInt)),
-    Class::One(Kind::Word(Word::Int)),
-    Class::One(Kind::Word(Word::BigInt)),
-    Class::One(Kind::Word(Word::Bit)),
-    Class::One(Kind::Word(Word::NVarChar)),
-];
-
-const BODY_IN_WHILE: [Class; 26] = [
-    Class::One(Kind::Reserved(Reserved::Create)),
-    Class::Semicolon,
-    Class::One(Kind::Reserved(Reserved::Begin)),
-    Class::One(Kind::Reserved(Reserved::Close)),
-    Class::One(Kind::Reserved(Reserved::Commit)),
-    Class::One(Kind::Reserved(Reserved::Deallocate)),
-    Class::One(Kind::Reserved(Reserved::Declare)),
-    Class::One(Kind::Reserved(Reserved::Delete)),
-    Class::One(Kind::Reserved(Reserved::Drop)),
-    Class::One(Kind::Reserved(Reserved::Execute)),
-    Class::One(Kind::Reserved(Reserved::Fetch)),
-    Class::One(Kind::Reserved(Reserved::If)),
-    Class::One(Kind::Reserved(Reserved::Insert)),
-    Class::One(Kind::Reserved(Reserved::Open)),
-    Class::One(Kind::Reserved(Reserved::Print)),
-    Class::One(Kind::Reserved(Reserved::RaiseError)),
-    Class::One(Kind::Reserved(Reserved::Return)),
-    Class::One(Kind::Reserved(Reserved::Rollback)),
-    Class::One(Kind::Reserved(Reserved::Save)),
-    Class::One(Kind::Reserved(Reserved::Select)),
-    Class::One(Kind::Reserved(Reserved::Set)),
-    Class::One(Kind::Reserved(Reserved::Throw)),
-    Class::One(Kind::Reserved(Reserved::Update)),
-    Class::One(Kind::Reserved(Reserved::While)),
-    Class::One(Kind::Reserved(Reserved::Break)),
-    Class::One(Kind::Reserved(Reserved::Continue)),
-];
-
-const STATEMENT_IN_WHILE: [Class; 25] = [
-    Class::One(Kind::Reserved(Reserved::Create)),
-    Class::One(Kind::Reserved(Reserved::Begin)),
-    Class::One(Kind::Reserved(Reserved::Close)),
-    Class::One(Kind::Reserved(Reserved::Commit)),
-    Class::One(Kind::Reserved(Reserved::Deallocate)),
-    Class::One(Kind::Reserved(Reserved::Declare)),
-    Class::One(Kind::Reserved(Reserved::Delete)),
-    Class::One(Kind::Reserved(Reserved::Drop)),
-    Class::One(Kind::Reserved(Reserved::Execute)),
-    Class::One(Kind::Reserved(Reserved::Fetch)),
-    Class::One(Kind::Reserved(Reserved::If)),
-    Class::One(Kind::Reserved(Reserved::Insert)),
-    Class::One(Kind::Reserved(Reserved::Open)),
-    Class::One(Kind::Reserved(Reserved::Print)),
-    Class::One(Kind::Reserved(Reserved::RaiseError)),
-    Class::One(Kind::Reserved(Reserved::Return)),
-    Class::One(Kind::Reserved(Reserved::Rollback)),
-    Class::One(Kind::Reserved(Reserved::Save)),
-    Class::One(Kind::Reserved(Reserved::Select)),
-    Class::One(Kind::Reserved(Reserved::Set)),
-    Class::One(Kind::Reserved(Reserved::Throw)),
-    Class::One(Kind::Reserved(Reserved::Update)),
-    Class::One(Kind::Reserved(Reserved::While)),
-    Class::One(Kind::Reserved(Reserved::Break)),
-    Class::One(Kind::Reserved(Reserved::Continue)),
-];
-
-const STATEMENT: [Class; 23] = [
-    Class::One(Kind::Reserved(Reserved::Create)),
-    Class::One(Kind::Reserved(Reserved::Begin)),
-    Class::One(Kind::Reserved(Reserved::Close)),
-    Class::One(Kind::Reserved(Reserved::Commit)),
-    Class::One(Kind::Reserved(Reserved::Deallocate)),
-    Class::One(Kind::Reserved(Reserved::Declare)),
-    Class::One(Kind::Reserved(Reserved::Delete)),
-    Class::One(Kind::Reserved(Reserved::Drop)),
-    Class::One(Kind::Reserved(Reserved::Execute)),
-    Class::One(Kind::Reserved(Reserved::Fetch)),
-    Class::One(Kind::Reserved(Reserved::If)),
-    Class::One(Kind::Reserved(Reserved::Insert)),
-    Class::One(Kind::Reserved(Reserved::Open)),
-    Class::One(Kind::Reserved(Reserved::Print)),
-    Class::One(Kind::Reserved(Reserved::RaiseError)),
-    Class::One(Kind::Reserved(Reserved::Return)),
-    Class::One(Kind::Reserved(Reserved::Rollback)),
-    Class::One(Kind::Reserved(Reserved::Save)),
-    Class::One(Kind::Reserved(Reserved::Select)),
-    Class::One(Kind::Reserved(Reserved::Set)),
-    Class::One(Kind::Reserved(Reserved::Throw)),
-    Class::One(Kind::Reserved(Reserved::Update)),
-    Class::One(Kind::Reserved(Reserved::While)),
-];
-
-const OTHER_STATEMENT_IN_WHILE: [Class; 24] = [
-    Class::One(Kind::Reserved(Reserved::Begin)),
-    Class::One(Kind::Reserved(Reserved::Close)),
-    Class::One(Kind::Reserved(Reserved::Commit)),
-    Class::One(Kind::Reserved(Reserved::Deallocate)),
-    Class::One(Kind::Reserved(Reserved::Declare)),
-    Class::One(Kind::Reserved(Reserved::Delete)),
-    Class::One(Kind::Reserved(Reserved::Drop)),
-    Class::One(Kind::Reserved(Reserved::Execute)),
-    Class::One(Kind::Reserved(Reserved::Fetch)),
-    Class::One(Kind::Reserved(Reserved::If)),
-    Class::One(Kind::Reserved(Reserved::Insert)),
-    Class::One(Kind::Reserved(Reserved::Open)),
-    Class::One(Kind::Reserved(Reserved::Print)),
-    Class::One(Kind::Reserved(Reserved::RaiseError)),
-    Class::One(Kind::Reserved(Reserved::Return)),
-    Class::One(Kind::Reserved(Reserved::Rollback)),
-    Class::One(Kind::Reserved(Reserved::Save)),
-    Class::One(Kind::Reserved(Reserved::Select)),
-    Class::One(Kind::Reserved(Reserved::Set)),
-    Class::One(Kind::Reserved(Reserved::Throw)),
-    Class::One(Kind::Reserved(Reserved::Update)),
-    Class::One(Kind::Reserved(Reserved::While)),
-    Class::One(Kind::Reserved(Reserved::Break)),
-    Class::One(Kind::Reserved(Reserved::Continue)),
-];
-
-const OTHER_STATEMENT: [Class; 22] = [
-    Class::One(Kind::Reserved(Reserved::Begin)),
-    Class::One(Kind::Reserved(Reserved::Close)),
-    Class::One(Kind::Reserved(Reserved::Commit)),
-    Class::One(Kind::Reserved(Reserved::Deallocate)),
-    Class::One(Kind::Reserved(Reserved::Declare)),
-    Class::One(Kind::Reserved(Reserved::Delete)),
-    Class::One(Kind::Reserved(Reserved::Drop)),
-    Class::One(Kind::Reserved(Reserved::Execute)),
-    Class::One(Kind::Reserved(Reserved::Fetch)),
-    Class::One(Kind::Reserved(Reserved::If)),
-    Class::One(Kind::Reserved(Reserved::Insert)),
-    Class::One(Kind::Reserved(Reserved::Open)),
-    Class::One(Kind::Reserved(Reserved::Print)),
-    Class::One(Kind::Reserved(Reserved::RaiseError)),
-    Class::One(Kind::Reserved(Reserved::Return)),
-    Class::One(Kind::Reserved(Reserved::Rollback)),
-    Class::One(Kind::Reserved(Reserved::Save)),
-    Class::One(Kind::Reserved(Reserved::Select)),
-    Class::One(Kind::Reserved(Reserved::Set)),
-    Class::One(Kind::Reserved(Reserved::Throw)),
-    Class::One(Kind::Reserved(Reserved::Update)),
-    Class::One(Kind::Reserved(Reserved::While)),
-];
-
-const FIRST_SEMICOLON: [Class; 1] = [Class::Semicolon];
-
-const AFTER_BEGIN_IN_WHILE: [Class; 29] = [
-    Class::One(Kind::Reserved(Reserved::Tran)),
-    Class::One(Kind::Reserved(Reserved::Transaction)),
-    Class::One(Kind::Word(Word::Try)),
-    Class::Semicolon,
-    Class::One(Kind::Reserved(Reserved::Create)),
-    Class::One(Kind::Reserved(Reserved::Begin)),
-    Class::One(Kind::Reserved(Reserved::Close)),
-    Class::One(Kind::Reserved(Reserved::Commit)),
-    Class::One(Kind::Reserved(Reserved::Deallocate)),
-    Class::One(Kind::Reserved(Reserved::Declare)),
-    Class::One(Kind::Reserved(Reserved::Delete)),
-    Class::One(Kind::Reserved(Reserved::Drop)),
-    Class::One(Kind::Reserved(Reserved::Execute)),
-    Class::One(Kind::Reserved(Reserved::Fetch)),
-    Class::One(Kind::Reserved(Reserved::If)),
-    Class::One(Kind::Reserved(Reserved::Insert)),
-    Class::One(Kind::Reserved(Reserved::Open)),
-    Class::One(Kind::Reserved(Reserved::Print)),
-    Class::One(Kind::Reserved(Reserved::RaiseError)),
-    Class::One(Kind::Reserved(Reserved::Return)),
-    Class::One(Kind::Reserved(Reserved::Rollback)),
-    Class::One(Kind::Reserved(Reserved::Save)),
-    Class::One(Kind::Reserved(Reserved::Select)),
-    Class::One(Kind::Reserved(Reserved::Set)),
-    Class::One(Kind::Reserved(Reserved::Throw)),
-    Class::One(Kind::Reserved(Reserved::Update)),
-    Class::One(Kind::Reserved(Reserved::While)),
-    Class::One(Kind::Reserved(Reserved::Break)),
-    Class::One(Kind::Reserved(Reserved::Continue)),
-];
-
-const AFTER_BEGIN: [Class; 27] = [
-    Class::One(Kind::Reserved(Reserved::Tran)),
-    Class::One(Kind::Reserved(Reserved::Transaction)),
-    Class::One(Kind::Word(Word::Try)),
-    Class::Semicolon,
-    Class::One(Kind::Reserved(Reserved::Create)),
-    Class::One(Kind::Reserved(Reserved::Begin)),
-    Class::One(Kind::Reserved(Reserved::Close)),
-    Class::One(Kind::Reserved(Reserved::Commit)),
-    Class::One(Kind::Reserved(Reserved::Deallocate)),
-    Class::One(Kind::Reserved(Reserved::Declare)),
-    Class::One(Kind::Reserved(Reserved::Delete)),
-    Class::One(Kind::Reserved(Reserved::Drop)),
-    Class::One(Kind::Reserved(Reserved::Execute)),
-    Class::One(Kind::Reserved(Reserved::Fetch)),
-    Class::One(Kind::Reserved(Reserved::If)),
-    Class::One(Kind::Reserved(Reserved::Insert)),
-    Class::One(Kind::Reserved(Reserved::Open)),
-    Class::One(Kind::Reserved(Reserved::Print)),
-    Class::One(Kind::Reserved(Reserved::RaiseError)),
-    Class::One(Kind::Reserved(Reserved::Return)),
-    Class::One(Kind::Reserved(Reserved::Rollback)),
-    Class::One(Kind::Reserved(Reserved::Save)),
-    Class::One(Kind::Reserved(Reserved::Select)),
-    Class::One(Kind::Reserved(Reserved::Set)),
-    Class::One(Kind::Reserved(Reserved::Throw)),
-    Class::One(Kind::Reserved(Reserved::Update)),
-    Class::One(Kind::Reserved(Reserved::While)),
-];
-
-const FIRST_ELSE: [Class; 2] = [
-    Class::One(Kind::BeforeElse),
-    Class::One(Kind::Reserved(Reserved::Else)),
-];
-
-const FIRST_INTO: [Class; 1] = [Class::One(Kind::Reserved(Reserved::Into))];
-
-const FIRST_AFTER_INSERT_TABLE: [Class; 3] = [
-    Class::One(Kind::Sign(Sign::Open)),
-    Class::One(Kind::Reserved(Reserved::Select)),
-    Class::One(Kind::Reserved(Reserved::Values)),
-];
-
-const FIRST_INSERT_ROWS: [Class; 2] = [
-    Class::One(Kind::Reserved(Reserved::Select)),
-    Class::One(Kind::Reserved(Reserved::Values)),
-];
-
-const FIRST_OPEN: [Class; 1] = [Class::One(Kind::Sign(Sign::Open))];
-
-const FIRST_FROM: [Class; 1] = [Class::One(Kind::Reserved(Reserved::From))];
-
-const FIRST_TABLE: [Class; 1] = [Class::One(Kind::Reserved(Reserved::Table))];
-
-const FIRST_ELEMENT: [Class; 6] = [
-    Class::Name,
-    Class::One(Kind::Reserved(Reserved::Check)),
-    Class::One(Kind::Reserved(Reserved::Constraint)),
-    Class::One(Kind::Reserved(Reserved::Foreign)),
-    Class::One(Kind::Reserved(Reserved::Primary)),
-    Class::One(Kind::Reserved(Reserved::Unique)),
-];
-
-const FIRST_COLUMN_TRAITS: [Class; 7] = [
-    Class::One(Kind::Reserved(Reserved::Check)),
-    Class::One(Kind::Reserved(Reserved::Constraint)),
-    Class::One(Kind::Reserved(Reserved::Not)),
-    Class::One(Kind::Reserved(Reserved::Null)),
-    Class::One(Kind::Reserved(Reserved::Primary)),
-    Class::One(Kind::Reserved(Reserved::References)),
-    Class::One(Kind::Reserved(Reserved::Unique)),
-];
-
-const FIRST_COLUMN_CONSTRAINT: [Class; 4] = [
-    Class::One(Kind::Reserved(Reserved::Check)),
-    Class::One(Kind::Reserved(Reserved::Primary)),
-    Class::One(Kind::Reserved(Reserved::References)),
-    Class::One(Kind::Reserved(Reserved::Unique)),
-];
-
-const FIRST_TABLE_CONSTRAINT: [Class; 4] = [
-    Class::One(Kind::Reserved(Reserved::Check)),
-    Class::One(Kind::Reserved(Reserved::Foreign)),
-    Class::One(Kind::Reserved(Reserved::Primary)),
-    Class::One(Kind::Reserved(Reserved::Unique)),
-];
-
-const FIRST_AFTER_DECLARE: [Class; 2] = [Class::Name, Class::One(Kind::Variable)];
-
-const FIRST_AS: [Class; 1] = [Class::One(Kind::Reserved(Reserved::As))];
-
-const FIRST_EQUAL: [Class; 1] = [Class::One(Kind::Sign(Sign::Equal))];
-
-const FIRST_CURSOR_SCOPE: [Class; 2] = [
-    Class::One(Kind::Word(Word::Local)),
-    Class::One(Kind::Word(Word::Global)),
-];
-
-const FIRST_STATIC: [Class; 1] = [Class::One(Kind::Word(Word::Static))];
-
-const FIRST_READ_ONLY: [Class; 1] = [Class::One(Kind::Word(Word::ReadOnly))];
-
-const FIRST_AFTER_SET: [Class; 15] = [
-    Class::One(Kind::Variable),
-    Class::One(Kind::Reserved(Reserved::Transaction)),
-    Class::One(Kind::Word(Word::XactAbort)),
-    Class::One(Kind::Word(Word::NoCount)),
-    Class::One(Kind::Word(Word::ImplicitTransactions)),
-    Class::One(Kind::Word(Word::LockTimeout)),
-    Class::One(Kind::Word(Word::TextSize)),
-    Class::One(Kind::Word(Word::DeadlockPriority)),
-    Class::One(Kind::Fixed(FixedOption::AnsiNulls)),
-    Class::One(Kind::Fixed(FixedOption::AnsiNullDefaultOn)),
-    Class::One(Kind::Fixed(FixedOption::AnsiPadding)),
-    Class::One(Kind::Fixed(FixedOption::AnsiWarnings)),
-    Class::One(Kind::Fixed(FixedOption::ArithAbort)),
-    Class::One(Kind::Fixed(FixedOption::ConcatNullYieldsNull)),
-    Class::One(Kind::Fixed(FixedOption::QuotedIdentifier)),
-];
-
-const FIRST_ON_OFF: [Class; 2] = [
-    Class::One(Kind::Word(Word::Off)),
-    Class::One(Kind::Reserved(Reserved::On)),
-];
-
-const FIRST_LEVEL: [Class; 4] = [
-    Class::One(Kind::Word(Word::Read)),
-    Class::One(Kind::Word(Word::Repeatable)),
-    Class::One(Kind::Word(Word::Snapshot)),
-    Class::One(Kind::Word(Word::Serializable)),
-];
-
-const FIRST_AFTER_READ: [Class; 2] = [
-    Class::One(Kind::Word(Word::Committed)),
-    Class::One(Kind::Word(Word::Uncommitted)),
-];
-
-const FIRST_SIGNED_NUMBER: [Class; 2] = [
-    Class::One(Kind::Number),
-    Class::One(Kind::Sign(Sign::Minus)),
-];
-
-const FIRST_PRIORITY: [Class; 5] = [
-    Class::One(Kind::Number),
-    Class::One(Kind::Sign(Sign::Minus)),
-    Class::One(Kind::Word(Word::Low)),
-    Class::One(Kind::Word(Word::Normal)),
-    Class::One(Kind::Word(Word::High)),
-];
-
-const FIRST_TRANSACTION_WORD: [Class; 2] = [
-    Class::One(Kind::Reserved(Reserved::Tran)),
-    Class::One(Kind::Reserved(Reserved::Transaction)),
-];
-
-const FIRST_NEXT: [Class; 1] = [Class::One(Kind::Word(Word::Next))];
-
-const FIRST_ARGUMENTS: [Class; 5] = [
-    Class::One(Kind::Number),
-    Class::One(Kind::Text),
-    Class::One(Kind::Variable),
-    Class::One(Kind::Sign(Sign::Minus)),
-    Class::One(Kind::Reserved(Reserved::Null)),
-];
-
-const FIRST_AFTER_ARGUMENT_VARIABLE: [Class; 2] = [
-    Class::One(Kind::Sign(Sign::Equal)),
-    Class::One(Kind::Word(Word::Output)),
-];
-
-const FIRST_CONSTANT: [Class; 4] = [
-    Class::One(Kind::Number),
-    Class::One(Kind::Text),
-    Class::One(Kind::Sign(Sign::Minus)),
-    Class::One(Kind::Reserved(Reserved::Null)),
-];
-
-const FIRST_SELECT: [Class; 18] = [
-    Class::One(Kind::Sign(Sign::Star)),
-    Class::One(Kind::Reserved(Reserved::Distinct)),
-    Class::One(Kind::Reserved(Reserved::Top)),
-    Class::One(Kind::Sign(Sign::Open)),
-    Class::One(Kind::Sign(Sign::Plus)),
-    Class::One(Kind::Sign(Sign::Minus)),
-    Class::Name,
-    Class::One(Kind::Variable),
-    Class::One(Kind::Number),
-    Class::One(Kind::Text),
-    Class::One(Kind::TranCount),
-    Class::One(Kind::Error),
-    Class::One(Kind::RowCount),
-    Class::One(Kind::FetchStatus),
-    Class::One(Kind::Reserved(Reserved::Case)),
-    Class::One(Kind::Reserved(Reserved::Coalesce)),
-    Class::One(Kind::Reserved(Reserved::Null)),
-    Class::One(Kind::Reserved(Reserved::NullIf)),
-];
-
-const FIRST_DISTINCT: [Class; 1] = [Class::One(Kind::Reserved(Reserved::Distinct))];
-
-const FIRST_TOP: [Class; 1] = [Class::One(Kind::Reserved(Reserved::Top))];
-
-const FIRST_TOP_NUMBER: [Class; 2] = [Class::One(Kind::Number), Class::One(Kind::Sign(Sign::Open))];
-
-const FIRST_ITEMS: [Class; 16] = [
-    Class::One(Kind::Sign(Sign::Star)),
-    Class::One(Kind::Sign(Sign::Open)),
-    Class::One(Kind::Sign(Sign::Plus)),
-    Class::One(Kind::Sign(Sign::Minus)),
-    Class::Name,
-    Class::One(Kind::Variable),
-    Class::One(Kind::Number),
-    Class::One(Kind::Text),
-    Class::One(Kind::TranCount),
-    Class::One(Kind::Error),
-    Class::One(Kind::RowCount),
-    Class::One(Kind::FetchStatus),
-    Class::One(Kind::Reserved(Reserved::Case)),
-    Class::One(Kind::Reserved(Reserved::Coalesce)),
-    Class::One(Kind::Reserved(Reserved::Null)),
-    Class::One(Kind::Reserved(Reserved::NullIf)),
-];
-
-const FIRST_AFTER_FIRST_VARIABLE: [Class; 9] = [
-    Class::Name,
-    Class::One(Kind::Sign(Sign::Comma)),
-    Class::One(Kind::Sign(Sign::Equal)),
-    Class::One(Kind::Reserved(Reserved::As)),
-    Class::One(Kind::Sign(Sign::Star)),
-    Class::One(Kind::Sign(Sign::Slash)),
-    Class::One(Kind::Sign(Sign::Percent)),
-    Class::One(Kind::Sign(Sign::Plus)),
-    Class::One(Kind::Sign(Sign::Minus)),
-];
-
-const FIRST_AFTER_ITEM_NAME: [Class; 8] = [
-    Class::Name,
-    Class::One(Kind::Sign(Sign::Dot)),
-    Class::One(Kind::Reserved(Reserved::As)),
-    Class::One(Kind::Sign(Sign::Star)),
-    Class::One(Kind::Sign(Sign::Slash)),
-    Class::One(Kind::Sign(Sign::Percent)),
-    Class::One(Kind::Sign(Sign::Plus)),
-    Class::One(Kind::Sign(Sign::Minus)),
-];
-
-const FIRST_AFTER_ITEM_DOT: [Class; 2] = [Class::Name, Class::One(Kind::Sign(Sign::Star))];
-
-const FIRST_OTHER_ITEM: [Class; 13] = [
-    Class::One(Kind::Sign(Sign::Open)),
-    Class::One(Kind::Number),
-    Class::One(Kind::Text),
-    Class::One(Kind::TranCount),
-    Class::One(Kind::Error),
-    Class::One(Kind::RowCount),
-    Class::One(Kind::FetchStatus),
-    Class::One(Kind::Reserved(Reserved::Case)),
-    Class::One(Kind::Reserved(Reserved::Coalesce)),
-    Class::One(Kind::Reserved(Reserved::Null)),
-    Class::One(Kind::Reserved(Reserved::NullIf)),
-    Class::One(Kind::Sign(Sign::Plus)),
-    Class::One(Kind::Sign(Sign::Minus)),
-];
-
-const FIRST_AFTER_ITEM_OPERAND: [Class; 7] = [
-    Class::Name,
-    Class::One(Kind::Reserved(Reserved::As)),
-    Class::One(Kind::Sign(Sign::Star)),
-    Class::One(Kind::Sign(Sign::Slash)),
-    Class::One(Kind::Sign(Sign::Percent)),
-    Class::One(Kind::Sign(Sign::Plus)),
-    Class::One(Kind::Sign(Sign::Minus)),
-];
-
-const FIRST_ALIAS: [Class; 2] = [Class::Name, Class::One(Kind::Reserved(Reserved::As))];
-
-const FIRST_OUTER: [Class; 1] = [Class::One(Kind::Reserved(Reserved::Outer))];
-
-const FIRST_WHERE: [Class; 1] = [Class::One(Kind::Reserved(Reserved::Where))];
-
-const FIRST_GROUP: [Class; 1] = [Class::One(Kind::Reserved(Reserved::Group))];
-
-const FIRST_HAVING: [Class; 1] = [Class::One(Kind::Reserved(Reserved::Having))];
-
-const FIRST_ORDER: [Class; 1] = [Class::One(Kind::Reserved(Reserved::Order))];
-
-const FIRST_DIRECTION: [Class; 2] = [
-    Class::One(Kind::Reserved(Reserved::Asc)),
-    Class::One(Kind::Reserved(Reserved::Desc)),
-];
-
-const FIRST_TEST: [Class; 17] = [
-    Class::One(Kind::Reserved(Reserved::Exists)),
-    Class::One(Kind::Reserved(Reserved::Not)),
-    Class::One(Kind::Sign(Sign::Open)),
-    Class::One(Kind::Sign(Sign::Plus)),
-    Class::One(Kind::Sign(Sign::Minus)),
-    Class::Name,
-    Class::One(Kind::Variable),
-    Class::One(Kind::Number),
-    Class::One(Kind::Text),
-    Class::One(Kind::TranCount),
-    Class::One(Kind::Error),
-    Class::One(Kind::RowCount),
-    Class::One(Kind::FetchStatus),
-    Class::One(Kind::Reserved(Reserved::Case)),
-    Class::One(Kind::Reserved(Reserved::Coalesce)),
-    Class::One(Kind::Reserved(Reserved::Null)),
-    Class::One(Kind::Reserved(Reserved::NullIf)),
-];
-
-const FIRST_OR: [Class; 1] = [Class::One(Kind::Reserved(Reserved::Or))];
-
-const FIRST_AND: [Class; 1] = [Class::One(Kind::Reserved(Reserved::And))];
-
-const FIRST_NOT: [Class; 1] = [Class::One(Kind::Reserved(Reserved::Not))];
-
-const FIRST_BASIC: [Class; 16] = [
-    Class::One(Kind::Reserved(Reserved::Exists)),
-    Class::One(Kind::Sign(Sign::Open)),
-    Class::One(Kind::Sign(Sign::Plus)),
-    Class::One(Kind::Sign(Sign::Minus)),
-    Class::Name,
-    Class::One(Kind::Variable),
-    Class::One(Kind::Number),
-    Class::One(Kind::Text),
-    Class::One(Kind::TranCount),
-    Class::One(Kind::Error),
-    Class::One(Kind::RowCount),
-    Class::One(Kind::FetchStatus),
-    Class::One(Kind::Reserved(Reserved::Case)),
-    Class::One(Kind::Reserved(Reserved::Coalesce)),
-    Class::One(Kind::Reserved(Reserved::Null)),
-    Class::One(Kind::Reserved(Reserved::NullIf)),
-];
-
-const FIRST_OPENED: [Class; 18] = [
-    Class::One(Kind::Reserved(Reserved::Exists)),
-    Class::One(Kind::Reserved(Reserved::Not)),
-    Class::One(Kind::Reserved(Reserved::Select)),
-    Class::One(Kind::Sign(Sign::Open)),
-    Class::One(Kind::Sign(Sign::Plus)),
-    Class::One(Kind::Sign(Sign::Minus)),
-    Class::Name,
-    Class::One(Kind::Variable),
-    Class::One(Kind::Number),
-    Class::One(Kind::Text),
-    Class::One(Kind::TranCount),
-    Class::One(Kind::Error),
-    Class::One(Kind::RowCount),
-    Class::One(Kind::FetchStatus),
-    Class::One(Kind::Reserved(Reserved::Case)),
-    Class::One(Kind::Reserved(Reserved::Coalesce)),
-    Class::One(Kind::Reserved(Reserved::Null)),
-    Class::One(Kind::Reserved(Reserved::NullIf)),
-];
-
-const FIRST_OPERAND: [Class; 15] = [
-    Class::One(Kind::Reserved(Reserved::Between)),
-    Class::One(Kind::Reserved(Reserved::In)),
-    Class::One(Kind::Reserved(Reserved::Is)),
-    Class::One(Kind::Reserved(Reserved::Not)),
-    Class::One(Kind::Sign(Sign::Equal)),
-    Class::One(Kind::Sign(Sign::NotEqual)),
-    Class::One(Kind::Sign(Sign::Less)),
-    Class::One(Kind::Sign(Sign::LessEqual)),
-    Class::One(Kind::Sign(Sign::Greater)),
-    Class::One(Kind::Sign(Sign::GreaterEqual)),
-    Class::One(Kind::Sign(Sign::Star)),
-    Class::One(Kind::Sign(Sign::Slash)),
-    Class::One(Kind::Sign(Sign::Percent)),
-    Class::One(Kind::Sign(Sign::Plus)),
-    Class::One(Kind::Sign(Sign::Minus)),
-];
-
-const FIRST_OPERAND_WITHIN: [Class; 16] = [
-    Class::One(Kind::Sign(Sign::Close)),
-    Class::One(Kind::Reserved(Reserved::Between)),
-    Class::One(Kind::Reserved(Reserved::In)),
-    Class::One(Kind::Reserved(Reserved::Is)),
-    Class::One(Kind::Reserved(Reserved::Not)),
-    Class::One(Kind::Sign(Sign::Equal)),
-    Class::One(Kind::Sign(Sign::NotEqual)),
-    Class::One(Kind::Sign(Sign::Less)),
-    Class::One(Kind::Sign(Sign::LessEqual)),
-    Class::One(Kind::Sign(Sign::Greater)),
-    Class::One(Kind::Sign(Sign::GreaterEqual)),
-    Class::One(Kind::Sign(Sign::Star)),
-    Class::One(Kind::Sign(Sign::Slash)),
-    Class::One(Kind::Sign(Sign::Percent)),
-    Class::One(Kind::Sign(Sign::Plus)),
-    Class::One(Kind::Sign(Sign::Minus)),
-];
-
-const FIRST_COMPARED: [Class; 10] = [
-    Class::One(Kind::Reserved(Reserved::Between)),
-    Class::One(Kind::Reserved(Reserved::In)),
-    Class::One(Kind::Reserved(Reserved::Is)),
-    Class::One(Kind::Reserved(Reserved::Not)),
-    Class::One(Kind::Sign(Sign::Equal)),
-    Class::One(Kind::Sign(Sign::NotEqual)),
-    Class::One(Kind::Sign(Sign::Less)),
-    Class::One(Kind::Sign(Sign::LessEqual)),
-    Class::One(Kind::Sign(Sign::Greater)),
-    Class::One(Kind::Sign(Sign::GreaterEqual)),
-];
-
-const FIRST_COMPARED_WITHIN: [Class; 11] = [
-    Class::One(Kind::Sign(Sign::Close)),
-    Class::One(Kind::Reserved(Reserved::Between)),
-    Class::One(Kind::Reserved(Reserved::In)),
-    Class::One(Kind::Reserved(Reserved::Is)),
-    Class::One(Kind::Reserved(Reserved::Not)),
-    Class::One(Kind::Sign(Sign::Equal)),
-    Class::One(Kind::Sign(Sign::NotEqual)),
-    Class::One(Kind::Sign(Sign::Less)),
-    Class::One(Kind::Sign(Sign::LessEqual)),
-    Class::One(Kind::Sign(Sign::Greater)),
-    Class::One(Kind::Sign(Sign::GreaterEqual)),
-];
-
-const FIRST_TESTED: [Class; 3] = [
-    Class::One(Kind::Sign(Sign::Close)),
-    Class::One(Kind::Reserved(Reserved::And)),
-    Class::One(Kind::Reserved(Reserved::Or)),
-];
-
-const FIRST_MEMBERSHIP: [Class; 2] = [
-    Class::One(Kind::Reserved(Reserved::Between)),
-    Class::One(Kind::Reserved(Reserved::In)),
-];
-
-const FIRST_IN_LIST: [Class; 16] = [
-    Class::One(Kind::Reserved(Reserved::Select)),
-    Class::One(Kind::Sign(Sign::Open)),
-    Class::One(Kind::Sign(Sign::Plus)),
-    Class::One(Kind::Sign(Sign::Minus)),
-    Class::Name,
-    Class::One(Kind::Variable),
-    Class::One(Kind::Number),
-    Class::One(Kind::Text),
-    Class::One(Kind::TranCount),
-    Class::One(Kind::Error),
-    Class::One(Kind::RowCount),
-    Class::One(Kind::FetchStatus),
-    Class::One(Kind::Reserved(Reserved::Case)),
-    Class::One(Kind::Reserved(Reserved::Coalesce)),
-    Class::One(Kind::Reserved(Reserved::Null)),
-    Class::One(Kind::Reserved(Reserved::NullIf)),
-];
-
-const FIRST_PRIMARY: [Class; 13] = [
-    Class::One(Kind::Sign(Sign::Open)),
-    Class::Name,
-    Class::One(Kind::Variable),
-    Class::One(Kind::Number),
-    Class::One(Kind::Text),
-    Class::One(Kind::TranCount),
-    Class::One(Kind::Error),
-    Class::One(Kind::RowCount),
-    Class::One(Kind::FetchStatus),
-    Class::One(Kind::Reserved(Reserved::Case)),
-    Class::One(Kind::Reserved(Reserved::Coalesce)),
-    Class::One(Kind::Reserved(Reserved::Null)),
-    Class::One(Kind::Reserved(Reserved::NullIf)),
-];
-
-const FIRST_AFTER_FUNCTION: [Class; 2] = [
-    Class::One(Kind::Sign(Sign::Open)),
-    Class::One(Kind::Sign(Sign::Dot)),
-];
-
-const FIRST_COUNT_ARGUMENTS: [Class; 17] = [
-    Class::One(Kind::Sign(Sign::Star)),
-    Class::One(Kind::Reserved(Reserved::Distinct)),
-    Class::One(Kind::Sign(Sign::Open)),
-    Class::One(Kind::Sign(Sign::Plus)),
-    Class::One(Kind::Sign(Sign::Minus)),
-    Class::Name,
-    Class::One(Kind::Variable),
-    Class::One(Kind::Number),
-    Class::One(Kind::Text),
-    Class::One(Kind::TranCount),
-    Class::One(Kind::Error),
-    Class::One(Kind::RowCount),
-    Class::One(Kind::FetchStatus),
-    Class::One(Kind::Reserved(Reserved::Case)),
-    Class::One(Kind::Reserved(Reserved::Coalesce)),
-    Class::One(Kind::Reserved(Reserved::Null)),
-    Class::One(Kind::Reserved(Reserved::NullIf)),
-];
-
-const FIRST_WHEN: [Class; 1] = [Class::One(Kind::Reserved(Reserved::When))];
-
-const FIRST_ELSE_WORD: [Class; 1] = [Class::One(Kind::Reserved(Reserved::Else))];
+const BEGINS_EXPR: [Class; 15] = classes! {
+    [Sign Open] [Sign Plus] [Sign Minus] Name (Variable) (Number) (Text) (TranCount) (Error)
+    (RowCount) (FetchStatus) [Reserved Case] [Reserved Coalesce] [Reserved Null] [Reserved NullIf]
+};
+
+const COMPARES: [Class; 6] = classes! {
+    [Sign Equal] [Sign NotEqual] [Sign Less] [Sign LessEqual] [Sign Greater] [Sign GreaterEqual]
+};
+
+const MULTIPLIES: [Class; 3] = classes! { [Sign Star] [Sign Slash] [Sign Percent] };
+
+const ADDS: [Class; 2] = classes! { [Sign Plus] [Sign Minus] };
+
+const BEGINS_OTHER: [Class; 10] = classes! {
+    (Number) (Text) (TranCount) (Error) (RowCount) (FetchStatus) [Reserved Case]
+    [Reserved Coalesce] [Reserved Null] [Reserved NullIf]
+};
+
+const BEGINS_SIMPLE: [Class; 12] = classes! {
+    Name (Variable) (Number) (Text) (TranCount) (Error) (RowCount) (FetchStatus) [Reserved Case]
+    [Reserved Coalesce] [Reserved Null] [Reserved NullIf]
+};
+
+const JOINS_TABLES: [Class; 5] = classes! {
+    [Sign Comma] [Reserved Join] [Reserved Inner] [Reserved Left] [Reserved Cross]
+};
+
+const AFTER_OPERAND: [Class; 9] = classes! {
+    Name [Reserved As] [Sign Open] [Sign Dot] [Sign Plus] [Sign Minus] [Sign Star] [Sign Slash]
+    [Sign Percent]
+};
+
+const FIRST_BATCH: [Class; 24] = classes! {
+    [Reserved Create] Semicolon [Reserved Begin] [Reserved Close] [Reserved Commit]
+    [Reserved Deallocate] [Reserved Declare] [Reserved Delete] [Reserved Drop] [Reserved Execute]
+    [Reserved Fetch] [Reserved If] [Reserved Insert] [Reserved Open] [Reserved Print]
+    [Reserved RaiseError] [Reserved Return] [Reserved Rollback] [Reserved Save] [Reserved Select]
+    [Reserved Set] [Reserved Throw] [Reserved Update] [Reserved While]
+};
+
+const FIRST_AFTER_FIRST_CREATE: [Class; 3] = classes! {
+    [Reserved Procedure] [Reserved Table] [Reserved Trigger]
+};
+
+const FIRST_CREATE: [Class; 1] = classes! { [Reserved Create] };
+
+const FIRST_PROCEDURE: [Class; 1] = classes! { [Reserved Procedure] };
+
+const FIRST_TRIGGER: [Class; 1] = classes! { [Reserved Trigger] };
+
+const FIRST_TRIGGER_TIME: [Class; 2] = classes! { [Word After] [Reserved For] };
+
+const FIRST_EVENT: [Class; 3] = classes! { [Reserved Delete] [Reserved Insert] [Reserved Update] };
+
+const FIRST_COMMA: [Class; 1] = classes! { [Sign Comma] };
+
+const FIRST_ONE_VARIABLE: [Class; 1] = classes! { (Variable) };
+
+const FIRST_OUTPUT: [Class; 1] = classes! { [Word Output] };
+
+const FIRST_NAME: [Class; 1] = classes! { Name };
+
+const FIRST_DOT: [Class; 1] = classes! { [Sign Dot] };
+
+const FIRST_TYPE: [Class; 6] = classes! {
+    [Word TinyInt] [Word SmallInt] [Word Int] [Word BigInt] [Word Bit] [Word NVarChar]
+};
+
+const BODY_IN_WHILE: [Class; 26] = classes! {
+    [Reserved Create] Semicolon [Reserved Begin] [Reserved Close] [Reserved Commit]
+    [Reserved Deallocate] [Reserved Declare] [Reserved Delete] [Reserved Drop] [Reserved Execute]
+    [Reserved Fetch] [Reserved If] [Reserved Insert] [Reserved Open] [Reserved Print]
+    [Reserved RaiseError] [Reserved Return] [Reserved Rollback] [Reserved Save] [Reserved Select]
+    [Reserved Set] [Reserved Throw] [Reserved Update] [Reserved While] [Reserved Break]
+    [Reserved Continue]
+};
+
+const STATEMENT_IN_WHILE: [Class; 25] = classes! {
+    [Reserved Create] [Reserved Begin] [Reserved Close] [Reserved Commit] [Reserved Deallocate]
+    [Reserved Declare] [Reserved Delete] [Reserved Drop] [Reserved Execute] [Reserved Fetch]
+    [Reserved If] [Reserved Insert] [Reserved Open] [Reserved Print] [Reserved RaiseError]
+    [Reserved Return] [Reserved Rollback] [Reserved Save] [Reserved Select] [Reserved Set]
+    [Reserved Throw] [Reserved Update] [Reserved While] [Reserved Break] [Reserved Continue]
+};
+
+const STATEMENT: [Class; 23] = classes! {
+    [Reserved Create] [Reserved Begin] [Reserved Close] [Reserved Commit] [Reserved Deallocate]
+    [Reserved Declare] [Reserved Delete] [Reserved Drop] [Reserved Execute] [Reserved Fetch]
+    [Reserved If] [Reserved Insert] [Reserved Open] [Reserved Print] [Reserved RaiseError]
+    [Reserved Return] [Reserved Rollback] [Reserved Save] [Reserved Select] [Reserved Set]
+    [Reserved Throw] [Reserved Update] [Reserved While]
+};
+
+const OTHER_STATEMENT_IN_WHILE: [Class; 24] = classes! {
+    [Reserved Begin] [Reserved Close] [Reserved Commit] [Reserved Deallocate] [Reserved Declare]
+    [Reserved Delete] [Reserved Drop] [Reserved Execute] [Reserved Fetch] [Reserved If]
+    [Reserved Insert] [Reserved Open] [Reserved Print] [Reserved RaiseError] [Reserved Return]
+    [Reserved Rollback] [Reserved Save] [Reserved Select] [Reserved Set] [Reserved Throw]
+    [Reserved Update] [Reserved While] [Reserved Break] [Reserved Continue]
+};
+
+const OTHER_STATEMENT: [Class; 22] = classes! {
+    [Reserved Begin] [Reserved Close] [Reserved Commit] [Reserved Deallocate] [Reserved Declare]
+    [Reserved Delete] [Reserved Drop] [Reserved Execute] [Reserved Fetch] [Reserved If]
+    [Reserved Insert] [Reserved Open] [Reserved Print] [Reserved RaiseError] [Reserved Return]
+    [Reserved Rollback] [Reserved Save] [Reserved Select] [Reserved Set] [Reserved Throw]
+    [Reserved Update] [Reserved While]
+};
+
+const FIRST_SEMICOLON: [Class; 1] = classes! { Semicolon };
+
+const AFTER_BEGIN_IN_WHILE: [Class; 29] = classes! {
+    [Reserved Tran] [Reserved Transaction] [Word Try] Semicolon [Reserved Create] [Reserved Begin]
+    [Reserved Close] [Reserved Commit] [Reserved Deallocate] [Reserved Declare] [Reserved Delete]
+    [Reserved Drop] [Reserved Execute] [Reserved Fetch] [Reserved If] [Reserved Insert]
+    [Reserved Open] [Reserved Print] [Reserved RaiseError] [Reserved Return] [Reserved Rollback]
+    [Reserved Save] [Reserved Select] [Reserved Set] [Reserved Throw] [Reserved Update]
+    [Reserved While] [Reserved Break] [Reserved Continue]
+};
+
+const AFTER_BEGIN: [Class; 27] = classes! {
+    [Reserved Tran] [Reserved Transaction] [Word Try] Semicolon [Reserved Create] [Reserved Begin]
+    [Reserved Close] [Reserved Commit] [Reserved Deallocate] [Reserved Declare] [Reserved Delete]
+    [Reserved Drop] [Reserved Execute] [Reserved Fetch] [Reserved If] [Reserved Insert]
+    [Reserved Open] [Reserved Print] [Reserved RaiseError] [Reserved Return] [Reserved Rollback]
+    [Reserved Save] [Reserved Select] [Reserved Set] [Reserved Throw] [Reserved Update]
+    [Reserved While]
+};
+
+const FIRST_ELSE: [Class; 2] = classes! { (BeforeElse) [Reserved Else] };
+
+const FIRST_INTO: [Class; 1] = classes! { [Reserved Into] };
+
+const FIRST_AFTER_INSERT_TABLE: [Class; 3] = classes! {
+    [Sign Open] [Reserved Select] [Reserved Values]
+};
+
+const FIRST_INSERT_ROWS: [Class; 2] = classes! { [Reserved Select] [Reserved Values] };
+
+const FIRST_OPEN: [Class; 1] = classes! { [Sign Open] };
+
+const FIRST_FROM: [Class; 1] = classes! { [Reserved From] };
+
+const FIRST_TABLE: [Class; 1] = classes! { [Reserved Table] };
+
+const FIRST_ELEMENT: [Class; 6] = classes! {
+    Name [Reserved Check] [Reserved Constraint] [Reserved Foreign] [Reserved Primary]
+    [Reserved Unique]
+};
+
+const FIRST_COLUMN_TRAITS: [Class; 7] = classes! {
+    [Reserved Check] [Reserved Constraint] [Reserved Not] [Reserved Null] [Reserved Primary]
+    [Reserved References] [Reserved Unique]
+};
+
+const FIRST_COLUMN_CONSTRAINT: [Class; 4] = classes! {
+    [Reserved Check] [Reserved Primary] [Reserved References] [Reserved Unique]
+};
+
+const FIRST_TABLE_CONSTRAINT: [Class; 4] = classes! {
+    [Reserved Check] [Reserved Foreign] [Reserved Primary] [Reserved Unique]
+};
+
+const FIRST_AFTER_DECLARE: [Class; 2] = classes! { Name (Variable) };
+
+const FIRST_AS: [Class; 1] = classes! { [Reserved As] };
+
+const FIRST_EQUAL: [Class; 1] = classes! { [Sign Equal] };
+
+const FIRST_CURSOR_SCOPE: [Class; 2] = classes! { [Word Local] [Word Global] };
+
+const FIRST_STATIC: [Class; 1] = classes! { [Word Static] };
+
+const FIRST_READ_ONLY: [Class; 1] = classes! { [Word ReadOnly] };
+
+const FIRST_AFTER_SET: [Class; 15] = classes! {
+    (Variable) [Reserved Transaction] [Word XactAbort] [Word NoCount] [Word ImplicitTransactions]
+    [Word LockTimeout] [Word TextSize] [Word DeadlockPriority] [Fixed AnsiNulls]
+    [Fixed AnsiNullDefaultOn] [Fixed AnsiPadding] [Fixed AnsiWarnings] [Fixed ArithAbort]
+    [Fixed ConcatNullYieldsNull] [Fixed QuotedIdentifier]
+};
+
+const FIRST_ON_OFF: [Class; 2] = classes! { [Word Off] [Reserved On] };
+
+const FIRST_LEVEL: [Class; 4] = classes! {
+    [Word Read] [Word Repeatable] [Word Snapshot] [Word Serializable]
+};
+
+const FIRST_AFTER_READ: [Class; 2] = classes! { [Word Committed] [Word Uncommitted] };
+
+const FIRST_SIGNED_NUMBER: [Class; 2] = classes! { (Number) [Sign Minus] };
+
+const FIRST_PRIORITY: [Class; 5] = classes! {
+    (Number) [Sign Minus] [Word Low] [Word Normal] [Word High]
+};
+
+const FIRST_TRANSACTION_WORD: [Class; 2] = classes! { [Reserved Tran] [Reserved Transaction] };
+
+const FIRST_NEXT: [Class; 1] = classes! { [Word Next] };
+
+const FIRST_ARGUMENTS: [Class; 5] = classes! {
+    (Number) (Text) (Variable) [Sign Minus] [Reserved Null]
+};
+
+const FIRST_AFTER_ARGUMENT_VARIABLE: [Class; 2] = classes! { [Sign Equal] [Word Output] };
+
+const FIRST_CONSTANT: [Class; 4] = classes! { (Number) (Text) [Sign Minus] [Reserved Null] };
+
+const FIRST_SELECT: [Class; 18] = classes! {
+    [Sign Star] [Reserved Distinct] [Reserved Top] [Sign Open] [Sign Plus] [Sign Minus] Name
+    (Variable) (Number) (Text) (TranCount) (Error) (RowCount) (FetchStatus) [Reserved Case]
+    [Reserved Coalesce] [Reserved Null] [Reserved NullIf]
+};
+
+const FIRST_DISTINCT: [Class; 1] = classes! { [Reserved Distinct] };
+
+const FIRST_TOP: [Class; 1] = classes! { [Reserved Top] };
+
+const FIRST_TOP_NUMBER: [Class; 2] = classes! { (Number) [Sign Open] };
+
+const FIRST_ITEMS: [Class; 16] = classes! {
+    [Sign Star] [Sign Open] [Sign Plus] [Sign Minus] Name (Variable) (Number) (Text) (TranCount)
+    (Error) (RowCount) (FetchStatus) [Reserved Case] [Reserved Coalesce] [Reserved Null]
+    [Reserved NullIf]
+};
+
+const FIRST_AFTER_FIRST_VARIABLE: [Class; 9] = classes! {
+    Name [Sign Comma] [Sign Equal] [Reserved As] [Sign Star] [Sign Slash] [Sign Percent]
+    [Sign Plus] [Sign Minus]
+};
+
+const FIRST_AFTER_ITEM_NAME: [Class; 8] = classes! {
+    Name [Sign Dot] [Reserved As] [Sign Star] [Sign Slash] [Sign Percent] [Sign Plus] [Sign Minus]
+};
+
+const FIRST_AFTER_ITEM_DOT: [Class; 2] = classes! { Name [Sign Star] };
+
+const FIRST_OTHER_ITEM: [Class; 13] = classes! {
+    [Sign Open] (Number) (Text) (TranCount) (Error) (RowCount) (FetchStatus) [Reserved Case]
+    [Reserved Coalesce] [Reserved Null] [Reserved NullIf] [Sign Plus] [Sign Minus]
+};
+
+const FIRST_AFTER_ITEM_OPERAND: [Class; 7] = classes! {
+    Name [Reserved As] [Sign Star] [Sign Slash] [Sign Percent] [Sign Plus] [Sign Minus]
+};
+
+const FIRST_ALIAS: [Class; 2] = classes! { Name [Reserved As] };
+
+const FIRST_OUTER: [Class; 1] = classes! { [Reserved Outer] };
+
+const FIRST_WHERE: [Class; 1] = classes! { [Reserved Where] };
+
+const FIRST_GROUP: [Class; 1] = classes! { [Reserved Group] };
+
+const FIRST_HAVING: [Class; 1] = classes! { [Reserved Having] };
+
+const FIRST_ORDER: [Class; 1] = classes! { [Reserved Order] };
+
+const FIRST_DIRECTION: [Class; 2] = classes! { [Reserved Asc] [Reserved Desc] };
+
+const FIRST_TEST: [Class; 17] = classes! {
+    [Reserved Exists] [Reserved Not] [Sign Open] [Sign Plus] [Sign Minus] Name (Variable) (Number)
+    (Text) (TranCount) (Error) (RowCount) (FetchStatus) [Reserved Case] [Reserved Coalesce]
+    [Reserved Null] [Reserved NullIf]
+};
+
+const FIRST_OR: [Class; 1] = classes! { [Reserved Or] };
+
+const FIRST_AND: [Class; 1] = classes! { [Reserved And] };
+
+const FIRST_NOT: [Class; 1] = classes! { [Reserved Not] };
+
+const FIRST_BASIC: [Class; 16] = classes! {
+    [Reserved Exists] [Sign Open] [Sign Plus] [Sign Minus] Name (Variable) (Number) (Text)
+    (TranCount) (Error) (RowCount) (FetchStatus) [Reserved Case] [Reserved Coalesce]
+    [Reserved Null] [Reserved NullIf]
+};
+
+const FIRST_OPENED: [Class; 18] = classes! {
+    [Reserved Exists] [Reserved Not] [Reserved Select] [Sign Open] [Sign Plus] [Sign Minus] Name
+    (Variable) (Number) (Text) (TranCount) (Error) (RowCount) (FetchStatus) [Reserved Case]
+    [Reserved Coalesce] [Reserved Null] [Reserved NullIf]
+};
+
+const FIRST_OPERAND: [Class; 15] = classes! {
+    [Reserved Between] [Reserved In] [Reserved Is] [Reserved Not] [Sign Equal] [Sign NotEqual]
+    [Sign Less] [Sign LessEqual] [Sign Greater] [Sign GreaterEqual] [Sign Star] [Sign Slash]
+    [Sign Percent] [Sign Plus] [Sign Minus]
+};
+
+const FIRST_OPERAND_WITHIN: [Class; 16] = classes! {
+    [Sign Close] [Reserved Between] [Reserved In] [Reserved Is] [Reserved Not] [Sign Equal]
+    [Sign NotEqual] [Sign Less] [Sign LessEqual] [Sign Greater] [Sign GreaterEqual] [Sign Star]
+    [Sign Slash] [Sign Percent] [Sign Plus] [Sign Minus]
+};
+
+const FIRST_COMPARED: [Class; 10] = classes! {
+    [Reserved Between] [Reserved In] [Reserved Is] [Reserved Not] [Sign Equal] [Sign NotEqual]
+    [Sign Less] [Sign LessEqual] [Sign Greater] [Sign GreaterEqual]
+};
+
+const FIRST_COMPARED_WITHIN: [Class; 11] = classes! {
+    [Sign Close] [Reserved Between] [Reserved In] [Reserved Is] [Reserved Not] [Sign Equal]
+    [Sign NotEqual] [Sign Less] [Sign LessEqual] [Sign Greater] [Sign GreaterEqual]
+};
+
+const FIRST_TESTED: [Class; 3] = classes! { [Sign Close] [Reserved And] [Reserved Or] };
+
+const FIRST_MEMBERSHIP: [Class; 2] = classes! { [Reserved Between] [Reserved In] };
+
+const FIRST_IN_LIST: [Class; 16] = classes! {
+    [Reserved Select] [Sign Open] [Sign Plus] [Sign Minus] Name (Variable) (Number) (Text)
+    (TranCount) (Error) (RowCount) (FetchStatus) [Reserved Case] [Reserved Coalesce]
+    [Reserved Null] [Reserved NullIf]
+};
+
+const FIRST_PRIMARY: [Class; 13] = classes! {
+    [Sign Open] Name (Variable) (Number) (Text) (TranCount) (Error) (RowCount) (FetchStatus)
+    [Reserved Case] [Reserved Coalesce] [Reserved Null] [Reserved NullIf]
+};
+
+const FIRST_AFTER_FUNCTION: [Class; 2] = classes! { [Sign Open] [Sign Dot] };
+
+const FIRST_COUNT_ARGUMENTS: [Class; 17] = classes! {
+    [Sign Star] [Reserved Distinct] [Sign Open] [Sign Plus] [Sign Minus] Name (Variable) (Number)
+    (Text) (TranCount) (Error) (RowCount) (FetchStatus) [Reserved Case] [Reserved Coalesce]
+    [Reserved Null] [Reserved NullIf]
+};
+
+const FIRST_WHEN: [Class; 1] = classes! { [Reserved When] };
+
+const FIRST_ELSE_WORD: [Class; 1] = classes! { [Reserved Else] };

@@ -5,13 +5,14 @@ ghost use Rattle.tsql_grammar.specs.declared.rule.Rule.TheVariants as r;
 ghost use Rattle.tsql_recognizer.specs.Stack.{expected, pick, Opens, symbols_of_rule};
 
 use crate::choice::push_chosen;
-use crate::symbol::Symbol;
-use crate::table::{
+use crate::lexemes::{
     AS, BEFORE_ELSE, BEGIN, BREAK, CATCH, CLOSE, COMMA, COMMIT, CONTINUE, CREATE, DEALLOCATE,
     DECLARE, DELETE, DROP, ELSE, END, EXECUTE, EXISTS, FETCH, FROM, IF, INSERT, INTO, NAME, NOT,
     OPEN, PAREN_CLOSE, PAREN_OPEN, PRINT, RAISE_ERROR, RETURN, ROLLBACK, SAVE, SELECT, SEMICOLON,
-    SET, THROW, TRY, UPDATE, WHILE, arguments_of, productions,
+    SET, THROW, TRY, UPDATE, WHILE,
 };
+use crate::symbol::Symbol;
+use crate::table::{arguments_of, productions};
 use std::alloc::AllocError;
 use tsql_grammar::{Around, Function, Kind, Mark, Rule};
 

@@ -9,7 +9,7 @@ use tsql_lexer::Sign;
 use tsql_tree::FixedOption;
 
 /// Whether two kinds are one. Most are told apart by their variants.
-pub(crate) fn same_kind(one: Kind, other: Kind) -> bool
+pub fn same_kind(one: Kind, other: Kind) -> bool
     ensures { result ≡ same_kind one other }
 {
     variant_of(one) == variant_of(other) && kind_place(one) == kind_place(other)
