@@ -1,0 +1,3 @@
+pub mod SelectEquations
+pub mod Whole
+pub mod Runs

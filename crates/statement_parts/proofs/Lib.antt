@@ -1,0 +1,4 @@
+pub mod Ways
+pub mod Lists
+pub mod Clauses
+pub mod Options

@@ -1,0 +1,4 @@
+pub mod Verdicts
+pub mod Whole
+pub mod OneOutcome
+pub mod Rows
