@@ -1,5 +1,5 @@
 -- The conversation that a connection was, and that it is complete.
-use Rattle.std.proofs.Common.{◌≡◌, ℕ, ◌+◌, ◌-◌, ◌<◌, ◌≤◌, true, false, List, [], ◌∷◌, ◌++◌, length, Option, None, Some, Ok, is_ok, refl, sym, ap, subst, ◌∙◌, arith, append_assoc, length-append, inl, inr}
+use Rattle.std.proofs.Common.{◌≡◌, ℕ, ◌+◌, ◌-◌, ◌<◌, ◌≤◌, true, false, List, [], ◌∷◌, ◌++◌, length, Option, None, Some, Ok, is_ok, refl, sym, ap, subst, ◌∙◌, arith, length-append, inl, inr}
 use Rattle.std.specs.Prelude.{◌⊎◌}
 use Rattle.std.specs.Io.KnownBytes.{Consumes}
 use Rattle.outside_io.specs.Bytes.{Takes}
@@ -12,66 +12,66 @@ use Rattle.tds_packets.specs.Stream.{Joins}
 use Rattle.tds_packets.specs.Reading.{StopsBy, OnCut, byte_limit}
 use Rattle.tds_packets.proofs.Joined.{left_whole}
 use Rattle.tds_packets.proofs.Ends.{refuses_none}
-use Rattle.step_model.specs.declared.change.Change.{Change}
 use Rattle.step_model.specs.Fits.{commits_of}
 use Rattle.step_model.specs.Port.{PortPast}
 use Rattle.step_model.proofs.Pasts.{goes_further}
 use Rattle.session_server.specs.declared.end.End.{End}
 use Rattle.session_server.specs.declared.end.End.TheVariants.{Closed, Memory, ReadFault, WriteFault}
-use Rattle.session_server.specs.Progress.{Progress, first_progress}
-use Rattle.session_server.specs.Doing.{Doing, Does}
-use Rattle.session_server.specs.Meaning.{rolls_back_open}
+use Rattle.batch_meaning.specs.Progress.{SessionProgress, first_progress}
+use Rattle.batch_meaning.specs.Doing.{Doing, Did}
+use Rattle.batch_meaning.specs.Meaning.{rolls_back_open}
 use Rattle.session_server.specs.Response.{Response}
+use Rattle.session_server.specs.Talk.{handle, Request}
 use Rattle.session_server.specs.Conversation.{IsUnended, Caused, Emptied, closed, Means, Heard, Conversation, Completes, spid_of}
 use Rattle.session_server.specs.Ends.{Cause, no_message, by_message, unsent, unmade, end_of, end_of_message}
 use Rattle.session_server.specs.Parts.{IsAskedSoFar, Spoke}
-use Rattle.session_server.proofs.Composed.{does_over, does_then}
-use Rattle.session_server.specs.Told.{commits_told}
-use Rattle.session_server.proofs.ToldCommits.{talk_told, told_front, told_within, told_first, closed_told}
-use Rattle.session_server.proofs.LeftCommits.{abandoned_one}
+use Rattle.batch_meaning.proofs.Composed.{does_over, does_then}
+use Rattle.session_server.proofs.ToldCommits.{closed_told, abandoned_told}
 use Rattle.session_server.proofs.Walks.{front_unended}
 
 -- ---- the closing rollback
 
-module _ {before mid after : PortPast} {new last : Progress} (end : Does mid after rolls_back_open new (Ok tt) last) where
-  closes : {talk : Doing (List Response)} {responses : List Response} → Does before mid talk first_progress (Ok responses) new → Does before after (closed talk) first_progress (Ok responses) last
+module _ {before mid after : PortPast} {new last : SessionProgress} (end : Did mid after rolls_back_open new (Ok tt) last) where
+  closes : {talk : Doing (List Response)} {responses : List Response} → Did before mid talk first_progress (Ok responses) new → Did before after (closed talk) first_progress (Ok responses) last
   closes does = does_then _ _ does (does_then _ _ end (does_over refl))
 
-  means_by : (config : Config) (messages : List Message) (responses : List Response) (cause : Cause) → IsAskedSoFar config before mid messages responses new cause → Means config before after messages responses cause
-  means_by config messages responses (no_message fault) asked = let whole = closes asked in record { exchanges = whole.exchanges; past = whole.past; asked = (last, whole.came); told = closed_told config messages whole.exchanges responses last whole.came }
-  means_by config messages responses (by_message made) asked = let whole = closes asked in record { exchanges = whole.exchanges; past = whole.past; asked = (last, whole.came); told = closed_told config messages whole.exchanges responses last whole.came }
-  means_by config messages responses (unsent fault) asked = let whole = closes asked in record { exchanges = whole.exchanges; past = whole.past; asked = (last, whole.came); told = closed_told config messages whole.exchanges responses last whole.came }
-  means_by config messages responses unmade asked = record {
-    exchanges = (asked.first ++ asked.second) ++ end.exchanges;
-    past = goes_further before mid after (asked.first ++ asked.second) end.exchanges asked.past end.past;
-    asked = record {
-      front = asked.front;
-      last = asked.last;
-      state = asked.state;
-      whole = asked.whole;
-      stands = asked.stands;
-      first = asked.first;
-      second = asked.second;
-      third = end.exchanges;
-      parts = refl;
-      talked = asked.talked;
-      abandoned = new;
-      new = last;
-      talk = asked.talk;
-      left = asked.left;
-      end = end.came;
-    };
-    told = (
-      commits_of (asked.second ++ end.exchanges),
-      ap commits_of (append_assoc asked.first asked.second end.exchanges)
-          ∙ told_first config asked.front asked.first (asked.second ++ end.exchanges) responses asked.talked asked.talk
-          ∙ ap (λ (l : List (List Change)). l ++ commits_of (asked.second ++ end.exchanges)) (sym (told_front asked.front (asked.last ∷ []) responses (told_within config asked.front asked.first responses asked.talked asked.talk)) ∙ ap (λ (m : List Message). commits_told m responses) (sym asked.whole)),
-      (asked.front, asked.last, asked.whole, abandoned_one asked.last config asked.state asked.talked new last asked.second end.exchanges (talk_told config asked.front asked.first responses asked.talked asked.talk).closed asked.left end.came),
-    );
-  }
+  means_by : (config : Config) (messages : List Message) (requests : List Request) (responses : List Response) (cause : Cause) → IsAskedSoFar config before mid messages requests responses new cause → Means config before after messages responses cause
+  means_by config messages requests responses (no_message fault) asked = let whole = closes asked.1 in record { requests = requests; exchanges = whole.exchanges; past = whole.past; asked = (asked.0, last, whole.came); told = closed_told requests asked.0.are whole.exchanges responses last whole.came }
+  means_by config messages requests responses (by_message made) asked = let whole = closes asked.1 in record { requests = requests; exchanges = whole.exchanges; past = whole.past; asked = (asked.0, last, whole.came); told = closed_told requests asked.0.are whole.exchanges responses last whole.came }
+  means_by config messages requests responses (unsent fault) asked = let whole = closes asked.1 in record { requests = requests; exchanges = whole.exchanges; past = whole.past; asked = (asked.0, last, whole.came); told = closed_told requests asked.0.are whole.exchanges responses last whole.came }
+  means_by config messages requests responses unmade asked =
+      let told = abandoned_told requests asked.are.are (handle config asked.state asked.last) asked.first asked.second end.exchanges responses asked.talked new last asked.talk asked.left end.came in
+      record {
+        requests = requests;
+        exchanges = (asked.first ++ asked.second) ++ end.exchanges;
+        past = goes_further before mid after (asked.first ++ asked.second) end.exchanges asked.past end.past;
+        asked = record {
+          front = asked.front;
+          last = asked.last;
+          state = asked.state;
+          whole = asked.whole;
+          stands = asked.stands;
+          are = asked.are;
+          first = asked.first;
+          second = asked.second;
+          third = end.exchanges;
+          parts = refl;
+          talked = asked.talked;
+          abandoned = new;
+          new = last;
+          talk = asked.talk;
+          left = asked.left;
+          end = end.came;
+        };
+        told = (
+          commits_of (asked.second ++ end.exchanges),
+          told.0,
+          (asked.front, asked.last, asked.state, asked.whole, asked.stands, told.1),
+        );
+      }
 
   pub conversation_of : {config : Config} {session : ℕ} {gave : List ℕ → Type 0} {left sink_before sink_after : Option (List ℕ)} {made : End} → Spoke config (spid_of session) gave left before mid sink_before sink_after new made → Conversation config session gave left before after sink_before sink_after made
-  conversation_of {config = config} spoke = record { heard = spoke.heard; means = means_by config spoke.heard.messages spoke.heard.responses spoke.heard.cause spoke.asked }
+  conversation_of {config = config} spoke = record { heard = spoke.heard; means = means_by config spoke.heard.messages spoke.requests spoke.heard.responses spoke.heard.cause spoke.asked }
 
 -- ---- completeness
 

@@ -1,5 +1,5 @@
 -- How one message is handled, from what its parts do.
-use Rattle.std.proofs.Common.{◌≡◌, ℕ, true, false, List, [], Result, Ok, Err, refl, sym, subst, ap, ◌∙◌}
+use Rattle.std.proofs.Common.{◌≡◌, ℕ, true, false, List, [], Result, Ok, Err, inl, inr, refl, sym, subst, ap, ◌∙◌}
 use Rattle.value_types.specs.declared.memory.Memory.{Memory}
 use Rattle.step_model.specs.Port.{PortPast}
 use Rattle.step_model.proofs.Pasts.{goes_nowhere}
@@ -8,11 +8,11 @@ use Rattle.tds_packets.specs.Packets.{Packets, IsPacketSize}
 use Rattle.tds_tokens.specs.declared.token.Token.{Token}
 use Rattle.tds_tokens.specs.Spelling.{TokenBytes}
 use Rattle.session_server.specs.declared.message.Handling.{Handling as MadeHandling}
-use Rattle.session_server.specs.declared.message.Handling.TheVariants.{Responds, Refuses, Ends}
+use Rattle.session_server.specs.declared.message.Handling.TheVariants.{Responds, Ends}
 use Rattle.session_server.specs.declared.prepared.PreparedResponse.{PreparedResponse}
 use Rattle.session_server.specs.declared.prepared.Channel.{Channel}
-use Rattle.session_server.specs.Progress.{Progress}
-use Rattle.session_server.specs.Parts.{Bears, IsHandled, IsAnswered}
+use Rattle.batch_meaning.specs.Progress.{SessionProgress}
+use Rattle.session_server.specs.Parts.{Bears, Answers, Says, IsHandled, IsUnasked}
 use Rattle.session_server.specs.Response.{Response, tabular}
 use Rattle.std.specs.Result.{IsErr}
 use Rattle.tds_login.specs.declared.config.Config.{Config}
@@ -21,9 +21,11 @@ use Rattle.tds_login.specs.Login.{login_of}
 use Rattle.tds_packets.specs.declared.message.Message.{Message}
 use Rattle.session_server.specs.declared.message.ServerState.{ServerState}
 use Rattle.session_server.specs.declared.message.ServerState.TheVariants.{Initial, LoginReady, LoggedIn}
-use Rattle.session_server.specs.Doing.{Doing, Does}
-use Rattle.session_server.specs.Talk.{Handling, responds, refuses, ends, handle, handle_prelogin, handle_login, handle_attention}
-use Rattle.session_server.proofs.Composed.{does_over, left_nothing}
+use Rattle.batch_meaning.specs.declared.form.Served.{Served}
+use Rattle.batch_meaning.specs.Statements.{ReadsAs}
+use Rattle.batch_meaning.specs.Doing.{Did}
+use Rattle.session_server.specs.Talk.{Handling, responds, runs, refuses, ends, batch_response, handle, handle_prelogin, handle_login, handle_attention}
+use Rattle.batch_meaning.proofs.Composed.{does_over}
 
 -- what was prepared of tokens
 pub bears_tokens : (spid size : ℕ) (tokens : List Token) (prepared : PreparedResponse) → prepared.channel ≡ record { spid = spid; packet_size = size } → prepared.payload.items ≡ TokenBytes tokens → IsPacketSize size → Bears spid (tabular size tokens) prepared
@@ -32,23 +34,20 @@ bears_tokens spid size tokens prepared by carries sized = record {
   sized = subst IsPacketSize (sym (ap (λ (c : Channel). c.packet_size) by)) sized;
 }
 
+says_answers : (past : PortPast) (handling : Handling) (p : SessionProgress) (response : Response) → Says handling response → Answers past past handling p response p
+says_answers past (responds own next) p response is = record { statements = []; are = refl; has = tt; does = rw (← is) (does_over refl) }
+says_answers past (refuses own number) p response is = record { statements = []; are = refl; has = tt; does = rw (← is) (does_over refl) }
+says_answers past (runs size text) p response is = absurd is
+says_answers past (ends end) p response is = absurd is
+
 -- a message for which nothing is asked
-pub answered_handled : (spid : ℕ) (past : PortPast) (handling : Handling) (p : Progress) (result : Result MadeHandling Memory) → IsAnswered spid handling result → IsHandled spid past past handling p result p
-answered_handled spid past (responds tree next) p (Ok (Responds prepared to)) answered = (answered.0, rw answered.1 (does_over refl), answered.2, answered.3, answered.4)
-answered_handled spid past (responds tree next) p (Ok (Refuses prepared number)) answered = answered
-answered_handled spid past (responds tree next) p (Ok (Ends end)) answered = answered
-answered_handled spid past (refuses response number) p (Ok (Responds prepared to)) answered = answered
-answered_handled spid past (refuses response number) p (Ok (Refuses prepared by)) answered = (answered.0, answered.1, goes_nowhere past, refl)
-answered_handled spid past (refuses response number) p (Ok (Ends end)) answered = answered
-answered_handled spid past (ends end) p (Ok (Responds prepared to)) answered = answered
-answered_handled spid past (ends end) p (Ok (Refuses prepared by)) answered = answered
-answered_handled spid past (ends end) p (Ok (Ends made)) answered = (answered, goes_nowhere past, refl)
-answered_handled spid past (responds tree next) p (Err memory) answered = (tt, record { exchanges = []; past = goes_nowhere past; came = left_nothing tree p })
-answered_handled spid past (refuses response number) p (Err memory) answered = (tt, record { exchanges = []; past = goes_nowhere past; came = left_nothing _ p })
-answered_handled spid past (ends end) p (Err memory) answered = absurd answered
+pub answered_handled : (spid : ℕ) (past : PortPast) (handling : Handling) (p : SessionProgress) (result : Result MadeHandling Memory) → IsUnasked spid handling result → IsHandled spid past past handling p result p
+answered_handled spid past handling p (Ok (Responds prepared next)) answered = (answered.0, says_answers past handling p answered.0 answered.1, answered.2, answered.3, answered.4)
+answered_handled spid past handling p (Ok (Ends end)) answered = (answered, goes_nowhere past, refl)
+answered_handled spid past handling p (Err memory) answered = (answered, record { exchanges = []; past = goes_nowhere past; left = inl (refl, refl) })
 
 -- by the kind of message that it is
-pub answered_as : (spid : ℕ) (past : PortPast) (placed handling : Handling) (p : Progress) (result : Result MadeHandling Memory) → placed ≡ handling → IsAnswered spid handling result → IsHandled spid past past placed p result p
+pub answered_as : (spid : ℕ) (past : PortPast) (placed handling : Handling) (p : SessionProgress) (result : Result MadeHandling Memory) → placed ≡ handling → IsUnasked spid handling result → IsHandled spid past past placed p result p
 answered_as spid past placed handling p result is answered = rw is (answered_handled spid past handling p result answered)
 
 module _ (config : Config) (state : ServerState) (message : Message) (payload : List ℕ) (is_payload : payload ≡ message.payload) where
@@ -66,7 +65,13 @@ module _ (config : Config) (state : ServerState) (message : Message) (payload : 
 
 -- ---- a batch
 
--- memory was wanting
-pub left_handled : {before after : PortPast} (spid : ℕ) (tree : Doing Response) (next : ServerState) {p q : Progress} {memory : Memory} (result : Result MadeHandling Memory) → IsErr result → Does before after tree p (Err memory) q → IsHandled spid before after (responds tree next) p result q
-left_handled spid tree next (Ok made) err does = absurd (let no : false ≡ true = err in cc)
-left_handled spid tree next (Err wanting) err does = (tt, record { exchanges = does.exchanges; past = does.past; came = does.came })
+-- memory was wanting, before its text was read
+pub unread_handled : (past : PortPast) (spid size : ℕ) (text : List ℕ) (p : SessionProgress) (result : Result MadeHandling Memory) → IsErr result → IsHandled spid past past (runs size text) p result p
+unread_handled past spid size text p (Ok made) err = absurd (let no : false ≡ true = err in cc)
+unread_handled past spid size text p (Err wanting) err = (tt, record { exchanges = []; past = goes_nowhere past; left = inl (refl, refl) })
+
+-- or behind that
+pub left_handled : {before after : PortPast} (spid size : ℕ) (text : List ℕ) (statements : List Served) {p q : SessionProgress} {memory : Memory} (result : Result MadeHandling Memory) → IsErr result → ReadsAs text statements → Did before after (batch_response size statements) p (Err memory) q
+    → IsHandled spid before after (runs size text) p result q
+left_handled spid size text statements (Ok made) err read does = absurd (let no : false ≡ true = err in cc)
+left_handled spid size text statements (Err wanting) err read does = (tt, record { exchanges = does.exchanges; past = does.past; left = inr (statements, read, does.came) })

@@ -1,6 +1,7 @@
 -- What a connection has done between two messages, and what it has done at its end.
 use Rattle.std.proofs.Common.{◌≡◌, ℕ, ◌-◌, List, [], ◌∷◌, ◌++◌, length, Option, Ok, Err, is_ok, refl, sym, ap, subst, ◌∙◌, arith, length-append, zero-add, append-nil, inl, inr}
 use Rattle.std.specs.Io.KnownBytes.{Appends}
+use Rattle.std.proofs.lemmas.List.Elements.{All-nil}
 use Rattle.std.proofs.KnownBytes.{Appends-nil, Appends-trans}
 use Rattle.outside_io.specs.Bytes.{Takes}
 use Rattle.tds_login.specs.declared.config.Config.{Config}
@@ -17,36 +18,41 @@ use Rattle.step_model.proofs.Pasts.{goes_further}
 use Rattle.session_server.specs.declared.end.End.{End}
 use Rattle.session_server.specs.declared.end.End.TheVariants.{LoginRefused}
 use Rattle.session_server.specs.declared.message.ServerState.{ServerState}
-use Rattle.session_server.specs.Progress.{Progress, first_progress}
-use Rattle.session_server.specs.Doing.{Doing, Does}
-use Rattle.session_server.specs.Conversation.{IsUnended, EndsAtLast, IsAnswered, Emptied, response_to}
+use Rattle.batch_meaning.specs.Progress.{SessionProgress, first_progress}
+use Rattle.batch_meaning.specs.Doing.{Doing, Did}
+use Rattle.session_server.specs.Conversation.{IsUnended, EndsAtLast, IsAnswered, Emptied}
 use Rattle.session_server.specs.Ends.{Cause, no_message, by_message, unsent, unmade, end_of}
-use Rattle.session_server.specs.Parts.{HasResponse, EndsBy, Turned, EndsTurn, Ended, Spoke}
+use Rattle.session_server.specs.Parts.{HasResponse, Answers, EndsBy, Turned, EndsTurn, Ended, Spoke}
 use Rattle.session_server.specs.Response.{Response}
-use Rattle.session_server.specs.Talk.{Handling, responds, refuses, ends, first_state, handle, walk_on, walk_of, response_bytes, Bytes}
-use Rattle.session_server.proofs.Composed.{does_over}
-use Rattle.session_server.proofs.Walks.{walk_more, does_more, bytes_more}
+use Rattle.session_server.specs.Talk.{Handling, responds, runs, refuses, ends, next_of, first_state, handle, Walk, with_handling, walk_on, walk_of, Request, AreStatements, IsRequest, AreRequests, talk_of, response_bytes, Bytes}
+use Rattle.batch_meaning.specs.declared.form.Served.{Served as ServedStatement}
+use Rattle.batch_meaning.proofs.Composed.{does_over}
+use Rattle.session_server.proofs.Walks.{walk_more, requests_more, talk_with_request, handled_more, does_more, bytes_more}
 
 -- whole messages were taken, each has a response, and the connection stands in this state
-pub record Served {S : Type 0} (config : Config) (left given : S → Option (List ℕ)) (first now : S) (before mid : PortPast) (old new : Option (List ℕ)) (spid count : ℕ) (state : ServerState) (progress : Progress) : Type 0 where
+pub record Served {S : Type 0} (config : Config) (left given : S → Option (List ℕ)) (first now : S) (before mid : PortPast) (old new : Option (List ℕ)) (spid count : ℕ) (state : ServerState) (progress : SessionProgress) : Type 0 where
   pub bytes : List ℕ
   pub messages : List Message
+  pub requests : List Request
   pub responses : List Response
   pub took : Takes left given first now bytes
   pub joined : Joins 0 bytes messages []
-  pub does : Does before mid (walk_of config messages).talk first_progress (Ok responses) progress
+  pub are : AreRequests (walk_of config messages).handled requests
+  pub does : Did before mid (talk_of requests) first_progress (Ok responses) progress
   pub written : Appends old new (Bytes spid responses)
   pub stands : (walk_of config messages).stands ≡ Ok state
   pub counted : count ≡ length bytes
 
-pub nothing_served : {S : Type 0} (config : Config) (left given : S → Option (List ℕ)) (source : S) (past : PortPast) (sink : Option (List ℕ)) (spid : ℕ) {progress : Progress} → progress ≡ first_progress → Served config left given source source past past sink sink spid 0 (first_state config.entry) progress
-unfolding Joins walk_of
+pub nothing_served : {S : Type 0} (config : Config) (left given : S → Option (List ℕ)) (source : S) (past : PortPast) (sink : Option (List ℕ)) (spid : ℕ) {progress : SessionProgress} → progress ≡ first_progress → Served config left given source source past past sink sink spid 0 (first_state config.entry) progress
+unfolding Joins walk_of talk_of
 nothing_served config left given source past sink spid same = record {
   bytes = [];
   messages = [];
+  requests = [];
   responses = [];
   took = Takes-nil left given source;
   joined = refl;
+  are = record { handlings = refl; are = All-nil IsRequest };
   does = does_over same;
   written = Appends-nil sink;
   stands = refl;
@@ -54,15 +60,15 @@ nothing_served config left given source past sink spid same = record {
 }
 
 -- nothing was done behind it
-does_still : {before mid after : PortPast} {A : Type 0} {tree : Doing A} {p q new : Progress} {a : A} → Does before mid tree p (Ok a) q → GoesOn mid after [] → new ≡ q → Does before after tree p (Ok a) new
+does_still : {before mid after : PortPast} {A : Type 0} {tree : Doing A} {p q new : SessionProgress} {a : A} → Did before mid tree p (Ok a) q → GoesOn mid after [] → new ≡ q → Did before after tree p (Ok a) new
 does_still {before = before} {mid = mid} {after = after} {tree = tree} {p = p} {a = a} first still same =
-    subst (λ (x : Progress). Does before after tree p (Ok a) x) (sym same) (record {
+    subst (λ (x : SessionProgress). Did before after tree p (Ok a) x) (sym same) (record {
       exchanges = first.exchanges;
       past = subst (GoesOn before after) (append-nil first.exchanges) (goes_further before mid after first.exchanges [] first.past still);
       came = first.came;
     })
 
-module _ {S : Type 0} {config : Config} {left given : S → Option (List ℕ)} {first now : S} {before mid : PortPast} {old sink : Option (List ℕ)} {spid count : ℕ} {state : ServerState} {progress : Progress} (served : Served config left given first now before mid old sink spid count state progress) where
+module _ {S : Type 0} {config : Config} {left given : S → Option (List ℕ)} {first now : S} {before mid : PortPast} {old sink : Option (List ℕ)} {spid count : ℕ} {state : ServerState} {progress : SessionProgress} (served : Served config left given first now before mid old sink spid count state progress) where
   all_taken : {next : S} (bytes : List ℕ) → Takes left given now next bytes → Takes left given first next (served.bytes ++ bytes)
   all_taken {next = next} bytes took = Takes-trans left given first now next served.bytes bytes served.took took
 
@@ -72,19 +78,41 @@ module _ {S : Type 0} {config : Config} {left given : S → Option (List ℕ)} {
   pub unended : IsUnended config served.messages
   unended = ap is_ok served.stands
 
+  -- the walk with one message more
+  walk_with : (message : Message) → walk_of config (served.messages ++ message ∷ []) ≡ walk_on (walk_of config served.messages) (handle config state message)
+  walk_with message = walk_more config served.messages message state served.stands
+
+  -- the requests with one more
+  abbrev requests_with : List ServedStatement → Message → List Request
+  requests_with statements message = served.requests ++ record { handling = handle config state message; statements = statements } ∷ []
+
+  are_with : (message : Message) (statements : List ServedStatement) → HasResponse (handle config state message) → AreStatements (handle config state message) statements
+      → AreRequests (walk_of config (served.messages ++ message ∷ [])).handled (requests_with statements message)
+  are_with message statements has are =
+      subst (λ (l : List Handling). AreRequests l (requests_with statements message))
+      (sym (ap (λ (w : Walk). w.handled) (walk_with message) ∙ handled_more (walk_of config served.messages).handled (handle config state message) has))
+      (requests_more (walk_of config served.messages).handled served.requests (handle config state message) statements served.are are)
+
+  -- what was asked for a message that has a response
+  talk_with : {after : PortPast} (message : Message) {more : SessionProgress} {response : Response} → (answers : Answers mid after (handle config state message) progress response more)
+      → Did before after (talk_of (requests_with answers.statements message)) first_progress (Ok (served.responses ++ response ∷ [])) more
+  talk_with message answers =
+      rw (talk_with_request served.requests (record { handling = handle config state message; statements = answers.statements })) (does_more served.does answers.does)
+
   -- one message more, behind which the connection goes on
-  pub served_more : {next : S} {after : PortPast} {new : Option (List ℕ)} {more : Progress} {total : ℕ} {to : ServerState} → Turned config spid count state (Takes left given now next) mid after sink new progress more total to → Served config left given first next before after old new spid total to more
+  pub served_more : {next : S} {after : PortPast} {new : Option (List ℕ)} {more : SessionProgress} {total : ℕ} {to : ServerState} → Turned config spid count state (Takes left given now next) mid after sink new progress more total to → Served config left given first next before after old new spid total to more
   served_more {new = new} turned =
-      let walk = walk_more config served.messages turned.message state served.stands ∙ ap (walk_on (walk_of config served.messages)) turned.handled in
       record {
         bytes = served.bytes ++ turned.bytes;
         messages = served.messages ++ turned.message ∷ [];
+        requests = requests_with turned.answers.statements turned.message;
         responses = served.responses ++ turned.response ∷ [];
         took = all_taken turned.bytes turned.taken;
         joined = joined_more turned.bytes turned.message turned.is;
-        does = rw walk (does_more served.does turned.does);
+        are = are_with turned.message turned.answers.statements turned.answers.has turned.answers.are;
+        does = talk_with turned.message turned.answers;
         written = subst (Appends old new) (sym (bytes_more spid served.responses turned.response)) (Appends-trans old sink new (Bytes spid served.responses) (response_bytes spid turned.response) served.written turned.written);
-        stands = ap (λ w. w.stands) walk;
+        stands = ap (λ w. w.stands) (walk_with turned.message) ∙ turned.goes_on;
         counted = omega (arith, turned.counted, served.counted, length-append served.bytes turned.bytes);
       }
 
@@ -108,27 +136,21 @@ module _ {S : Type 0} {config : Config} {left given : S → Option (List ℕ)} {
   }
 
   -- a message more ends the connection
-  ends_at : (message : Message) (end : End) → (walk_on (walk_of config served.messages) (handle config state message)).stands ≡ Err end → EndsAtLast config (served.messages ++ message ∷ []) end
+  ends_at : (message : Message) (end : End) → next_of (handle config state message) ≡ Err end → EndsAtLast config (served.messages ++ message ∷ []) end
   ends_at message end ended = record {
     front = served.messages;
     last = message;
     whole = refl;
     unended = unended;
-    ended = ap (λ w. w.stands) (walk_more config served.messages message state served.stands) ∙ ended;
+    ended = ap (λ w. w.stands) (walk_with message) ∙ ended;
   }
 
   -- a message that has a response
   answered : (message : Message) (handling : Handling) → handle config state message ≡ handling → HasResponse handling → IsAnswered config (served.messages ++ message ∷ [])
-  answered message (responds tree to) is has = inl (ap (λ w. is_ok w.stands) (walk_more config served.messages message state served.stands ∙ ap (walk_on (walk_of config served.messages)) is))
-  answered message (refuses response number) is has = inr (number, ends_at message (LoginRefused number) (ap (λ h. (walk_on (walk_of config served.messages) h).stands) is))
+  answered message (responds response to) is has = inl (ap (λ w. is_ok w.stands) (walk_with message) ∙ ap (λ h. is_ok (next_of h)) is)
+  answered message (runs size text) is has = inl (ap (λ w. is_ok w.stands) (walk_with message) ∙ ap (λ h. is_ok (next_of h)) is)
+  answered message (refuses response number) is has = inr (number, ends_at message (LoginRefused number) (ap next_of is))
   answered message (ends end) is has = absurd has
-
-  -- what was asked for a message that has a response
-  talk_with : {after : PortPast} (message : Message) (handling : Handling) → handle config state message ≡ handling → HasResponse handling → {more : Progress} {response : Response} → Does mid after (response_to handling) progress (Ok response) more
-      → Does before after (walk_of config (served.messages ++ message ∷ [])).talk first_progress (Ok (served.responses ++ response ∷ [])) more
-  talk_with message (responds tree to) is has does = rw (walk_more config served.messages message state served.stands ∙ ap (walk_on (walk_of config served.messages)) is) (does_more served.does does)
-  talk_with message (refuses response number) is has does = rw (walk_more config served.messages message state served.stands ∙ ap (walk_on (walk_of config served.messages)) is) (does_more served.does does)
-  talk_with message (ends end) is has does = absurd has
 
   written_more : (new : Option (List ℕ)) (response : Response) → Appends sink new (response_bytes spid response) → Appends old new (Bytes spid (served.responses ++ response ∷ []))
   written_more new response written = subst (Appends old new) (sym (bytes_more spid served.responses response)) (Appends-trans old sink new (Bytes spid served.responses) (response_bytes spid response) served.written written)
@@ -137,47 +159,47 @@ module _ {S : Type 0} {config : Config} {left given : S → Option (List ℕ)} {
   written_still new written = subst (Appends old new) (append-nil (Bytes spid served.responses)) (Appends-trans old sink new (Bytes spid served.responses) [] served.written written)
 
   -- by a message that ends the connection
-  ended_by : {next : S} {after : PortPast} (new : Option (List ℕ)) {more : Progress} (bytes : List ℕ) → Takes left given now next bytes → (message : Message) → IsMessage count bytes message → (handling : Handling) → handle config state message ≡ handling → (made end : End) → EndsBy spid mid after sink new progress more handling made → end ≡ made → Emptied (left next) (by_message made)
+  ended_by : {next : S} {after : PortPast} (new : Option (List ℕ)) {more : SessionProgress} (bytes : List ℕ) → Takes left given now next bytes → (message : Message) → IsMessage count bytes message → (made end : End) → EndsBy spid mid after sink new progress more (handle config state message) made → end ≡ made → Emptied (left next) (by_message made)
       → Spoke config spid (Takes left given first next) (left next) before after old new more end
-  ended_by new bytes took message is (refuses response number) handled made end how same emptied =
-      let was : EndsAtLast config (served.messages ++ message ∷ []) (LoginRefused number) = ends_at message (LoginRefused number) (ap (λ h. (walk_on (walk_of config served.messages) h).stands) handled) in
-      record {
-        heard = record {
-          taken = served.bytes ++ bytes;
-          messages = served.messages ++ message ∷ [];
-          rest = [];
-          responses = served.responses ++ response ∷ [];
-          cause = by_message made;
-          from_source = all_taken bytes took;
-          split = split_whole bytes message is;
-          written = written_more new response how.3;
-          caused = (subst (EndsAtLast config (served.messages ++ message ∷ [])) (sym how.0) was, refl);
-          end_is = same;
-          emptied = emptied;
-        };
-        asked = talk_with message (refuses response number) handled tt (does_still (does_over refl) how.1 how.2);
-      }
-  ended_by new bytes took message is (ends told) handled made end how same emptied =
-      let walk = walk_more config served.messages message state served.stands ∙ ap (walk_on (walk_of config served.messages)) handled in
-      record {
-        heard = record {
-          taken = served.bytes ++ bytes;
-          messages = served.messages ++ message ∷ [];
-          rest = [];
-          responses = served.responses;
-          cause = by_message made;
-          from_source = all_taken bytes took;
-          split = split_whole bytes message is;
-          written = written_still new how.3;
-          caused = (ends_at message made (ap (λ h. (walk_on (walk_of config served.messages) h).stands) handled ∙ ap Err (sym how.0)), refl);
-          end_is = same;
-          emptied = emptied;
-        };
-        asked = rw walk (does_still served.does how.1 how.2);
-      }
-  ended_by new bytes took message is (responds tree to) handled made end how same emptied = absurd how
+  ended_by new bytes took message is made end (inl how) same emptied = record {
+    heard = record {
+      taken = served.bytes ++ bytes;
+      messages = served.messages ++ message ∷ [];
+      rest = [];
+      responses = served.responses;
+      cause = by_message made;
+      from_source = all_taken bytes took;
+      split = split_whole bytes message is;
+      written = written_still new how.3;
+      caused = (ends_at message made (ap next_of how.0), refl);
+      end_is = same;
+      emptied = emptied;
+    };
+    requests = served.requests;
+    asked = (
+      subst (λ (l : List Handling). AreRequests l served.requests) (sym (ap (λ (w : Walk). w.handled) (walk_with message) ∙ ap (with_handling (walk_of config served.messages).handled) how.0)) served.are,
+      does_still served.does how.1 how.2,
+    );
+  }
+  ended_by new bytes took message is made end (inr how) same emptied = record {
+    heard = record {
+      taken = served.bytes ++ bytes;
+      messages = served.messages ++ message ∷ [];
+      rest = [];
+      responses = served.responses ++ how.0 ∷ [];
+      cause = by_message made;
+      from_source = all_taken bytes took;
+      split = split_whole bytes message is;
+      written = written_more new how.0 how.3;
+      caused = (ends_at message made how.2, refl);
+      end_is = same;
+      emptied = emptied;
+    };
+    requests = requests_with how.1.statements message;
+    asked = (are_with message how.1.statements how.1.has how.1.are, talk_with message how.1);
+  }
 
-  spoke_by : {next : S} {after : PortPast} (new : Option (List ℕ)) {more : Progress} (bytes : List ℕ) → Takes left given now next bytes → (cause : Cause) (end : End) → EndsTurn config spid count state mid after sink new progress more bytes cause → end ≡ end_of cause → Emptied (left next) cause
+  spoke_by : {next : S} {after : PortPast} (new : Option (List ℕ)) {more : SessionProgress} (bytes : List ℕ) → Takes left given now next bytes → (cause : Cause) (end : End) → EndsTurn config spid count state mid after sink new progress more bytes cause → end ≡ end_of cause → Emptied (left next) cause
       → Spoke config spid (Takes left given first next) (left next) before after old new more end
   spoke_by new bytes took (no_message fault) end how same emptied = record {
     heard = record {
@@ -193,24 +215,26 @@ module _ {S : Type 0} {config : Config} {left given : S → Option (List ℕ)} {
       end_is = same;
       emptied = emptied;
     };
-    asked = does_still served.does how.1 how.2;
+    requests = served.requests;
+    asked = (served.are, does_still served.does how.1 how.2);
   }
-  spoke_by new bytes took (by_message made) end how same emptied = ended_by new bytes took how.0 how.1 (handle config state how.0) refl made end how.2 same emptied
+  spoke_by new bytes took (by_message made) end how same emptied = ended_by new bytes took how.0 how.1 made end how.2 same emptied
   spoke_by new bytes took (unsent fault) end how same emptied = record {
     heard = record {
       taken = served.bytes ++ bytes;
       messages = served.messages ++ how.0 ∷ [];
       rest = [];
-      responses = served.responses ++ how.3 ∷ [];
+      responses = served.responses ++ how.2 ∷ [];
       cause = unsent fault;
       from_source = all_taken bytes took;
       split = split_whole bytes how.0 how.1;
-      written = record { front = served.responses; last = how.3; mid = sink; whole = refl; written = served.written; part = how.5 };
-      caused = (answered how.0 (handle config state how.0) refl how.2, refl);
+      written = record { front = served.responses; last = how.2; mid = sink; whole = refl; written = served.written; part = how.4 };
+      caused = (answered how.0 (handle config state how.0) refl how.3.has, refl);
       end_is = same;
       emptied = emptied;
     };
-    asked = talk_with how.0 (handle config state how.0) refl how.2 how.4;
+    requests = requests_with how.3.statements how.0;
+    asked = (are_with how.0 how.3.statements how.3.has how.3.are, talk_with how.0 how.3);
   }
   spoke_by {after = after} new bytes took unmade end how same emptied = record {
     heard = record {
@@ -221,26 +245,28 @@ module _ {S : Type 0} {config : Config} {left given : S → Option (List ℕ)} {
       cause = unmade;
       from_source = all_taken bytes took;
       split = split_whole bytes how.0 how.1;
-      written = written_still new how.5;
+      written = written_still new how.4;
       caused = (answered how.0 (handle config state how.0) refl how.2, refl);
       end_is = same;
       emptied = emptied;
     };
+    requests = served.requests;
     asked = record {
       front = served.messages;
       last = how.0;
       state = state;
       whole = refl;
       stands = served.stands;
+      are = served.are;
       first = served.does.exchanges;
-      second = how.4.exchanges;
+      second = how.3.exchanges;
       talked = progress;
-      past = goes_further before mid after served.does.exchanges how.4.exchanges served.does.past how.4.past;
+      past = goes_further before mid after served.does.exchanges how.3.exchanges served.does.past how.3.past;
       talk = served.does.came;
-      left = how.4.came;
+      left = how.3.left;
     };
   }
 
   -- the connection's end
-  pub spoke : {next : S} {after : PortPast} {new : Option (List ℕ)} {more : Progress} {end : End} → Ended config spid count state (Takes left given now next) (left next) mid after sink new progress more end → Spoke config spid (Takes left given first next) (left next) before after old new more end
+  pub spoke : {next : S} {after : PortPast} {new : Option (List ℕ)} {more : SessionProgress} {end : End} → Ended config spid count state (Takes left given now next) (left next) mid after sink new progress more end → Spoke config spid (Takes left given first next) (left next) before after old new more end
   spoke {new = new} {end = end} ended = spoke_by new ended.bytes ended.taken ended.cause end ended.how ended.end_is ended.emptied

@@ -1,17 +1,21 @@
 -- The messages in order, and one message more.
 use Rattle.std.proofs.Common.{◌≡◌, ℕ, true, List, [], ◌∷◌, ◌++◌, fold, Result, Ok, Err, is_ok, refl, sym, ap, ◌∙◌, append-nil, append_assoc}
+use Rattle.std.proofs.lemmas.List.{map-append}
+use Rattle.std.proofs.lemmas.List.Elements.{All-append, All-cons, All-nil}
 use Rattle.std.proofs.lemmas.List.Sums.{fold-append}
 use Rattle.tds_login.specs.declared.config.Config.{Config}
 use Rattle.tds_packets.specs.declared.message.Message.{Message}
 use Rattle.step_model.specs.Port.{PortPast}
 use Rattle.session_server.specs.declared.end.End.{End}
 use Rattle.session_server.specs.declared.message.ServerState.{ServerState}
-use Rattle.session_server.specs.Progress.{Progress}
-use Rattle.session_server.specs.Doing.{Doing, Does}
+use Rattle.batch_meaning.specs.Progress.{SessionProgress}
+use Rattle.batch_meaning.specs.declared.form.Served.{Served}
+use Rattle.batch_meaning.specs.Doing.{Doing, over, Did}
 use Rattle.session_server.specs.Response.{Response}
-use Rattle.session_server.specs.Talk.{handle, Walk, talk_more, walk_on, walk_by, with_message, first_walk, walk_of, response_bytes, Bytes}
+use Rattle.session_server.specs.Talk.{Handling, responds, runs, refuses, ends, handle, Walk, with_handling, walk_on, walk_by, with_message, first_walk, walk_of, Request, AreStatements, IsRequest, handling_in, AreRequests, talk_more, with_request, talk_of, response_bytes, Bytes}
 use Rattle.session_server.specs.Conversation.{IsUnended}
-use Rattle.session_server.proofs.Composed.{does_over, does_then}
+use Rattle.session_server.specs.Parts.{HasResponse}
+use Rattle.batch_meaning.proofs.Composed.{does_over, does_then}
 
 module _ (config : Config) where
   -- where the connection goes on, one message more is handled
@@ -39,9 +43,30 @@ module _ (config : Config) where
           let whole = fold-append (with_message config) (first_walk config) messages later ∙ stopped (fold (with_message config) (first_walk config) messages) end later is in
           sym (ap (λ (w : Walk). is_ok w.stands) whole) ∙ unended
 
+-- ---- requests
+
+-- one request more
+pub requests_more : (handled : List Handling) (requests : List Request) (handling : Handling) (statements : List Served) → AreRequests handled requests → AreStatements handling statements
+    → AreRequests (handled ++ handling ∷ []) (requests ++ record { handling = handling; statements = statements } ∷ [])
+requests_more handled requests handling statements were are = record {
+  handlings = map-append handling_in requests (record { handling = handling; statements = statements } ∷ []) ∙ ap (λ (l : List Handling). l ++ handling ∷ []) were.handlings;
+  are = All-append IsRequest requests (record { handling = handling; statements = statements } ∷ []) were.are (All-cons IsRequest (record { handling = handling; statements = statements }) [] are (All-nil IsRequest));
+}
+
+pub talk_with_request : (requests : List Request) (request : Request) → talk_of (requests ++ request ∷ []) ≡ with_request (talk_of requests) request
+unfolding talk_of
+talk_with_request requests request = fold-append with_request (over []) requests (request ∷ [])
+
+-- a message that has a response
+pub handled_more : (handled : List Handling) (handling : Handling) → HasResponse handling → with_handling handled handling ≡ handled ++ handling ∷ []
+handled_more handled (responds response next) has = refl
+handled_more handled (runs size text) has = refl
+handled_more handled (refuses response number) has = refl
+handled_more handled (ends end) has = absurd has
+
 -- the talk with one response more
-pub does_more : {before mid after : PortPast} {talk : Doing (List Response)} {tree : Doing Response} {p q new : Progress} {responses : List Response} {response : Response}
-    → Does before mid talk p (Ok responses) q → Does mid after tree q (Ok response) new → Does before after (talk_more talk tree) p (Ok (responses ++ response ∷ [])) new
+pub does_more : {before mid after : PortPast} {talk : Doing (List Response)} {tree : Doing Response} {p q new : SessionProgress} {responses : List Response} {response : Response}
+    → Did before mid talk p (Ok responses) q → Did mid after tree q (Ok response) new → Did before after (talk_more talk tree) p (Ok (responses ++ response ∷ [])) new
 does_more first second = does_then _ _ first (does_then _ _ second (does_over refl))
 
 pub bytes_more : (spid : ℕ) (responses : List Response) (response : Response) → Bytes spid (responses ++ response ∷ []) ≡ Bytes spid responses ++ response_bytes spid response

@@ -18,12 +18,14 @@ use Rattle.step_model.specs.Port.{PortPast, GoesOn}
 use Rattle.session_server.specs.declared.end.End.{End}
 use Rattle.session_server.specs.declared.end.End.TheVariants.{Closed, LoginRefused, Memory}
 use Rattle.session_server.specs.declared.message.ServerState.{ServerState}
-use Rattle.session_server.specs.Progress.{Progress, first_progress}
-use Rattle.session_server.specs.Doing.{Doing, over, never, ◌then◌, Held, Left}
-use Rattle.session_server.specs.Meaning.{rolls_back_open}
+use Rattle.batch_meaning.specs.Progress.{SessionProgress, first_progress}
+use Rattle.batch_meaning.specs.declared.form.Served.{Served}
+use Rattle.batch_meaning.specs.Doing.{Doing, over, ◌then◌, Held, Left}
+use Rattle.batch_meaning.specs.Meaning.{rolls_back_open}
 use Rattle.session_server.specs.Response.{Response}
-use Rattle.session_server.specs.Talk.{Handling, responds, refuses, ends, handle, walk_of, response_bytes, Bytes}
-use Rattle.session_server.specs.Told.{commits_by, statement_in, commits_told}
+use Rattle.session_server.specs.Talk.{Handling, handle, walk_of, Request, AreStatements, AreRequests, response_to, talk_of, response_bytes, Bytes}
+use Rattle.batch_meaning.specs.Told.{commits_by_all}
+use Rattle.session_server.specs.Told.{commits_told}
 use Rattle.session_server.specs.Ends.{Cause, no_message, by_message, unsent, unmade, end_of}
 
 -- the SPID of a session
@@ -84,53 +86,58 @@ Wrote spid old new responses cause = Appends old new (Bytes spid responses)
 abbrev pub closed : Doing (List Response) → Doing (List Response)
 closed talk = talk then λ responses. rolls_back_open then λ _. over responses
 
--- the response to a message that is handled so
-abbrev pub response_to : Handling → Doing Response
-response_to (responds tree next) = tree
-response_to (refuses response number) = over response
-response_to (ends end) = never
+-- What was done for the last message where memory was wanting for its response: nothing yet, or a front of what
+-- is done for it.
+abbrev pub IsAbandoned : Handling → SessionProgress → List Exchange → SessionProgress → Type 0
+IsAbandoned handling old exchanges new = ((exchanges ≡ []) × (new ≡ old))
+    ⊎ ((statements : List Served) × AreStatements handling statements × Left (response_to handling statements) old exchanges new)
 
--- The responses to all messages but the last were made, and what is done for the last was left; then a
--- transaction that was open was rolled back.
-pub record Abandons (config : Config) (messages : List Message) (exchanges : List Exchange) (responses : List Response) : Type 0 where
+-- The responses to all messages but the last were made, which are these requests, and what is done for the last
+-- was left; then a transaction that was open was rolled back.
+pub record Abandons (config : Config) (messages : List Message) (requests : List Request) (exchanges : List Exchange) (responses : List Response) : Type 0 where
   pub front : List Message
   pub last : Message
   pub state : ServerState
   pub whole : messages ≡ front ++ last ∷ []
   pub stands : (walk_of config front).stands ≡ Ok state
+  pub are : AreRequests (walk_of config front).handled requests
   -- what was asked for those, for the last, and behind it
   pub first : List Exchange
   pub second : List Exchange
   pub third : List Exchange
   pub parts : exchanges ≡ (first ++ second) ++ third
-  pub talked : Progress
-  pub abandoned : Progress
-  pub new : Progress
-  pub talk : Held (walk_of config front).talk first_progress first responses talked
-  pub left : Left (response_to (handle config state last)) talked second abandoned
+  pub talked : SessionProgress
+  pub abandoned : SessionProgress
+  pub new : SessionProgress
+  pub talk : Held (talk_of requests) first_progress first responses talked
+  pub left : IsAbandoned (handle config state last) talked second abandoned
   pub end : Held rolls_back_open abandoned third tt new
 
--- what was asked for these messages, and the responses that came of it
-abbrev pub IsAsked : Config → List Message → List Exchange → List Response → Cause → Type 0
-IsAsked config messages exchanges responses unmade = Abandons config messages exchanges responses
-IsAsked config messages exchanges responses cause = (new : Progress) × Held (closed (walk_of config messages).talk) first_progress exchanges responses new
+-- what was asked for these messages, as requests, and the responses that came of it
+abbrev pub IsAsked : Config → List Message → List Request → List Exchange → List Response → Cause → Type 0
+IsAsked config messages requests exchanges responses unmade = Abandons config messages requests exchanges responses
+IsAsked config messages requests exchanges responses cause = AreRequests (walk_of config messages).handled requests
+    × (new : SessionProgress) × Held (closed (talk_of requests)) first_progress exchanges responses new
 
--- for the last message, of which nothing was told, nothing is committed, or what its statement commits
-abbrev pub IsUntold : List Message → List (List Change) → Type 0
-IsUntold messages commits = (front : List Message) × (last : Message) × (messages ≡ front ++ last ∷ []) × ((commits ≡ []) ⊎ (commits ≡ commits_by (statement_in last)))
+-- for the last message, of which nothing was told, nothing is committed, or what its statements commit
+abbrev pub IsUntold : Config → List Message → List (List Change) → Type 0
+IsUntold config messages commits = (front : List Message) × (last : Message) × (state : ServerState) × (messages ≡ front ++ last ∷ []) × ((walk_of config front).stands ≡ Ok state)
+    × ((commits ≡ []) ⊎ ((statements : List Served) × AreStatements (handle config state last) statements × (commits ≡ commits_by_all statements)))
 
 -- What was committed is what the responses tell, in order; behind that what the last message commits, where
 -- memory was wanting for its response.
-abbrev pub AreTold : List Message → List Response → List (List Change) → Cause → Type 0
-AreTold messages responses commits unmade = (more : List (List Change)) × (commits ≡ commits_told messages responses ++ more) × IsUntold messages more
-AreTold messages responses commits cause = commits ≡ commits_told messages responses
+abbrev pub AreTold : Config → List Message → List Request → List Response → List (List Change) → Cause → Type 0
+AreTold config messages requests responses commits unmade = (more : List (List Change)) × (commits ≡ commits_told requests responses ++ more) × IsUntold config messages more
+AreTold config messages requests responses commits cause = commits ≡ commits_told requests responses
 
--- between two moments of the port its exchanges are what was asked for these messages
+-- Between two moments of the port its exchanges are what was asked for these messages, of which the texts
+-- read as the statements of these requests.
 pub record Means (config : Config) (before after : PortPast) (messages : List Message) (responses : List Response) (cause : Cause) : Type 0 where
+  pub requests : List Request
   pub exchanges : List Exchange
   pub past : GoesOn before after exchanges
-  pub asked : IsAsked config messages exchanges responses cause
-  pub told : AreTold messages responses (commits_of exchanges) cause
+  pub asked : IsAsked config messages requests exchanges responses cause
+  pub told : AreTold config messages requests responses (commits_of exchanges) cause
 
 -- ---- the whole
 

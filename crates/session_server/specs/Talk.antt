@@ -1,7 +1,9 @@
 -- [MS-TDS] 2.2.1 and 3.3.5: what is answered to the messages of a client, by where the connection stands: a
--- response, until one ends the connection, and the bytes of these. Responses depend on what the port answers,
--- so the talk is what a session does; the code handles one message after another.
-use Rattle.std.specs.Prelude.{ℕ, ℤ, pos, ◌-◌, ◌%◌, ◌==◌, ◌||◌, nat_lt, if◌then◌else◌, List, [], ◌∷◌, ◌++◌, fold, length, drop, Option, None, Some, Result, Ok, Err}
+-- response, until one ends the connection, and the bytes of these. How a message is handled, and where it
+-- leads, the message says alone; what is done for one that runs a batch is said of the statements that its
+-- text reads as. Responses depend on what the port answers, so the talk is what a session does; the code
+-- handles one message after another.
+use Rattle.std.specs.Prelude.{◌≡◌, ℕ, ℤ, pos, All, map, ◌-◌, ◌%◌, ◌==◌, ◌||◌, nat_lt, if◌then◌else◌, List, [], ◌∷◌, ◌++◌, fold, length, drop, Option, None, Some, Result, Ok, Err}
 use Rattle.std.specs.List.{flat_map}
 use Rattle.byteorder.specs.Endian.{little_number}
 use Rattle.value_types.specs.Units.{units_of}
@@ -25,10 +27,10 @@ use Rattle.session_server.specs.declared.end.End.{End}
 use Rattle.session_server.specs.declared.end.End.TheVariants.{OutOfPlace, BadPrelogin, LoginRefused, BadBatch}
 use Rattle.session_server.specs.declared.message.ServerState.{ServerState}
 use Rattle.session_server.specs.declared.message.ServerState.TheVariants.{Initial, LoginReady, LoggedIn}
-use Rattle.session_server.specs.declared.text.Form.{Form}
-use Rattle.session_server.specs.Text.{statement_of}
-use Rattle.session_server.specs.Doing.{Doing, over, reads, ◌then◌}
-use Rattle.session_server.specs.Meaning.{batch}
+use Rattle.batch_meaning.specs.declared.form.Served.{Served}
+use Rattle.batch_meaning.specs.Statements.{ReadsAs}
+use Rattle.batch_meaning.specs.Doing.{Doing, over, reads, never, ◌then◌}
+use Rattle.batch_meaning.specs.Meaning.{batch}
 use Rattle.session_server.specs.Response.{Response, options, tabular, attention_tokens, refusal_tokens}
 
 -- ---- one message
@@ -38,18 +40,27 @@ abbrev pub first_state : Entry → ServerState
 first_state Login = Initial
 first_state Bare = LoggedIn default_size
 
--- How a message is handled: by a response, behind which the connection goes on in a state; by a response
--- that refuses the login with an error's number, and ends the connection; or by its end alone.
+-- How a message is handled: by a response, behind which the connection goes on in a state; by running the
+-- batch of a text, with tokens in packets of a size; by a response that refuses the login with an error's
+-- number, and ends the connection; or by its end alone.
 pub data Handling : Type 0 where
-  responds : Doing Response → ServerState → Handling
+  responds : Response → ServerState → Handling
+  runs : ℕ → List ℕ → Handling
   refuses : Response → ℤ → Handling
   ends : End → Handling
+
+-- where the connection stands behind a message that is handled so, or its end
+abbrev pub next_of : Handling → Result ServerState End
+next_of (responds response next) = Ok next
+next_of (runs size text) = Ok (LoggedIn size)
+next_of (refuses response number) = Err (LoginRefused number)
+next_of (ends end) = Err end
 
 -- ---- PRELOGIN and LOGIN7
 
 -- every PRELOGIN that can be read is answered alike
 abbrev pub handle_prelogin : Result Prelogin PreloginFault → Handling
-handle_prelogin (Ok read) = responds (over options) LoginReady
+handle_prelogin (Ok read) = responds options LoginReady
 handle_prelogin (Err fault) = ends (BadPrelogin fault)
 
 -- a login is refused by the error of this number
@@ -58,7 +69,7 @@ refuse number = refuses (tabular default_size (refusal_tokens number)) number
 
 -- a login is granted with a packet size, which counts from the next message on
 abbrev pub handle_verdict : Result ℕ ℤ → Handling
-handle_verdict (Ok size) = responds (over (tabular default_size (login_reply size))) (LoggedIn size)
+handle_verdict (Ok size) = responds (tabular default_size (login_reply size)) (LoggedIn size)
 handle_verdict (Err number) = refuse number
 
 -- the number of the error where a LOGIN7 can't be read (own)
@@ -87,17 +98,13 @@ batch_fault payload =
 abbrev pub text_of : List ℕ → List ℕ
 text_of payload = units_of (drop (headers_length payload) payload)
 
--- a batch of these statements, its tokens in packets of this size
-unfoldable pub batch_response : ℕ → List Form → Doing Response
-batch_response size statements = batch statements then λ _. reads λ p. over (tabular size p.tokens)
-
 abbrev pub handle_batch : ℕ → List ℕ → Option BatchFault → Handling
-handle_batch size payload None = responds (batch_response size (statement_of (text_of payload) ∷ [])) (LoggedIn size)
+handle_batch size payload None = runs size (text_of payload)
 handle_batch size payload (Some fault) = ends (BadBatch fault)
 
 -- an attention is acknowledged
 abbrev pub handle_attention : ℕ → Handling
-handle_attention size = responds (over (tabular size attention_tokens)) (LoggedIn size)
+handle_attention size = responds (tabular size attention_tokens) (LoggedIn size)
 
 -- ---- all kinds of messages
 
@@ -118,23 +125,23 @@ handle config (LoggedIn size) message =
 
 -- ---- all messages
 
--- what was answered so far, and where the connection stands behind it, or why it has ended there
+-- how messages were handled so far, those that have a response, and where the connection stands behind them all,
+-- or why it has ended there
 pub record Walk : Type 0 where
-  pub talk : Doing (List Response)
+  pub handled : List Handling
   pub stands : Result ServerState End
 
 abbrev pub first_walk : Config → Walk
-first_walk config = record { talk = over []; stands = Ok (first_state config.entry) }
+first_walk config = record { handled = []; stands = Ok (first_state config.entry) }
 
--- one response more
-abbrev pub talk_more : Doing (List Response) → Doing Response → Doing (List Response)
-talk_more talk tree = talk then λ earlier. tree then λ response. over (earlier ++ response ∷ [])
+-- one that ends the connection by itself has none
+abbrev pub with_handling : List Handling → Handling → List Handling
+with_handling handled (ends end) = handled
+with_handling handled handling = handled ++ handling ∷ []
 
 -- the walk behind a message that is handled so
 abbrev pub walk_on : Walk → Handling → Walk
-walk_on walk (responds tree next) = record { talk = talk_more walk.talk tree; stands = Ok next }
-walk_on walk (refuses response number) = record { talk = talk_more walk.talk (over response); stands = Err (LoginRefused number) }
-walk_on walk (ends end) = record { talk = walk.talk; stands = Err end }
+walk_on walk handling = record { handled = with_handling walk.handled handling; stands = next_of handling }
 
 -- behind its end nothing is handled
 abbrev pub walk_by : Config → Walk → Result ServerState End → Message → Walk
@@ -144,9 +151,54 @@ walk_by config walk (Err end) message = walk
 abbrev pub with_message : Config → Walk → Message → Walk
 with_message config walk message = walk_by config walk walk.stands message
 
--- The messages in order: the talk, and where it leaves the connection.
+-- The messages in order: how each is handled, and where they leave the connection.
 unfoldable pub walk_of : Config → List Message → Walk
 walk_of config messages = fold (with_message config) (first_walk config) messages
+
+-- ---- what is done for them
+
+-- how a message is handled, with the statements of the batch that it runs
+pub record Request : Type 0 where
+  pub handling : Handling
+  pub statements : List Served
+
+-- the text of a batch reads as the statements; where none is run there are none
+abbrev pub AreStatements : Handling → List Served → Type 0
+AreStatements (runs size text) statements = ReadsAs text statements
+AreStatements handling statements = statements ≡ []
+
+abbrev pub IsRequest : Request → Type 0
+IsRequest request = AreStatements request.handling request.statements
+
+abbrev pub handling_in : Request → Handling
+handling_in request = request.handling
+
+-- the requests are those of messages that are handled so
+pub record AreRequests (handled : List Handling) (requests : List Request) : Type 0 where
+  pub handlings : map handling_in requests ≡ handled
+  pub are : All IsRequest requests
+
+-- a batch of these statements, its tokens in packets of this size
+unfoldable pub batch_response : ℕ → List Served → Doing Response
+batch_response size statements = batch statements then λ _. reads λ p. over (tabular size p.tokens)
+
+-- the response to a message that is handled so, and whose batch has these statements
+abbrev pub response_to : Handling → List Served → Doing Response
+response_to (responds response next) statements = over response
+response_to (runs size text) statements = batch_response size statements
+response_to (refuses response number) statements = over response
+response_to (ends end) statements = never
+
+-- one response more
+abbrev pub talk_more : Doing (List Response) → Doing Response → Doing (List Response)
+talk_more talk tree = talk then λ earlier. tree then λ response. over (earlier ++ response ∷ [])
+
+abbrev pub with_request : Doing (List Response) → Request → Doing (List Response)
+with_request talk request = talk_more talk (response_to request.handling request.statements)
+
+-- The responses to requests, in order.
+unfoldable pub talk_of : List Request → Doing (List Response)
+talk_of requests = fold with_request (over []) requests
 
 -- ---- bytes
 

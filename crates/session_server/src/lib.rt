@@ -7,19 +7,11 @@
 //! is not said to be wanting where there is enough.
 #![tactic(auto)]
 
-mod effect;
 mod end;
 mod message;
 mod prepared;
-mod ranges;
 mod response;
 mod serving;
-mod session;
-mod statement;
-mod tables;
-mod text;
 
 pub use end::{BatchFault, End};
 pub use serving::serve_on_port;
-pub use statement::law_commits;
-pub use text::{Form, law_texts};

@@ -1,11 +1,10 @@
 //! Where a connection stands, and how a message is handled there.
 
-ghost use Rattle.std.specs.Prelude.{◌≡◌, ◌%◌, ◌∷◌, [], ℕ, length, drop, None, Some, Ok, IfOk, IfErr};
-ghost use Rattle.session_server.specs.Parts.{IsHandled, IsAnswered, IsSized, IsSmallForm};
-ghost use Rattle.session_server.specs.Progress.{Ready};
-ghost use Rattle.session_server.specs.Talk.{first_state, responds, handle, handle_prelogin, handle_login, handle_verdict, batch_response, handle_batch, handle_attention, refuse, batch_fault, headers_length};
-ghost use Rattle.session_server.specs.declared.message.ServerState.TheVariants.{LoggedIn};
-ghost use Rattle.session_server.specs.Text.{statement_of};
+ghost use Rattle.std.specs.Prelude.{◌≡◌, ◌%◌, ℕ, length, drop, None, Some, Ok, IfOk, IfErr};
+ghost use Rattle.session_server.specs.Parts.{IsHandled, IsUnasked, IsSized};
+ghost use Rattle.batch_meaning.specs.Progress.{Ready};
+ghost use Rattle.session_server.specs.Talk.{first_state, runs, handle, handle_prelogin, handle_login, handle_verdict, handle_batch, handle_attention, refuse, batch_fault, headers_length};
+ghost use Rattle.batch_meaning.specs.Statements.{ReadsAs};
 ghost use Rattle.tds_login.specs.Login.{login_of};
 ghost use Rattle.tds_login.specs.Prelogin.{prelogin_of};
 ghost use Rattle.tds_packets.specs.Packets.{IsPacketSize, default_size};
@@ -14,9 +13,8 @@ ghost use Rattle.value_types.specs.Units.{units_of};
 use crate::end::{BatchFault, End};
 use crate::prepared::{Channel, PreparedResponse};
 use crate::response::{attention_done, refusal_tokens};
-use crate::session::Session;
-use crate::statement::run_batch;
-use crate::text::{Form, read_statement};
+use batch_exec::{SessionState, read_statements, run_batch};
+use batch_meaning::Served;
 use byteorder::{ByteOrder, LittleEndian};
 use std::alloc::Global;
 use step_model::Port;
@@ -66,19 +64,12 @@ impl ServerState {
 /// How a message was handled.
 #[derive(Drop)]
 pub(crate) enum Handling {
-    /// By a response, behind which the connection goes on.
+    /// By a response.
     Responds {
         /// The response.
         response: PreparedResponse,
-        /// Where the connection stands behind it.
-        next: ServerState,
-    },
-    /// By a response that refuses the login, and ends the connection.
-    Refuses {
-        /// The response.
-        response: PreparedResponse,
-        /// That end.
-        end: End,
+        /// Where the connection stands behind it, or its end, where it refuses the login.
+        next: Result<ServerState, End>,
     },
     /// By the connection's end alone.
     Ends {
@@ -92,7 +83,7 @@ pub(crate) fn handle<P: Port>(
     alloc: Global,
     config: &Config,
     spid: u16,
-    session: &mut Session,
+    session: &mut SessionState,
     port: &mut P,
     state: ServerState,
     message: &Message,
@@ -126,7 +117,7 @@ pub(crate) fn handle<P: Port>(
 
 /// Handles a PRELOGIN with this payload.
 fn handle_prelogin(alloc: Global, payload: &[u8]) -> Result<Handling, Memory>
-    ensures answered { (spid : ℕ) → IsAnswered spid (handle_prelogin (prelogin_of payload.now)) result }
+    ensures answered { (spid : ℕ) → IsUnasked spid (handle_prelogin (prelogin_of payload.now)) result }
 {
     match read_prelogin(payload) {
         Ok(_) => {
@@ -139,7 +130,7 @@ fn handle_prelogin(alloc: Global, payload: &[u8]) -> Result<Handling, Memory>
                     channel,
                     payload: prelogin_reply(alloc)?,
                 },
-                next: ServerState::LoginReady,
+                next: Ok(ServerState::LoginReady),
             })
         }
         Err(fault) => Ok(Handling::Ends {
@@ -155,7 +146,7 @@ fn handle_login(
     spid: u16,
     payload: &[u8],
 ) -> Result<Handling, Memory>
-    ensures answered { IsAnswered spid (handle_login config.now (login_of payload.now)) result }
+    ensures answered { IsUnasked spid (handle_login config.now (login_of payload.now)) result }
 {
     match read_login(alloc, payload) {
         Ok(login) => match judge_login(&login, config) {
@@ -170,25 +161,25 @@ fn handle_login(
 /// Grants a login, with packets of this many bytes from the next message on.
 fn grant(alloc: Global, spid: u16, size: u16) -> Result<Handling, Memory>
     requires { IsPacketSize size }
-    ensures answered { IsAnswered spid (handle_verdict (Ok size)) result }
+    ensures answered { IsUnasked spid (handle_verdict (Ok size)) result }
 {
     let tokens = login_reply(alloc, size)?;
     let response = PreparedResponse::of_tokens(alloc, first_channel(spid), &tokens)?;
     Ok(Handling::Responds {
         response,
-        next: ServerState::LoggedIn { packet_size: size },
+        next: Ok(ServerState::LoggedIn { packet_size: size }),
     })
 }
 
 /// Refuses a login by the error of this number.
 fn refuse(alloc: Global, spid: u16, number: i32) -> Result<Handling, Memory>
-    ensures answered { IsAnswered spid (refuse number) result }
+    ensures answered { IsUnasked spid (refuse number) result }
 {
     let tokens = refusal_tokens(alloc, number)?;
     let response = PreparedResponse::of_tokens(alloc, first_channel(spid), &tokens)?;
-    Ok(Handling::Refuses {
+    Ok(Handling::Responds {
         response,
-        end: End::LoginRefused { number },
+        next: Err(End::LoginRefused { number }),
     })
 }
 
@@ -208,7 +199,7 @@ fn first_channel(spid: u16) -> Channel
 fn handle_batch<P: Port>(
     alloc: Global,
     channel: Channel,
-    session: &mut Session,
+    session: &mut SessionState,
     port: &mut P,
     payload: &[u8],
 ) -> Result<Handling, Memory>
@@ -225,39 +216,38 @@ fn handle_batch<P: Port>(
     }
 }
 
-/// Runs the batch that this text is, and responds by what it sends.
+/// Runs the batch of this text, and responds by what it sends.
 fn respond_to_batch<P: Port>(
     alloc: Global,
     channel: Channel,
-    session: &mut Session,
+    session: &mut SessionState,
     port: &mut P,
     text: &[u8],
 ) -> Result<Handling, Memory>
     requires ready { Ready session.old (P.past port.old) }
     requires sized { IsPacketSize channel.packet_size }
     requires whole { length text.now % 2 ≡ 0 }
-    ensures handled { IsHandled channel.spid (P.past port.old) (P.past port.new) (responds (batch_response channel.packet_size (statement_of (units_of text.now) ∷ [])) (LoggedIn channel.packet_size)) session.old result session.new }
+    ensures handled { IsHandled channel.spid (P.past port.old) (P.past port.new) (runs channel.packet_size (units_of text.now)) session.old result session.new }
     ensures ready { Ready session.new (P.past port.new) }
 {
-    let statements = [statement_in(alloc, text)?];
-    run_batch(alloc, session, port, &statements)?;
+    let statements = statements_in(alloc, text)?;
+    run_batch(alloc, session, port, statements.as_slice())?;
     let response = PreparedResponse::of_tokens(alloc, channel, session.tokens())?;
     Ok(Handling::Responds {
         response,
-        next: ServerState::LoggedIn {
+        next: Ok(ServerState::LoggedIn {
             packet_size: channel.packet_size,
-        },
+        }),
     })
 }
 
-/// The statement that a text of whole units says.
-fn statement_in(alloc: Global, text: &[u8]) -> Result<Form, Memory>
+/// The statements that a text of whole units is read as.
+fn statements_in(alloc: Global, text: &[u8]) -> Result<Vec<Served>, Memory>
     requires { length text.now % 2 ≡ 0 }
-    ensures said { IfOk result (λ statement. statement ≡ statement_of (units_of text.now)) }
-    ensures small { IfOk result IsSmallForm }
+    ensures read { IfOk result (λ statements. ReadsAs (units_of text.now) statements.items) }
 {
     match units_of_le(alloc, text) {
-        Ok(units) => read_statement(alloc, units.as_slice()),
+        Ok(units) => read_statements(alloc, &units),
         Err(UnitsFault::OddLength) => unreachable!(),
         Err(UnitsFault::Memory) => Err(Memory),
     }
@@ -286,13 +276,13 @@ fn batch_text(payload: &[u8]) -> Result<&[u8], BatchFault>
 /// Acknowledges an attention.
 fn handle_attention(alloc: Global, channel: Channel) -> Result<Handling, Memory>
     requires { IsPacketSize channel.packet_size }
-    ensures answered { IsAnswered channel.spid (handle_attention channel.packet_size) result }
+    ensures answered { IsUnasked channel.spid (handle_attention channel.packet_size) result }
 {
     let response = PreparedResponse::of_tokens(alloc, channel, &[attention_done()])?;
     Ok(Handling::Responds {
         response,
-        next: ServerState::LoggedIn {
+        next: Ok(ServerState::LoggedIn {
             packet_size: channel.packet_size,
-        },
+        }),
     })
 }

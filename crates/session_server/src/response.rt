@@ -1,166 +1,21 @@
-//! The tokens that answer a statement.
+//! The tokens of responses to messages that are no batch.
 
-ghost use Rattle.std.specs.Prelude.{◌≡◌, ◌++◌, ◌<◌, pos, [], ◌∷◌, All, take, IfOk};
-ghost use Rattle.error_table.specs.Table.{row_of};
-ghost use Rattle.error_table.specs.Text.{text_with};
-ghost use Rattle.session_server.specs.Parts.{IsFit, IsSendable};
+ghost use Rattle.std.specs.Prelude.{◌≡◌, [], ◌∷◌, IfOk};
 ghost use Rattle.tds_tokens.specs.Fit.{FitTokens};
-ghost use Rattle.session_server.specs.Response.{error_of, name_in, subject_of, command_of, statement_done, statement_failed, batch_done, attention_tokens, refusal_tokens, number_column, table_columns, row_tokens, result_tokens, effect_tokens, failure_token, failure_tokens};
+ghost use Rattle.session_server.specs.Response.{attention_tokens, refusal_tokens};
 
-use crate::effect::{DUPLICATE_KEY, Effect, Exit};
-use crate::tables::around;
-use crate::text::Form;
-use error_table::{Action, parts_of, row_of};
+use batch_exec::error_of;
 use std::alloc::Global;
-use tds_tokens::{
-    COMMAND_INSERT, COMMAND_NONE, COMMAND_SELECT, ColumnInfo, ColumnList, DONE_ATTN, DONE_COUNT,
-    DONE_ERROR, DONE_FINAL, DONE_MORE, DoneKind, Notice, Token,
-};
-use value_types::{Memory, Row, SqlType, Units, Value};
-
-// ---- what a statement sends
-
-/// What a statement sends where it succeeds. The tokens have bytes.
-pub(crate) fn effect_tokens(
-    alloc: Global,
-    statement: &Form,
-    effect: Effect,
-) -> Result<Vec<Token>, Memory>
-    requires sendable { IsSendable effect }
-    ensures tokens { IfOk result (λ tokens. tokens.items ≡ effect_tokens statement.now effect) }
-    ensures fit { IfOk result (λ tokens. IsFit tokens.items) }
-{
-    tokens_of(alloc, statement, effect)
-}
-
-/// What a statement sends that has done this.
-fn tokens_of(alloc: Global, statement: &Form, effect: Effect) -> Result<Vec<Token>, Memory>
-    ensures { IfOk result (λ tokens. tokens.items ≡ effect_tokens statement.now effect) }
-{
-    match effect {
-        Effect::Number(number) => {
-            let rows = vec![in alloc; Row::from(vec![in alloc; Value::Whole(i64::from(number))]?)]?;
-            result_tokens(alloc, statement, number_column(alloc)?, rows)
-        }
-        Effect::Created => Ok(Vec::new(alloc)),
-        Effect::Inserted => Ok(vec![in alloc; statement_done(statement, 1)]?),
-        Effect::Selected(rows) => {
-            result_tokens(alloc, statement, table_columns(alloc)?, rows.into_vec())
-        }
-    }
-}
-
-/// A result: its columns, its rows and their count.
-fn result_tokens(
-    alloc: Global,
-    statement: &Form,
-    columns: ColumnList,
-    rows: Vec<Row>,
-) -> Result<Vec<Token>, Memory>
-    ensures { IfOk result (λ tokens. tokens.items ≡ result_tokens statement.now columns rows.items) }
-{
-    let ended = statement_done(statement, rows.len() as u64);
-    let mut tokens = vec![in alloc; Token::Columns(columns)]?;
-    push_rows(&mut tokens, rows)?;
-    tokens.push(ended)?;
-    Ok(tokens)
-}
-
-/// Adds a token for each row.
-fn push_rows(tokens: &mut Vec<Token>, rows: Vec<Row>) -> Result<(), Memory>
-    ensures { IfOk result (λ _. tokens.new.items ≡ tokens.old.items ++ row_tokens rows.items) }
-{
-    tokens.reserve(rows.len())?;
-    for row in rows {
-        tokens.push(Token::Row(row))?;
-    }
-    Ok(())
-}
-
-/// The column of a selected number, which has no name.
-fn number_column(alloc: Global) -> Result<ColumnList, Memory>
-    ensures { IfOk result (λ columns. columns ≡ number_column) }
-{
-    let column = ColumnInfo {
-        kind: SqlType::Int,
-        name: Units::new(alloc),
-    };
-    Ok(ColumnList::from(vec![in alloc; column]?))
-}
-
-/// The columns of a table.
-fn table_columns(alloc: Global) -> Result<ColumnList, Memory>
-    ensures { IfOk result (λ columns. columns ≡ table_columns) }
-{
-    let key = ColumnInfo {
-        kind: SqlType::Int,
-        name: Units::of_ascii(alloc, b"k")?,
-    };
-    let value = ColumnInfo {
-        kind: SqlType::Int,
-        name: Units::of_ascii(alloc, b"v")?,
-    };
-    Ok(ColumnList::from(vec![in alloc; key, value]?))
-}
-
-// ---- DONE
-
-/// A statement's end with its count, where more follows.
-fn statement_done(statement: &Form, rows: u64) -> Token
-    ensures { result ≡ statement_done statement.now rows }
-{
-    done(DONE_MORE | DONE_COUNT, command_of(statement), rows)
-}
-
-/// A statement's end with an error, where more follows.
-fn statement_failed(statement: &Form) -> Token
-    ensures { result ≡ statement_failed statement.now }
-{
-    done(DONE_MORE | DONE_ERROR, command_of(statement), 0)
-}
-
-/// A batch's end.
-pub(crate) fn batch_done(exit: Exit) -> Token
-    ensures { result ≡ batch_done exit }
-{
-    match exit {
-        Exit::On => done(DONE_FINAL, COMMAND_NONE, 0),
-        Exit::End => done(DONE_ERROR, COMMAND_NONE, 0),
-    }
-}
+use tds_tokens::{COMMAND_NONE, DONE_ATTN, DONE_ERROR, DoneKind, Token};
+use value_types::{Memory, Units};
 
 /// The end of an attention.
 pub(crate) fn attention_done() -> Token
     ensures token { result ∷ [] ≡ attention_tokens }
     ensures fit { FitTokens [] (result ∷ []) }
 {
-    done(DONE_ATTN, COMMAND_NONE, 0)
+    done(DONE_ATTN)
 }
-
-/// A DONE.
-fn done(status: u16, command: u16, rows: u64) -> Token
-    ensures { result ≡ Token.Finished DoneKind.Done status command rows }
-{
-    Token::Finished {
-        kind: DoneKind::Done,
-        status,
-        command,
-        rows,
-    }
-}
-
-/// The command that a DONE names.
-fn command_of(statement: &Form) -> u16
-    ensures { result ≡ command_of statement.now }
-{
-    match statement {
-        Form::SelectNumber { .. } | Form::SelectTable { .. } => COMMAND_SELECT,
-        Form::Insert { .. } => COMMAND_INSERT,
-        Form::CreateTable { .. } | Form::Unread => COMMAND_NONE,
-    }
-}
-
-// ---- errors
 
 /// ERROR, and DONE with DONE_ERROR, by which a login is refused.
 pub(crate) fn refusal_tokens(alloc: Global, number: i32) -> Result<Vec<Token>, Memory>
@@ -174,101 +29,18 @@ pub(crate) fn refusal_tokens(alloc: Global, number: i32) -> Result<Vec<Token>, M
 fn tokens_of_refusal(alloc: Global, number: i32) -> Result<Vec<Token>, Memory>
     ensures { IfOk result (λ tokens. tokens.items ≡ refusal_tokens number) }
 {
-    let error = error_of(alloc, number, Units::new(alloc))?;
-    Ok(vec![in alloc; error, done(DONE_ERROR, COMMAND_NONE, 0)]?)
+    let error = error_of(alloc, number, Units::new(alloc), 1)?;
+    Ok(vec![in alloc; error, done(DONE_ERROR)]?)
 }
 
-/// What a statement sends where it fails, by what its error ends. The tokens have bytes.
-pub(crate) fn failure_tokens(
-    alloc: Global,
-    statement: &Form,
-    number: u16,
-    action: Action,
-) -> Result<Vec<Token>, Memory>
-    ensures tokens { IfOk result (λ tokens. tokens.items ≡ failure_tokens statement.now number action) }
-    ensures fit { IfOk result (λ tokens. IsFit tokens.items) }
+/// A DONE of this status, which names no command and counts no rows.
+fn done(status: u16) -> Token
+    ensures { result ≡ Token.Finished DoneKind.Done status 0 0 }
 {
-    tokens_of_failure(alloc, statement, number, action)
-}
-
-/// An error, and the end of its statement where the batch goes on.
-fn tokens_of_failure(
-    alloc: Global,
-    statement: &Form,
-    number: u16,
-    action: Action,
-) -> Result<Vec<Token>, Memory>
-    ensures { IfOk result (λ tokens. tokens.items ≡ failure_tokens statement.now number action) }
-{
-    let error = failure_token(alloc, statement, number)?;
-    match action {
-        Action::Batch => Ok(vec![in alloc; error]?),
-        Action::BatchAndTransaction => Ok(vec![in alloc; error]?),
-        Action::Statement => Ok(vec![in alloc; error, statement_failed(statement)]?),
-        Action::Doom => Ok(vec![in alloc; error, statement_failed(statement)]?),
-    }
-}
-
-/// The ERROR of a statement.
-fn failure_token(alloc: Global, statement: &Form, number: u16) -> Result<Token, Memory>
-    ensures { IfOk result (λ token. token ≡ failure_token statement.now number) }
-{
-    error_of(
-        alloc,
-        i32::from(number),
-        subject_of(alloc, statement, number)?,
-    )
-}
-
-/// What an error of a statement names: the table, or the constraint of its key.
-fn subject_of(alloc: Global, statement: &Form, number: u16) -> Result<Units, Memory>
-    ensures { IfOk result (λ subject. subject ≡ subject_of statement.now number) }
-{
-    let before = if number == DUPLICATE_KEY { "PK_" } else { "" };
-    around(alloc, before, name_in(statement), "")
-}
-
-/// The table that a statement names, or nothing.
-fn name_in(statement: &Form) -> &[u16]
-    ensures { result.now ≡ name_in statement.now }
-{
-    match statement {
-        Form::CreateTable { name } | Form::Insert { name, .. } | Form::SelectTable { name } =>
-            name.as_slice(),
-        Form::SelectNumber { .. } | Form::Unread => &[],
-    }
-}
-
-/// ERROR of this number with state 1, line 1 and no procedure, for a name.
-fn error_of(alloc: Global, number: i32, name: Units) -> Result<Token, Memory>
-    ensures { IfOk result (λ token. token ≡ error_of number (row_of number) name) }
-{
-    match row_of(number) {
-        Some(row) => {
-            let text = text_with(alloc, row.text, name.as_slice())?;
-            Ok(notice(alloc, number, row.class, text))
-        }
-        None => {
-            let text = Units::of_ascii(alloc, b"Not built.")?;
-            Ok(notice(alloc, number, 16, text))
-        }
-    }
-}
-
-/// ERROR with state 1, line 1 and no procedure.
-fn notice(alloc: Global, number: i32, class: u8, text: Units) -> Token
-    ensures { result ≡ Token.Error (record { number = number; state = 1; class = class; text = take 2000 text; procedure = []; line = pos 1 }) }
-{
-    Token::Error(Notice::new(number, 1, class, text, Units::new(alloc), 1))
-}
-
-/// An error's text with a name in its place.
-fn text_with(alloc: Global, text: &str, name: &[u16]) -> Result<Units, Memory>
-    requires { All (λ byte. byte < 128) text.now }
-    ensures { IfOk result (λ units. units ≡ text_with text.now name.now) }
-{
-    match parts_of(text) {
-        Some((before, behind)) => around(alloc, before, name, behind),
-        None => Units::of_ascii(alloc, text.as_bytes()),
+    Token::Finished {
+        kind: DoneKind::Done,
+        status,
+        command: COMMAND_NONE,
+        rows: 0,
     }
 }

@@ -2,14 +2,14 @@
 
 ghost use Rattle.std.specs.Prelude.{◌≡◌, ◌≢◌, ◌<◌, ◌≤◌, false, Ok, Err, IfOk, IfErr};
 ghost use Rattle.outside_io.specs.Bytes.{Takes, HasRisen};
-ghost use Rattle.session_server.specs.Conversation.{Heard, Conversation, Completes, CountsFault};
+ghost use Rattle.session_server.specs.Conversation.{Conversation, Completes, CountsFault};
 ghost use Rattle.session_server.specs.Parts.{IsSized, Spoke, Turned, Ended};
-ghost use Rattle.session_server.specs.Progress.{Ready, first_progress};
+ghost use Rattle.batch_meaning.specs.Progress.{Ready, first_progress};
 ghost use Rattle.tds_packets.specs.Reading.{byte_limit};
 
 use crate::end::End;
 use crate::message::{Handling, ServerState, handle};
-use crate::session::Session;
+use batch_exec::SessionState;
 use outside_io::{Sink, Source};
 use std::alloc::Global;
 use step_model::Port;
@@ -51,7 +51,7 @@ pub fn serve_on_port<P: Port, S: Source, K: Sink>(
     ensures complete { result ≢ End.ReadFault → result ≢ End.WriteFault → Completes config.now (S.left source.old) result }
 {
     let spid = SPID_BASE + session as u16;
-    let mut progress = Session::new(alloc);
+    let mut progress = SessionState::new(alloc);
     let end = serve_messages(alloc, config, spid, &mut progress, port, source, sink);
     progress.roll_back_open(port);
     end
@@ -62,7 +62,7 @@ fn serve_messages<P: Port, S: Source, K: Sink>(
     alloc: Global,
     config: &Config,
     spid: u16,
-    session: &mut Session,
+    session: &mut SessionState,
     port: &mut P,
     source: &mut S,
     sink: &mut K,
@@ -105,7 +105,7 @@ fn serve_message<P: Port, S: Source, K: Sink>(
     alloc: Global,
     config: &Config,
     spid: u16,
-    session: &mut Session,
+    session: &mut SessionState,
     port: &mut P,
     reader: &mut Reader,
     state: ServerState,
@@ -133,11 +133,7 @@ fn serve_message<P: Port, S: Source, K: Sink>(
     match handle(alloc, config, spid, session, port, state, &message)? {
         Handling::Responds { response, next } => {
             response.send(alloc, sink)?;
-            Ok(next)
-        }
-        Handling::Refuses { response, end } => {
-            response.send(alloc, sink)?;
-            Err(end)
+            next
         }
         Handling::Ends { end } => Err(end),
     }

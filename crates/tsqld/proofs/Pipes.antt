@@ -21,12 +21,12 @@ use Rattle.engine_core.proofs.Fitting.{run_fits, run_own}
 use Rattle.session_server.specs.declared.end.End.{End}
 use Rattle.session_server.specs.declared.end.End.TheVariants as ends
 use Rattle.session_server.specs.Conversation.{Conversation, Caused, Wrote, IsAsked, closed, CountsFault, Completes}
-use Rattle.session_server.specs.Doing.{Held, ◌then◌}
+use Rattle.batch_meaning.specs.Doing.{Held, ◌then◌}
 use Rattle.session_server.specs.Ends.{Cause, no_message, by_message, unsent, unmade, end_of, end_of_message}
-use Rattle.session_server.specs.Meaning.{rolls_back_open}
-use Rattle.session_server.specs.Progress.{Progress, first_progress}
+use Rattle.batch_meaning.specs.Meaning.{rolls_back_open}
+use Rattle.batch_meaning.specs.Progress.{SessionProgress, first_progress}
 use Rattle.session_server.specs.Response.{Response}
-use Rattle.session_server.specs.Talk.{walk_of}
+use Rattle.session_server.specs.Talk.{walk_of, Request, AreRequests, talk_of}
 use Rattle.tsqld.specs.Program.{PipedOver, EndsWell, status_of, fresh_port}
 
 -- a log of one session's commits alone
@@ -56,15 +56,17 @@ front_some : {A : Type 0} (front : List A) (last : A) (all : List A) → all ≡
 front_some front last all whole none = let no : ⊥ = omega (arith, ap length whole, ap length none, length-append front (last ∷ [])) in no
 
 -- without a message nothing is asked, and nothing answered
-nothing_asked : (config : Config) (exchanges : List Exchange) (responses : List Response) (new : Progress) → Held (closed (walk_of config []).talk) first_progress exchanges responses new → (exchanges ≡ []) × (responses ≡ [])
-unfolding Held ◌then◌ walk_of rolls_back_open
-nothing_asked config exchanges responses new held = (held.0, held.1)
+nothing_asked : (config : Config) (requests : List Request) (exchanges : List Exchange) (responses : List Response) (new : SessionProgress) → AreRequests (walk_of config []).handled requests → Held (closed (talk_of requests)) first_progress exchanges responses new
+    → (exchanges ≡ []) × (responses ≡ [])
+unfolding Held ◌then◌ walk_of talk_of rolls_back_open
+nothing_asked config [] exchanges responses new are held = (held.0, held.1)
+nothing_asked config (request ∷ requests) exchanges responses new are held = let no : ⊥ = omega (arith, ap length are.handlings) in absurd no
 
-none_asked : (config : Config) (exchanges : List Exchange) (responses : List Response) (cause : Cause) → IsAsked config [] exchanges responses cause → exchanges ≡ []
-none_asked config exchanges responses (no_message fault) asked = (nothing_asked config exchanges responses asked.0 asked.1).0
-none_asked config exchanges responses (by_message end) asked = (nothing_asked config exchanges responses asked.0 asked.1).0
-none_asked config exchanges responses (unsent fault) asked = (nothing_asked config exchanges responses asked.0 asked.1).0
-none_asked config exchanges responses unmade asked = absurd (front_some asked.front asked.last [] asked.whole refl)
+none_asked : (config : Config) (requests : List Request) (exchanges : List Exchange) (responses : List Response) (cause : Cause) → IsAsked config [] requests exchanges responses cause → exchanges ≡ []
+none_asked config requests exchanges responses (no_message fault) asked = (nothing_asked config requests exchanges responses asked.1 asked.0 asked.2).0
+none_asked config requests exchanges responses (by_message end) asked = (nothing_asked config requests exchanges responses asked.1 asked.0 asked.2).0
+none_asked config requests exchanges responses (unsent fault) asked = (nothing_asked config requests exchanges responses asked.1 asked.0 asked.2).0
+none_asked config requests exchanges responses unmade asked = absurd (front_some asked.front asked.last [] asked.whole refl)
 
 -- the status of an end at which the port still tells
 memory_end : (end : End) → status_of true end ≡ 6 → end ≡ ends.Memory
@@ -91,20 +93,20 @@ memory_fault (reading.TooLong at) is = absurd cc
 memory_fault reading.ReadFault is = absurd cc
 memory_fault reading.Spent is = absurd cc
 
-module _ (config : Config) (sink_before sink_after : Option (List ℕ)) (bytes rest : List ℕ) (exchanges : List Exchange) (responses : List Response) where
+module _ (config : Config) (sink_before sink_after : Option (List ℕ)) (bytes rest : List ℕ) (requests : List Request) (exchanges : List Exchange) (responses : List Response) where
   -- memory was wanting, and no message was taken
-  wanted_first : (cause : Cause) → end_of cause ≡ ends.Memory → Joins 0 bytes [] rest → IsAsked config [] exchanges responses cause → Caused config [] (length bytes - length rest) rest cause → Wrote 51 sink_before sink_after responses cause → 8 ≤ length bytes
+  wanted_first : (cause : Cause) → end_of cause ≡ ends.Memory → Joins 0 bytes [] rest → IsAsked config [] requests exchanges responses cause → Caused config [] (length bytes - length rest) rest cause → Wrote 51 sink_before sink_after responses cause → 8 ≤ length bytes
   wanted_first (no_message fault) memory joined asked caused wrote =
       let stops : StopsBy (length bytes - length rest) rest reading.Memory = subst (StopsBy (length bytes - length rest) rest) (memory_fault fault memory) caused.1 in
       omega (arith, stops.1, joined_rest 0 bytes [] rest joined)
   wanted_first (by_message made) memory joined asked caused wrote = absurd (front_some caused.0.front caused.0.last [] caused.0.whole refl)
-  wanted_first (unsent fault) memory joined asked caused wrote = absurd (front_some wrote.front wrote.last responses wrote.whole (nothing_asked config exchanges responses asked.0 asked.1).1)
+  wanted_first (unsent fault) memory joined asked caused wrote = absurd (front_some wrote.front wrote.last responses wrote.whole (nothing_asked config requests exchanges responses asked.1 asked.0 asked.2).1)
   wanted_first unmade memory joined asked caused wrote = absurd (front_some asked.front asked.last [] asked.whole refl)
 
-  wanted : (told : Option (List Exchange)) (end : End) (status : ℕ) (messages : List Message) (cause : Cause) → status ≡ status_of (is_some told) end → end ≡ end_of cause → Joins 0 bytes messages rest → IsAsked config messages exchanges responses cause → TellsAll (Some []) told exchanges
+  wanted : (told : Option (List Exchange)) (end : End) (status : ℕ) (messages : List Message) (cause : Cause) → status ≡ status_of (is_some told) end → end ≡ end_of cause → Joins 0 bytes messages rest → IsAsked config messages requests exchanges responses cause → TellsAll (Some []) told exchanges
       → Caused config messages (length bytes - length rest) rest cause → Wrote 51 sink_before sink_after responses cause → status ≡ 6 → 8 ≤ length bytes
   wanted told end status (message ∷ messages) cause is end_is joined asked tells caused wrote six = joined_long 0 bytes message messages rest joined
-  wanted None end status [] cause is end_is joined asked tells caused wrote six = absurd (subst (TellsAll (Some []) None) (none_asked config exchanges responses cause asked) tells)
+  wanted None end status [] cause is end_is joined asked tells caused wrote six = absurd (subst (TellsAll (Some []) None) (none_asked config requests exchanges responses cause asked) tells)
   wanted (Some all) end status [] cause is end_is joined asked tells caused wrote six = wanted_first cause (sym end_is ∙ memory_end end (sym is ∙ six)) joined asked caused wrote
 
 -- ---- the whole
@@ -129,7 +131,7 @@ piped config gave left sink_before sink_after before after end status new served
       commits = logged means.exchanges after.engine.log fits own;
       own = own;
       idle = ap (λ (session : ℕ). is_open session after.engine) (sym one) ∙ closed;
-      memory = wanted config sink_before sink_after heard.taken heard.rest means.exchanges heard.responses after.told end status heard.messages heard.cause is heard.end_is heard.split.joined means.asked means.past.told heard.caused heard.written;
+      memory = wanted config sink_before sink_after heard.taken heard.rest means.requests means.exchanges heard.responses after.told end status heard.messages heard.cause is heard.end_is heard.split.joined means.asked means.past.told heard.caused heard.written;
     }
 
 -- ---- statuses

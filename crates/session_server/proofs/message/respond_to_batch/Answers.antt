@@ -1,28 +1,38 @@
-use Rattle.std.proofs.Common.{Err, refl, ap, ◌∙◌}
+use Rattle.std.proofs.Common.{◌≡◌, Err, refl, ap, ◌∙◌, rules}
 use Rattle.tds_tokens.specs.Spelling.{TokenBytes}
 use Rattle.session_server.specs.Response.{tabular}
 use Rattle.session_server.specs.Talk.{batch_response}
-use Rattle.session_server.proofs.Composed.{does_over, does_reads, does_then, does_out, does_leave}
-use Rattle.session_server.proofs.Handled.{bears_tokens, left_handled}
+use Rattle.batch_meaning.proofs.Composed.{does_over, does_reads, does_then, does_out, does_leave}
+use Rattle.session_server.proofs.Handled.{bears_tokens, unread_handled, left_handled}
 use Rattle.session_server.proofs.message.respond_to_batch.Goals as goal
 
-pub returns-in_err-statement_in-clause-handled : goal.returns-in_err-statement_in-clause-handled
-returns-in_err-statement_in-clause-handled g c = left_handled c.args.channel.spid _ _ c.from_residual.result c.from_residual.ensures.0 (does_out (Err c.in_err-statement_in.field-0.0) refl refl)
+pub returns-in_err-statements-clause-handled : goal.returns-in_err-statements-clause-handled
+returns-in_err-statements-clause-handled g c = unread_handled _ c.args.channel.spid c.args.channel.packet_size _ _ c.from_residual.result c.from_residual.ensures.0
 
 pub returns-in_err-run_batch-clause-handled : goal.returns-in_err-run_batch-clause-handled
 unfolding batch_response
-returns-in_err-run_batch-clause-handled g c = rw (← c.in_ok-statement_in.ensures.said) (left_handled c.args.channel.spid _ _ c.from_residual-in_err-run_batch.result c.from_residual-in_err-run_batch.ensures.0 (does_leave _ _ (Err c.in_err-run_batch.field-0.0) refl c.in_err-run_batch.ensures.does))
+returns-in_err-run_batch-clause-handled g c =
+    let is : c.as_slice.result.now ≡ c.in_ok-statements.statements.items = search rules in
+    left_handled c.args.channel.spid c.args.channel.packet_size _ _ c.from_residual-in_err-run_batch.result c.from_residual-in_err-run_batch.ensures.0 c.in_ok-statements.ensures.read (does_leave _ _ (Err c.in_err-run_batch.field-0.0) refl (rw is at c.in_err-run_batch.ensures.does))
 
 pub returns-in_err-response-clause-handled : goal.returns-in_err-response-clause-handled
 unfolding batch_response
-returns-in_err-response-clause-handled g c = rw (← c.in_ok-statement_in.ensures.said) (left_handled c.args.channel.spid _ _ c.from_residual-in_err-response.result c.from_residual-in_err-response.ensures.0 (does_then _ _ c.in_ok-run_batch.ensures.does (does_out (Err c.in_err-response.field-0.0) refl refl)))
+returns-in_err-response-clause-handled g c =
+    let is : c.as_slice.result.now ≡ c.in_ok-statements.statements.items = search rules in
+    left_handled c.args.channel.spid c.args.channel.packet_size _ _ c.from_residual-in_err-response.result c.from_residual-in_err-response.ensures.0 c.in_ok-statements.ensures.read (does_then _ _ (rw is at c.in_ok-run_batch.ensures.does) (does_out (Err c.in_err-response.field-0.0) refl refl))
 
 pub returns-clause-handled : goal.returns-clause-handled
 unfolding batch_response
-returns-clause-handled g c = rw (← c.in_ok-statement_in.ensures.said) (
-  tabular c.args.channel.packet_size c.run_batch.new.session.tokens,
-  does_then _ _ c.in_ok-run_batch.ensures.does (does_reads (does_over refl)),
-  bears_tokens c.args.channel.spid c.args.channel.packet_size c.run_batch.new.session.tokens c.in_ok-response.response c.in_ok-response.ensures.channel (c.in_ok-response.ensures.payload ∙ ap TokenBytes c.tokens.ensures.tokens) c.requires.sized,
-  refl,
-  c.requires.sized,
-)
+returns-clause-handled g c =
+    let is : c.as_slice.result.now ≡ c.in_ok-statements.statements.items = search rules in (
+      tabular c.args.channel.packet_size c.run_batch.new.session.tokens,
+      record {
+        statements = c.in_ok-statements.statements.items;
+        are = c.in_ok-statements.ensures.read;
+        has = tt;
+        does = does_then _ _ (rw is at c.in_ok-run_batch.ensures.does) (does_reads (does_over refl));
+      },
+      bears_tokens c.args.channel.spid c.args.channel.packet_size c.run_batch.new.session.tokens c.in_ok-response.response c.in_ok-response.ensures.channel (c.in_ok-response.ensures.payload ∙ ap TokenBytes c.tokens.ensures.tokens) c.requires.sized,
+      refl,
+      c.requires.sized,
+    )

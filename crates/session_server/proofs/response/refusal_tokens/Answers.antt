@@ -1,4 +1,4 @@
-use Rattle.session_server.proofs.Fitting.{refusal_fits}
+use Rattle.session_server.proofs.Refusals.{refusal_fits}
 use Rattle.session_server.proofs.response.refusal_tokens.Goals as goal
 
 pub returns-clause-fit : goal.returns-clause-fit

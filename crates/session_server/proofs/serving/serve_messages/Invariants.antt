@@ -1,7 +1,7 @@
 use Rattle.std.proofs.Common.{◌≡◌, ◌-◌, ◌≤◌}
 use Rattle.tds_packets.specs.Reading.{byte_limit}
 use Rattle.session_server.specs.Parts.{IsSized}
-use Rattle.session_server.specs.Progress.{Ready}
+use Rattle.batch_meaning.specs.Progress.{Ready}
 use Rattle.session_server.proofs.Served.{Served}
 use Rattle.session_server.proofs.serving.serve_messages.Given as goal
 

@@ -1,0 +1,12 @@
+use Rattle.std.proofs.Common.{refl}
+use Rattle.batch_meaning.specs.Meaning.{creates}
+use Rattle.batch_meaning.proofs.Composed.{does_over, does_bind, does_fail}
+use Rattle.batch_exec.proofs.statement.create.Goals as goal
+
+pub returns-in_err-put_object-clause-does : goal.returns-in_err-put_object-clause-does
+unfolding creates
+returns-in_err-put_object-clause-does g c = does_fail _ _ _ c.from_residual.ensures.0 c.from_residual.ensures.1 c.in_err-put_object.ensures.does
+
+pub returns-clause-does : goal.returns-clause-does
+unfolding creates
+returns-clause-does g c = does_bind _ _ c.in_ok-put_object.ensures.does (does_over refl)

@@ -1,0 +1,41 @@
+-- Own: what one fetch of a range makes of the rows that were read so far.
+use Rattle.std.specs.Prelude.{◌≡◌, ℕ, List, Option, None, Some, Result, Ok, Err}
+use Rattle.value_types.specs.declared.value.Value.{Value}
+use Rattle.lock_modes.specs.declared.KeyPart.TheVariants.{S}
+use Rattle.step_model.specs.declared.op.Op.{Op}
+use Rattle.step_model.specs.declared.op.Op.TheVariants.{Fetch}
+use Rattle.step_model.specs.declared.range.Start.TheVariants.{Past}
+use Rattle.step_model.specs.declared.range.Stop.TheVariants.{Last}
+use Rattle.step_model.specs.declared.reply.Reply.{Reply}
+use Rattle.step_model.specs.declared.reply.Reply.TheVariants as replies
+use Rattle.step_model.specs.Ranges.{Rows, with_row, no_memory, lock_timeout}
+use Rattle.step_model.specs.Port.{PortPast}
+use Rattle.batch_meaning.specs.Progress.{SessionProgress}
+use Rattle.batch_meaning.specs.Doing.{Exchanged}
+use Rattle.batch_meaning.specs.Tables.{row_fits}
+
+-- the fetch of what is behind a key
+abbrev pub fetch_past : Op → List Value → Op
+fetch_past (Fetch table start stop hold part) key = Fetch table (Past key) stop hold part
+fetch_past op key = op
+
+-- a fetch of the rows of a whole table, from some key on
+abbrev pub ReadsRange : Op → Type 0
+ReadsRange (Fetch table start Last hold S) = Unit {0}
+ReadsRange op = ⊥
+
+-- what a fetch's reply makes of the rows so far: the key to go on from, none at the end, or an error
+abbrev pub Gathers : Reply → Rows → Result (Option (List Value)) ℕ → Rows → Type 0
+Gathers (replies.Row key row at) old (Ok (Some last)) new = (last ≡ key) × (new ≡ with_row row_fits old key row)
+Gathers (replies.Row key row at) old (Err number) new = number ≡ no_memory
+Gathers (replies.Gone key at) old (Ok (Some last)) new = (last ≡ key) × (new ≡ old)
+Gathers (replies.End at) old (Ok None) new = new ≡ old
+Gathers replies.Memory old (Err number) new = number ≡ no_memory
+Gathers (replies.TimedOut holder held wanted on) old (Err number) new = number ≡ lock_timeout
+Gathers reply old result new = ⊥
+
+-- a fetch was asked, and its reply read so
+pub record IsRead (before after : PortPast) (fetch : Op) (old : SessionProgress) (rows : Rows) (result : Result (Option (List Value)) ℕ) (new : SessionProgress) (more : Rows) : Type 0 where
+  pub reply : Reply
+  pub was : Exchanged before after fetch old reply new
+  pub reads : Gathers reply rows result more

@@ -1,0 +1,3 @@
+-- What batches mean stands in `batch_meaning`. No public clause cites these files.
+pub mod Sendable  -- IsFit, IsSendable: what can be sent
+pub mod Fetched  -- IsRead: what a fetch makes of the rows so far

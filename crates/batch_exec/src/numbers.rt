@@ -1,0 +1,28 @@
+//! The numbers of the errors of statements.
+
+/// The error of a table that is not there.
+pub(crate) const UNKNOWN_TABLE: u16 = 208;
+
+/// The error where memory was wanting for a statement.
+pub(crate) const NO_MEMORY: u16 = 701;
+
+/// The error where a lock of another session stands in the way of one that does not wait.
+pub(crate) const LOCK_TIMEOUT: u16 = 1222;
+
+/// The error of a key that has a row.
+pub(crate) const DUPLICATE_KEY: u16 = 2627;
+
+/// The error of a table that is there.
+pub(crate) const OBJECT_PRESENT: u16 = 2714;
+
+/// The error of a batch that would begin too many statements.
+pub(crate) const STATEMENTS_SPENT: u16 = 49001;
+
+/// The error of a result with too many rows.
+pub(crate) const RESULT_FULL: u16 = 49002;
+
+/// The error of a range with too many keys.
+pub(crate) const RANGE_FULL: u16 = 49003;
+
+/// The error of a text that is not built yet.
+pub(crate) const NOT_BUILT: u16 = 49099;

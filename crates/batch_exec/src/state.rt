@@ -1,0 +1,165 @@
+//! How far a session has come, and what it asks of its port.
+
+ghost use Rattle.std.specs.Prelude.{◌≡◌, ◌<◌, ◌==◌, [], true, false, Ok, IfOk, IfErr};
+ghost use Rattle.step_model.specs.Exchange.{MayCome, CanReply};
+ghost use Rattle.batch_meaning.specs.Doing.{Exchanged, Did};
+ghost use Rattle.batch_meaning.specs.Meaning.{rolls_back_open};
+ghost use Rattle.batch_exec.specs.Sendable.{IsFit};
+ghost use Rattle.tds_tokens.specs.Fit.{FitTokens};
+ghost use Rattle.batch_meaning.specs.Progress.{Ready, first_progress, made, asked, begins, counts, sends};
+
+use std::alloc::Global;
+use std::marker::Model;
+use step_model::{Manner, Op, Patience, Port, Reply};
+use tds_tokens::Token;
+use value_types::Memory;
+
+/// How many statements a batch may begin.
+const STATEMENT_LIMIT: u32 = 1_000_000;
+
+/// How a session asks until it says otherwise: it waits for locks, with the priority 0.
+const FIRST_MANNER: Manner = Manner {
+    patience: Patience::Forever,
+    priority: 0,
+};
+
+/// How far a session has come, with what its batch has sent.
+#[derive(Drop)]
+pub struct SessionState {
+    tokens: Vec<Token>,
+    left: u32,
+    is_open: bool,
+    touched: bool,
+    manner: Manner,
+}
+
+impl Model for SessionState {
+    ghost use Rattle.batch_meaning.specs.Progress.{SessionProgress};
+    ghost use Rattle.batch_exec.specs.Sendable.{IsFit};
+
+    ghost Value = { SessionProgress };
+
+    ghost view = { λ s. record { tokens = s.tokens.items; left = s.left; is_open = s.is_open; touched = s.touched; manner = s.manner } };
+
+    ghost invariant = { λ s. IsFit s.tokens.items };
+}
+
+impl SessionState {
+    /// A session before its first batch.
+    pub fn new(alloc: Global) -> SessionState
+        ensures { result ≡ first_progress }
+    {
+        SessionState {
+            tokens: Vec::new(alloc),
+            left: 0,
+            is_open: false,
+            touched: false,
+            manner: FIRST_MANNER,
+        }
+    }
+
+    /// Asks one operation in the session's manner.
+    pub(crate) fn ask<P: Port>(&mut self, port: &mut P, op: &Op) -> Reply
+        requires ready { Ready self.old (P.past port.old) }
+        requires may { MayCome (P.past port.old).standing op.now }
+        ensures asked { Exchanged (P.past port.old) (P.past port.new) op.now self.old result self.new }
+        ensures reply { CanReply op.now result }
+        ensures ready { Ready self.new (P.past port.new) }
+    {
+        let reply = port.ask(op, self.manner);
+        self.note(op, &reply);
+        reply
+    }
+
+    /// Rolls an open transaction back.
+    pub fn roll_back_open<P: Port>(&mut self, port: &mut P)
+        requires ready { Ready self.old (P.past port.old) }
+        ensures does { Did (P.past port.old) (P.past port.new) rolls_back_open self.old (Ok result) self.new }
+        ensures ready { Ready self.new (P.past port.new) }
+        ensures closed { self.new.is_open ≡ false }
+    {
+        if self.in_transaction() {
+            match self.ask(port, &Op::Rollback) {
+                Reply::Ended { .. } => {}
+                _ => unreachable!(),
+            }
+        }
+    }
+
+    /// What the batch has sent.
+    pub fn tokens(&self) -> &[Token]
+        ensures tokens { result.now ≡ self.now.tokens }
+        ensures fit { FitTokens [] self.now.tokens }
+    {
+        self.tokens.as_slice()
+    }
+
+    /// Whether a transaction is open.
+    pub fn in_transaction(&self) -> bool
+        ensures { result ≡ self.now.is_open }
+    {
+        self.is_open
+    }
+
+    /// Whether something was fetched or written since the last Relax.
+    pub(crate) fn is_touched(&self) -> bool
+        ensures { result ≡ self.now.touched }
+    {
+        self.touched
+    }
+
+    /// Whether no statement may begin.
+    pub(crate) fn is_spent(&self) -> bool
+        ensures { result ≡ (self.now.left == 0) }
+    {
+        self.left == 0
+    }
+
+    /// A batch begins.
+    pub(crate) fn begin_batch(&mut self)
+        ensures { self.new ≡ made begins self.old }
+    {
+        self.tokens.clear();
+        self.left = STATEMENT_LIMIT;
+    }
+
+    /// One statement more begins.
+    pub(crate) fn begin_statement(&mut self)
+        requires { 0 < self.old.left }
+        ensures { self.new ≡ made counts self.old }
+    {
+        self.left -= 1;
+    }
+
+    /// Sends tokens; all of them, or none where memory is wanting.
+    pub(crate) fn send(&mut self, tokens: Vec<Token>) -> Result<(), Memory>
+        requires fit { IsFit tokens.items }
+        ensures sent { IfOk result (λ _. self.new ≡ made (sends tokens.items) self.old) }
+        ensures kept { IfErr result (λ _. self.new ≡ self.old) }
+    {
+        let mut tokens = tokens;
+        self.tokens.append(&mut tokens)?;
+        Ok(())
+    }
+
+    /// An operation was asked, and replied so.
+    fn note(&mut self, op: &Op, reply: &Reply)
+        requires { CanReply op.now reply.now }
+        ensures { self.new ≡ asked op.now reply.now self.old }
+    {
+        match reply {
+            Reply::Began => self.is_open = true,
+            Reply::Ended { .. } => self.is_open = false,
+            _ => {}
+        }
+        match op {
+            Op::Fetch { .. } => self.touched = true,
+            Op::Insert { .. } => self.touched = true,
+            Op::Replace { .. } => self.touched = true,
+            Op::Erase { .. } => self.touched = true,
+            Op::Mark => {}
+            Op::BackTo { .. } => {}
+            _ => self.touched = false,
+        }
+    }
+}

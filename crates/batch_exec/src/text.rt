@@ -1,0 +1,301 @@
+//! Reading the text of a batch.
+
+ghost use Rattle.std.specs.Prelude.{◌≡◌, ◌<◌, All, Some, Err, IfOk};
+ghost use Rattle.std.specs.Option.{option_map};
+ghost use Rattle.batch_meaning.specs.Statements.{number_in, int_in, is_column, bare_item, is_column_item, is_plain, sole_table, table_in, number_form, table_form, selected, plain_form, row_form, inserted, create_form, form_of, not_built_statement, served_at, statements_of, AreRead, ReadsAs};
+ghost use Rattle.tsql_tree.specs.declared.statement.Statement.{out-Statement};
+ghost use Rattle.query_parser.specs.declared.fault.ParseFault.TheVariants.{Refused as RefusedFault};
+
+use crate::tables::is_created;
+use batch_meaning::{Form, Served};
+use std::alloc::Global;
+use stmt_parser::{ParseFault, parse_batch};
+use tsql_tree::{
+    Batch, Expr, Form as TreeForm, FromClause, InsertRows, Item, Join, Select, Statement, TableRef,
+    TableTree,
+};
+use value_types::{Memory, Units};
+
+/// The most units of a name.
+const NAME_LIMIT: usize = 128;
+
+/// The statements that a text is read as.
+pub fn read_statements(alloc: Global, text: &Units) -> Result<Vec<Served>, Memory>
+    ensures read { IfOk result (λ statements. ReadsAs text.now statements.items) }
+{
+    match parse_batch(alloc, text) {
+        Ok(batch) => statements_of(alloc, &batch),
+        Err(ParseFault::Refused { number, line, near }) => refused(alloc, number, line, near),
+        Err(ParseFault::Memory) => Err(Memory),
+    }
+}
+
+/// The one statement of a text that is refused, which tells why.
+fn refused(alloc: Global, number: i32, line: u32, near: Units) -> Result<Vec<Served>, Memory>
+    ensures { IfOk result (λ statements. AreRead (Err (RefusedFault number line near)) statements.items) }
+{
+    let Ok(code) = u16::try_from(number) else {
+        return Err(Memory);
+    };
+    let Ok(line) = i32::try_from(line) else {
+        return Err(Memory);
+    };
+    let form = Form::Refused { code, near };
+    Ok(vec![in alloc; Served { line, form }]?)
+}
+
+/// The statements of a batch.
+fn statements_of(alloc: Global, batch: &Batch) -> Result<Vec<Served>, Memory>
+    ensures { IfOk result (λ statements. statements.items ≡ statements_of batch.now) }
+{
+    match batch {
+        Batch::Definition(_, _, _) => Ok(vec![in alloc; not_built()]?),
+        Batch::Body(body) => match body.as_slice() {
+            [] => Ok(Vec::new(alloc)),
+            [statement] => Ok(vec![in alloc; served(alloc, statement)?]?),
+            _ => Ok(vec![in alloc; not_built()]?),
+        },
+    }
+}
+
+/// What is not built says so at line 1.
+fn not_built() -> Served
+    ensures { result ≡ not_built_statement }
+{
+    Served {
+        line: 1,
+        form: Form::NotBuilt,
+    }
+}
+
+/// A statement as one that is served. Its line is told as an `i32`.
+fn served(alloc: Global, statement: &Statement) -> Result<Served, Memory>
+    ensures { IfOk result (λ served. served ≡ served_at (out-Statement statement.now).line (form_of (out-Statement statement.now).form)) }
+{
+    let Some(form) = form_of(alloc, &statement.form)? else {
+        return Ok(not_built());
+    };
+    match i32::try_from(statement.line) {
+        Ok(line) => Ok(Served { line, form }),
+        Err(_) => Err(Memory),
+    }
+}
+
+/// The form of a statement that is served.
+fn form_of(alloc: Global, form: &TreeForm) -> Result<Option<Form>, Memory>
+    ensures { IfOk result (λ found. found ≡ form_of form.now) }
+{
+    match form {
+        TreeForm::Select(select) => plain_form(alloc, select.get()),
+        TreeForm::Insert(name, columns, rows) => {
+            inserted(alloc, name, columns.as_slice(), rows.get())
+        }
+        TreeForm::CreateTable(table, text) => create_form(alloc, table.get(), text),
+        _ => Ok(None),
+    }
+}
+
+/// The form of a CREATE TABLE, which keeps its text.
+fn create_form(alloc: Global, table: &TableTree, text: &Units) -> Result<Option<Form>, Memory>
+    ensures { IfOk result (λ found. found ≡ create_form table.now text.now) }
+{
+    if !is_created(table) {
+        return Ok(None);
+    }
+    Ok(Some(Form::CreateTable {
+        name: table.name.copy(alloc)?,
+        text: text.copy(alloc)?,
+    }))
+}
+
+// ---- INSERT
+
+/// The form of an INSERT of one row of two numbers.
+fn inserted(
+    alloc: Global,
+    name: &Units,
+    columns: &[Units],
+    rows: &InsertRows,
+) -> Result<Option<Form>, Memory>
+    ensures { IfOk result (λ found. found ≡ inserted name.now columns.now rows.now) }
+{
+    match (columns, rows) {
+        ([], InsertRows::Values(rows)) => match rows.as_slice() {
+            [row] => row_form(alloc, name, row.as_slice()),
+            _ => Ok(None),
+        },
+        _ => Ok(None),
+    }
+}
+
+/// The form of an INSERT of these values.
+fn row_form(alloc: Global, name: &Units, row: &[Expr]) -> Result<Option<Form>, Memory>
+    ensures { IfOk result (λ found. found ≡ row_form name.now row.now) }
+{
+    let [key, value] = row else {
+        return Ok(None);
+    };
+    if NAME_LIMIT < name.len() {
+        return Ok(None);
+    }
+    let (Some(key), Some(value)) = (int_in(key), int_in(value)) else {
+        return Ok(None);
+    };
+    Ok(Some(Form::Insert {
+        name: name.copy(alloc)?,
+        key,
+        value,
+    }))
+}
+
+// ---- SELECT
+
+/// The form of a SELECT where none but items and FROM stand.
+fn plain_form(alloc: Global, select: &Select) -> Result<Option<Form>, Memory>
+    ensures { IfOk result (λ found. found ≡ plain_form select.now) }
+{
+    if is_plain(select) {
+        selected(alloc, select.items.as_slice(), &select.from)
+    } else {
+        Ok(None)
+    }
+}
+
+/// Whether none but items and FROM stand.
+fn is_plain(select: &Select) -> bool
+    ensures { result ≡ is_plain select.now }
+{
+    !select.distinct
+        && select.top.is_none()
+        && select.filter.is_none()
+        && select.groups.is_empty()
+        && select.having.is_none()
+        && select.order.is_empty()
+}
+
+/// The form of these items from these tables.
+fn selected(
+    alloc: Global,
+    items: &[Item],
+    from: &Option<FromClause>,
+) -> Result<Option<Form>, Memory>
+    ensures { IfOk result (λ found. found ≡ selected items.now from.now) }
+{
+    match items {
+        [item] => Ok(number_form(item, from)),
+        [key, value] => table_form(alloc, key, value, from),
+        _ => Ok(None),
+    }
+}
+
+/// The form of one number.
+fn number_form(item: &Item, from: &Option<FromClause>) -> Option<Form>
+    ensures { result ≡ number_form item.now from.now }
+{
+    if from.is_some() {
+        return None;
+    }
+    let number = number_in(bare_item(item)?)?;
+    Some(Form::SelectNumber { number })
+}
+
+/// The form of the two columns of a table.
+fn table_form(
+    alloc: Global,
+    key: &Item,
+    value: &Item,
+    from: &Option<FromClause>,
+) -> Result<Option<Form>, Memory>
+    ensures { IfOk result (λ found. found ≡ table_form key.now value.now from.now) }
+{
+    if !is_column_item(key, "k") || !is_column_item(value, "v") {
+        return Ok(None);
+    }
+    let Some(name) = table_in(from) else {
+        return Ok(None);
+    };
+    Ok(Some(Form::SelectTable {
+        name: name.copy(alloc)?,
+    }))
+}
+
+/// The table of a FROM that has one, which is given no other name.
+fn table_in(from: &Option<FromClause>) -> Option<&Units>
+    ensures { option_map (λ name. name.now) result ≡ table_in from.now }
+{
+    match from {
+        Some(from) => sole_table(&from.first, from.joins.as_slice()),
+        None => None,
+    }
+}
+
+/// The name of a table where it is the only one.
+fn sole_table<'a>(table: &'a TableRef, joins: &[Join]) -> Option<&'a Units>
+    ensures { option_map (λ name. name.now) result ≡ sole_table table.now joins.now }
+{
+    if joins.is_empty() && table.alias.is_none() && table.name.len() <= NAME_LIMIT {
+        Some(&table.name)
+    } else {
+        None
+    }
+}
+
+/// The expression of an item that is given no name.
+fn bare_item(item: &Item) -> Option<&Expr>
+    ensures { option_map (λ expr. expr.now) result ≡ bare_item item.now }
+{
+    match item {
+        Item::Value(expr, None) => Some(expr),
+        _ => None,
+    }
+}
+
+/// Whether an item is the column of this name.
+fn is_column_item(item: &Item, name: &str) -> bool
+    requires ascii { All (λ byte. byte < 128) name.now }
+    ensures { result ≡ is_column_item name.now item.now }
+{
+    match bare_item(item) {
+        Some(expr) => is_column(expr, name),
+        None => false,
+    }
+}
+
+// ---- expressions
+
+/// The number that an expression is; parentheses round it vanish.
+#[tactic(auto, unfolding(batch_meaning::specs::Statements::operand_in))]
+fn number_in(expr: &Expr) -> Option<i64>
+    ensures { result ≡ number_in expr.now }
+{
+    match expr {
+        Expr::Number(number) => Some(*number),
+        Expr::Parens(inner) => number_in(inner.get()),
+        _ => None,
+    }
+}
+
+/// The number of the range of INT that an expression is.
+fn int_in(expr: &Expr) -> Option<i64>
+    ensures { result ≡ int_in expr.now }
+{
+    let number = number_in(expr)?;
+    if i64::from(i32::MIN) <= number && number <= i64::from(i32::MAX) {
+        Some(number)
+    } else {
+        None
+    }
+}
+
+/// Whether an expression is the column of this name; parentheses round it vanish.
+#[tactic(auto, unfolding(batch_meaning::specs::Statements::operand_in))]
+fn is_column(expr: &Expr, name: &str) -> bool
+    requires ascii { All (λ byte. byte < 128) name.now }
+    ensures { result ≡ is_column name.now expr.now }
+{
+    match expr {
+        Expr::Column(None, column) => column.is(name),
+        Expr::Parens(inner) => is_column(inner.get(), name),
+        _ => false,
+    }
+}

@@ -1,0 +1,8 @@
+-- Read in this order; the comment behind a name says what the file is for.
+pub mod Tables  -- row_fits: definitions and rows as rows of tables
+pub mod Statements  -- ReadsAs: which statements a text is read as
+pub mod Tokens  -- effect_tokens: the tokens of a statement, by what came of it
+pub mod Progress  -- Ready: how far a session has come, and the steps by which that changes
+pub mod Doing  -- Did: what a session does, as a tree of steps and operations
+pub mod Meaning  -- batch: what statements ask, and what comes of the replies
+pub mod Told  -- told_commits: what is committed for statements, by what is told

@@ -1,0 +1,15 @@
+//! What a batch means: which statements a text is read as, what statements ask of a port and make of its
+//! replies, and what they send. Definitions, the types that they speak of, and laws; nothing here runs a batch.
+//!
+//! Read `specs/Lib.antt`: it names the definitions in order. The layers above rely on the tree `batch`, whose
+//! words are those of `specs/Doing`, and on two laws: a text is read as one list of statements
+//! ([`law_reading`]), and a batch of one statement commits what its tokens tell ([`law_commits`]).
+#![tactic(auto)]
+
+mod effect;
+mod form;
+mod laws;
+
+pub use effect::{Effect, Exit, RowList};
+pub use form::{Form, Served};
+pub use laws::{law_commits, law_reading};

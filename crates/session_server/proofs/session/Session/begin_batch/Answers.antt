@@ -1,5 +1,0 @@
-use Rattle.session_server.proofs.Fitting.{fits_as, fit_none}
-use Rattle.session_server.proofs.session.Session.begin_batch.Goals as goal
-
-pub invariant_of-self : goal.invariant_of-self
-invariant_of-self c = fits_as _ _ c.clear.ensures.items fit_none

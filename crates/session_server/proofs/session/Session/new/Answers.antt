@@ -1,5 +1,0 @@
-use Rattle.session_server.proofs.Fitting.{fits_as, fit_none}
-use Rattle.session_server.proofs.session.Session.new.Goals as goal
-
-pub invariant_of-result : goal.invariant_of-result
-invariant_of-result c = fits_as _ _ c.new.ensures.items fit_none

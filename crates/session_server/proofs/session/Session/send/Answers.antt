@@ -1,5 +1,0 @@
-use Rattle.session_server.proofs.Fitting.{fits_if}
-use Rattle.session_server.proofs.session.Session.send.Goals as goal
-
-pub invariant_of-self-2 : goal.invariant_of-self-2
-invariant_of-self-2 c = fits_if _ _ _ _ c.append.ensures.items c.self.invariant c.requires.fit

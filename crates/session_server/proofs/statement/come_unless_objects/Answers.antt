@@ -1,9 +1,0 @@
-use Rattle.std.proofs.Common.{refl, sym}
-use Rattle.session_server.proofs.Composed.{does_over, does_yes, does_no}
-use Rattle.session_server.proofs.statement.come_unless_objects.Goals as goal
-
-pub returns-then-is_objects-clause-does : goal.returns-then-is_objects-clause-does
-returns-then-is_objects-clause-does g c = does_yes _ _ _ (sym c.if-is_objects.ensures) (does_over refl)
-
-pub returns-clause-does : goal.returns-clause-does
-returns-clause-does g c = does_no _ _ _ (sym c.if-is_objects.ensures) c.run_own.ensures.does
