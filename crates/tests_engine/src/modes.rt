@@ -4,7 +4,6 @@ use lock_modes::{
     KeyPart, Pair, RangePart, agree, join, law_agree_join, law_agree_symmetric,
     law_join_associative, law_join_commutative, law_join_idempotent, law_mode_names,
 };
-use std::test::Fail;
 
 /// Two modes, `+` where they agree, and their join.
 const EVERY_TWO: &str = "S S + S
@@ -83,22 +82,32 @@ fn line_of(line: &str) -> Option<(Pair, Pair, bool, Pair)> {
     ))
 }
 
+/// Whether a line says how its two modes are, in either order, and that the mode of nothing adds nothing.
+fn holds(line: &str) -> bool {
+    let Some((a, b, agrees, joined)) = line_of(line) else {
+        return false;
+    };
+    agree(a, b) == agrees
+        && agree(b, a) == agrees
+        && join(a, b) == joined
+        && join(b, a) == joined
+        && agree(Pair::NONE, a)
+        && join(Pair::NONE, a) == a
+}
+
 #[test]
-fn every_two_modes(rt: HostRuntime) -> Result<(), Fail> {
+fn every_two_modes(rt: HostRuntime) {
     for line in EVERY_TWO.lines() {
-        let (a, b, agrees, joined) = line_of(line).ok_or(line)?;
-        assert_eq!(rt; agree(a, b), agrees, "{line}");
-        assert_eq!(rt; agree(b, a), agrees, "{line}");
-        assert_eq!(rt; join(a, b), joined, "{line}");
-        assert_eq!(rt; join(b, a), joined, "{line}");
-        assert!(rt; agree(Pair::NONE, a), "{line}");
-        assert_eq!(rt; join(Pair::NONE, a), a, "{line}");
+        assert!(rt; holds(line), "{line}");
     }
+}
+
+#[test]
+fn laws_of_modes_are_called() {
     law_mode_names();
     law_agree_symmetric();
     law_agree_join();
     law_join_commutative();
     law_join_associative();
     law_join_idempotent();
-    Ok(())
 }

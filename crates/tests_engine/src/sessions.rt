@@ -1,17 +1,14 @@
-//! What no script of steps can say: keys with two spellings, keys of two lengths, and a port that goes on
-//! telling.
+//! What no script of steps can say: keys with two spellings, and keys of two lengths.
 
 ghost use Rattle.std.specs.Prelude.{◌≡◌, ℕ, List, true};
 ghost use Rattle.step_model.specs.Exchange.{MayAsk, MayCome};
 ghost use Rattle.step_model.specs.Runs.{standing_of};
-ghost use Rattle.engine_core.specs.Solo.{solo_standing};
 
-use engine_core::{Engine, SoloPort};
+use engine_core::Engine;
 use lock_modes::KeyPart;
 use std::alloc::Global;
-use std::process::Abort;
 use std::test::Fail;
-use step_model::{Change, Hold, LAST_SESSION, Manner, Op, Patience, Port, Reply, Start, Stop};
+use step_model::{Change, Hold, LAST_SESSION, Manner, Op, Patience, Reply, Start, Stop};
 use value_types::{Key, Memory, Row, TableName, Units, Value, units_of_str};
 
 const MANNER: Manner = Manner {
@@ -61,23 +58,29 @@ fn text_key(alloc: Global, text: &str) -> Result<Key, Memory> {
     Ok(Key::new(vec![in alloc; Value::Text(units_of_str(alloc, text)?)]?))
 }
 
+fn number_of(word: &str) -> i64 {
+    word.parse().unwrap_or(i64::MAX)
+}
+
 /// The key of a word: a text behind a quote, or one number or two.
-fn key_of(alloc: Global, word: &str) -> Result<Key, Fail> {
+fn key_of(alloc: Global, word: &str) -> Result<Key, Memory> {
     if let Some(text) = word.strip_prefix('\'') {
-        return Ok(text_key(alloc, text)?);
+        return text_key(alloc, text);
     }
     match word.split_once(',') {
-        None => Ok(number_key(alloc, word.parse()?)?),
-        Some((first, second)) => Ok(pair_key(alloc, first.parse()?, second.parse()?)?),
+        None => number_key(alloc, number_of(word)),
+        Some((first, second)) => pair_key(alloc, number_of(first), number_of(second)),
     }
 }
 
+fn null_row(alloc: Global) -> Result<Row, Memory> {
+    Ok(Row::from(vec![in alloc; Value::Null]?))
+}
+
 fn insertion(alloc: Global, key: Key) -> Result<Op, Memory> {
-    Ok(Op::Insert {
-        table: table(alloc)?,
-        key,
-        row: Row::from(vec![in alloc; Value::Null]?),
-    })
+    let table = table(alloc)?;
+    let row = null_row(alloc)?;
+    Ok(Op::Insert { table, key, row })
 }
 
 /// A fetch of the keys that begin with this one, which holds its range.
@@ -92,10 +95,10 @@ fn range(alloc: Global, key: Key) -> Result<Op, Memory> {
 }
 
 /// The operation of a command.
-fn op_of(alloc: Global, command: &str) -> Result<Op, Fail> {
+fn op_of(alloc: Global, command: &str) -> Result<Op, Memory> {
     match command.split_once(' ') {
-        Some(("insert", word)) => Ok(insertion(alloc, key_of(alloc, word)?)?),
-        Some((_, word)) => Ok(range(alloc, key_of(alloc, word)?)?),
+        Some(("insert", word)) => insertion(alloc, key_of(alloc, word)?),
+        Some((_, word)) => range(alloc, key_of(alloc, word)?),
         None if command == "begin" => Ok(Op::Begin),
         None => Ok(Op::Commit),
     }
@@ -118,96 +121,79 @@ fn may_attempt(engine: &Engine, session: u32, op: &Op) -> bool
     may_come(engine.in_transaction(session), op)
 }
 
-fn may_ask(port: &SoloPort, op: &Op) -> bool
-    ensures { result ≡ true → MayAsk (solo_standing port.now) op.now MANNER }
-{
-    may_come(port.in_transaction(), op)
+/// The reply to an operation that may come.
+fn attempt(engine: &mut Engine, session: u32, op: &Op) -> Option<Reply> {
+    if session < 1 || LAST_SESSION < session || !may_attempt(engine, session, op) {
+        return None;
+    }
+    Some(engine.attempt(session, op, MANNER))
 }
 
-fn attempt(rt: &impl Abort, engine: &mut Engine, session: u32, op: &Op) -> Reply {
-    let may = may_attempt(engine, session, op);
-    assert!(rt; may);
-    assert!(rt; 1 <= session);
-    assert!(rt; session <= LAST_SESSION);
-    engine.attempt(session, op, MANNER)
-}
-
-/// Asks what a line asks, and compares the printed reply.
-fn play(rt: &impl Abort, alloc: Global, engine: &mut Engine, line: &str) -> Result<(), Fail> {
-    let (asked, wanted) = line.split_once('|').ok_or(line)?;
-    let (session, command) = asked.split_once(' ').ok_or(line)?;
+/// What is printed of the reply to a command.
+fn printed(
+    alloc: Global,
+    engine: &mut Engine,
+    session: u32,
+    command: &str,
+) -> Result<String, Memory> {
     let op = op_of(alloc, command)?;
-    let reply = attempt(rt, engine, session.parse()?, &op);
-    let printed = format!(in alloc; "{reply:?}")?;
-    assert_eq!(rt; printed.as_str(), wanted, "{line}");
-    Ok(())
+    match attempt(engine, session, &op) {
+        Some(reply) => Ok(format!(in alloc; "{reply:?}")?),
+        None => Ok("not now".to_string(alloc)?),
+    }
 }
 
-/// Has an engine answer all lines, after which its log has so many commits.
-fn play_all(rt: &impl Abort, alloc: Global, lines: &str, commits: u64) -> Result<(), Fail> {
+/// Whether what a line asks is answered as it says.
+fn holds(alloc: Global, engine: &mut Engine, line: &str) -> Result<bool, Memory> {
+    let (asked, wanted) = line.split_once('|').unwrap_or((line, ""));
+    let (session, command) = asked.split_once(' ').unwrap_or((line, ""));
+    let printed = printed(alloc, engine, session.parse().unwrap_or(0), command)?;
+    Ok(printed.as_str() == wanted)
+}
+
+/// The first line that an engine answers otherwise, or how many commits its log has then.
+fn commits_of<'a>(alloc: Global, lines: &'a str) -> Result<Result<u64, &'a str>, Memory> {
     let mut engine = Engine::new(alloc);
     for line in lines.lines() {
-        play(rt, alloc, &mut engine, line)?;
+        if !holds(alloc, &mut engine, line)? {
+            return Ok(Err(line));
+        }
     }
-    assert_eq!(rt; engine.commits(), commits);
-    Ok(())
+    Ok(Ok(engine.commits()))
 }
 
 #[test]
 fn two_spellings_are_one_key(rt: HostRuntime) -> Result<(), Fail> {
-    play_all(&rt, rt.alloc(), SPELLINGS, 2)
+    assert_eq!(rt; commits_of(rt.alloc(), SPELLINGS)?, Ok(2));
+    Ok(())
 }
 
 #[test]
 fn a_range_covers_longer_keys(rt: HostRuntime) -> Result<(), Fail> {
-    play_all(&rt, rt.alloc(), LENGTHS, 2)
-}
-
-fn ask(rt: &impl Abort, port: &mut SoloPort, op: &Op) {
-    let may = may_ask(port, op);
-    assert!(rt; may);
-    let _reply = port.ask(op, MANNER);
-}
-
-/// One transaction of a port, of six operations.
-fn transact(rt: &impl Abort, alloc: Global, port: &mut SoloPort, number: i64) -> Result<(), Fail> {
-    let insertion = insertion(alloc, number_key(alloc, number)?)?;
-    let range = range(alloc, number_key(alloc, number)?)?;
-    for op in [
-        &Op::Begin,
-        &insertion,
-        &range,
-        &Op::Mark,
-        &Op::Relax,
-        &Op::Commit,
-    ] {
-        ask(rt, port, op);
-    }
+    assert_eq!(rt; commits_of(rt.alloc(), LENGTHS)?, Ok(2));
     Ok(())
 }
 
-/// Some nine thousand operations, which the port copies as it tells them.
-#[test]
-fn a_port_goes_on_telling(rt: HostRuntime) -> Result<(), Fail> {
-    let alloc = rt.alloc();
-    let mut port = SoloPort::new(alloc, 1);
-    for number in 0..1500 {
-        transact(&rt, alloc, &mut port, number)?;
-    }
-    assert!(rt; port.tells());
-    Ok(())
+fn change(alloc: Global) -> Result<Change, Memory> {
+    Ok(Change {
+        table: table(alloc)?,
+        key: number_key(alloc, 5)?,
+        row: Some(Row::from(vec![in alloc; Value::Bit(true), Value::Null]?)),
+    })
+}
+
+/// What is printed of a change, and of its copy.
+fn printed_twice(alloc: Global, change: &Change) -> Result<(String, String), Memory> {
+    let copy = change.copy(alloc)?;
+    Ok((
+        format!(in alloc; "{change:?}")?,
+        format!(in alloc; "{copy:?}")?,
+    ))
 }
 
 #[test]
 fn a_change_is_copied(rt: HostRuntime) -> Result<(), Fail> {
-    let alloc = rt.alloc();
-    let change = Change {
-        table: table(alloc)?,
-        key: number_key(alloc, 5)?,
-        row: Some(Row::from(vec![in alloc; Value::Bit(true), Value::Null]?)),
-    };
-    let copy = change.copy(alloc)?;
-    let printed = format!(in alloc; "{copy:?}")?;
-    assert_eq!(rt; printed, format!(in alloc; "{change:?}")?);
+    let (change, copy) = printed_twice(rt.alloc(), &change(rt.alloc())?)?;
+    assert!(rt; change == copy);
     Ok(())
 }

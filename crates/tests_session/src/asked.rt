@@ -2,354 +2,313 @@
 
 ghost use Rattle.std.specs.Prelude.{◌≡◌, IfOk};
 
-use crate::rows::Cell::{Text, Whole};
-use crate::rows::{CREATE, Cell, DEFINED, Keyed, key_of, port_with};
-use crate::served::{assert_lines, reply_to};
+use crate::rows::{DEFINED, key_of, port_with};
+use crate::served::reply_to;
 use crate::watched::Watched;
 use std::alloc::Global;
 use std::process::Abort;
 use std::test::Fail;
+use value_types::Memory;
 
-/// A statement, what it asks and what it tells.
-struct Statement {
-    /// The rows of `objects` that it finds.
-    objects: &'static [Keyed],
-    /// The rows of `t` that it finds.
-    rows: &'static [Keyed],
-    /// The key of a row that is answered as Gone, or none.
-    hidden: &'static [Cell],
-    /// The command of its DONE.
-    command: &'static str,
-    text: &'static str,
-    asked: &'static [&'static str],
-    told: &'static [&'static str],
+/// The rows of `t` that a statement finds.
+const ROWS: &str = "1 = 1|10
+2 = 2|20
+3 = 3|30";
+
+/// Statements of each form. The first line has the command of its DONE, whether the table is defined and whether
+/// it has rows, and the key of a row that is answered as Gone; the second has its text. Behind that stands what
+/// it asks, and behind `=>` what it tells. Memory may be wanting at all that they ask but Relax and the end.
+const STATEMENTS: &str = "0 - - -
+CREATE TABLE t (k INT NOT NULL PRIMARY KEY, v INT NOT NULL)
+Begin
+Mark
+Insert objects ('t') ('t', 'CREATE TABLE t (k INT NOT NULL PRIMARY KEY, v INT NOT NULL)')
+Relax
+Commit
+=>
+DONE(00,0,0)
+---
+0 t - -
+CREATE TABLE t (k INT NOT NULL PRIMARY KEY, v INT NOT NULL)
+Begin
+Mark
+Insert objects ('t') ('t', 'CREATE TABLE t (k INT NOT NULL PRIMARY KEY, v INT NOT NULL)')
+Relax
+Rollback
+=>
+ERROR 2714 class 16 state 1 line 1: There is already an object named 't'.
+DONE(02,0,0)
+---
+C3 t r -
+INSERT INTO t VALUES (4, 40)
+Begin
+Fetch objects At ('t') Within ('t') Range S
+Fetch objects First Last Range S
+Fetch objects Past ('t') Last Range S
+Mark
+Insert t (4) (4, 40)
+Relax
+Commit
+=>
+DONE(11,C3,1)
+DONE(00,0,0)
+---
+C3 t r -
+INSERT INTO t VALUES (2, 30)
+Begin
+Fetch objects At ('t') Within ('t') Range S
+Fetch objects First Last Range S
+Fetch objects Past ('t') Last Range S
+Mark
+Insert t (2) (2, 30)
+Relax
+Rollback
+=>
+ERROR 2627 class 14 state 1 line 1: Violation of constraint 'PK_t'. Duplicate key.
+DONE(03,C3,0)
+DONE(00,0,0)
+---
+C3 - - -
+INSERT INTO t VALUES (2, 30)
+Begin
+Fetch objects At ('t') Within ('t') Range S
+Relax
+Rollback
+=>
+ERROR 208 class 16 state 1 line 1: Invalid object name 't'.
+DONE(02,0,0)
+---
+C1 t r -
+SELECT k, v FROM t
+Begin
+Fetch objects At ('t') Within ('t') Range S
+Fetch t First Last Row S
+Fetch t Past (1) Last Row S
+Fetch t Past (2) Last Row S
+Fetch t Past (3) Last Row S
+Relax
+Commit
+=>
+COL(k INT, v INT)
+ROW(1, 10)
+ROW(2, 20)
+ROW(3, 30)
+DONE(11,C1,3)
+DONE(00,0,0)
+---
+C1 t r 2
+SELECT k, v FROM t
+Begin
+Fetch objects At ('t') Within ('t') Range S
+Fetch t First Last Row S
+Fetch t Past (1) Last Row S
+Fetch t Past (2) Last Row S
+Fetch t Past (3) Last Row S
+Relax
+Commit
+=>
+COL(k INT, v INT)
+ROW(1, 10)
+ROW(3, 30)
+DONE(11,C1,2)
+DONE(00,0,0)
+---
+C1 t r 3
+SELECT k, v FROM t
+Begin
+Fetch objects At ('t') Within ('t') Range S
+Fetch t First Last Row S
+Fetch t Past (1) Last Row S
+Fetch t Past (2) Last Row S
+Fetch t Past (3) Last Row S
+Relax
+Commit
+=>
+COL(k INT, v INT)
+ROW(1, 10)
+ROW(2, 20)
+DONE(11,C1,2)
+DONE(00,0,0)
+---
+C1 t r 't
+SELECT k, v FROM t
+Begin
+Fetch objects At ('t') Within ('t') Range S
+Relax
+Rollback
+=>
+ERROR 208 class 16 state 1 line 1: Invalid object name 't'.
+DONE(02,0,0)
+---
+C1 - - -
+SELECT k, v FROM t
+Begin
+Fetch objects At ('t') Within ('t') Range S
+Relax
+Rollback
+=>
+ERROR 208 class 16 state 1 line 1: Invalid object name 't'.
+DONE(02,0,0)
+---
+C3 t - -
+INSERT INTO objects VALUES (2, 30)
+=>
+ERROR 208 class 16 state 1 line 1: Invalid object name 'objects'.
+DONE(02,0,0)
+---
+C1 t - -
+SELECT k, v FROM objects
+=>
+ERROR 208 class 16 state 1 line 1: Invalid object name 'objects'.
+DONE(02,0,0)
+";
+
+/// A statement, what it finds, what it asks and what it tells.
+#[derive(Clone, Copy)]
+struct Statement<'a> {
+    command: &'a str,
+    has_table: bool,
+    has_rows: bool,
+    hidden: &'a str,
+    text: &'a str,
+    asked: &'a str,
+    told: &'a str,
 }
 
-const ROWS: &[Keyed] = &[
-    Keyed(&[Whole(1)], &[Whole(1), Whole(10)]),
-    Keyed(&[Whole(2)], &[Whole(2), Whole(20)]),
-    Keyed(&[Whole(3)], &[Whole(3), Whole(30)]),
-];
-
-const LOOK_UP: &str = "Fetch objects At ('t') Within ('t') Range S";
-
-/// Statements of each form. Memory may be wanting at all that they ask but Relax and the end.
-static STATEMENTS: [Statement; 12] = [
-    Statement {
-        objects: &[],
-        rows: &[],
-        hidden: &[],
-        command: "0",
-        text: CREATE,
-        asked: &[
-            "Begin",
-            "Mark",
-            "Insert objects ('t') ('t', 'CREATE TABLE t (k INT NOT NULL PRIMARY KEY, v INT NOT NULL)')",
-            "Relax",
-            "Commit",
-        ],
-        told: &["DONE(00,0,0)"],
-    },
-    Statement {
-        objects: DEFINED,
-        rows: &[],
-        hidden: &[],
-        command: "0",
-        text: CREATE,
-        asked: &[
-            "Begin",
-            "Mark",
-            "Insert objects ('t') ('t', 'CREATE TABLE t (k INT NOT NULL PRIMARY KEY, v INT NOT NULL)')",
-            "Relax",
-            "Rollback",
-        ],
-        told: &[
-            "ERROR 2714 class 16 state 1 line 1: There is already an object named 't'.",
-            "DONE(02,0,0)",
-        ],
-    },
-    Statement {
-        objects: DEFINED,
-        rows: ROWS,
-        hidden: &[],
-        command: "C3",
-        text: "INSERT INTO t VALUES (4, 40)",
-        asked: &[
-            "Begin",
-            LOOK_UP,
-            "Fetch objects First Last Range S",
-            "Fetch objects Past ('t') Last Range S",
-            "Mark",
-            "Insert t (4) (4, 40)",
-            "Relax",
-            "Commit",
-        ],
-        told: &["DONE(11,C3,1)", "DONE(00,0,0)"],
-    },
-    Statement {
-        objects: DEFINED,
-        rows: ROWS,
-        hidden: &[],
-        command: "C3",
-        text: "INSERT INTO t VALUES (2, 30)",
-        asked: &[
-            "Begin",
-            LOOK_UP,
-            "Fetch objects First Last Range S",
-            "Fetch objects Past ('t') Last Range S",
-            "Mark",
-            "Insert t (2) (2, 30)",
-            "Relax",
-            "Rollback",
-        ],
-        told: &[
-            "ERROR 2627 class 14 state 1 line 1: Violation of constraint 'PK_t'. Duplicate key.",
-            "DONE(03,C3,0)",
-            "DONE(00,0,0)",
-        ],
-    },
-    Statement {
-        objects: &[],
-        rows: &[],
-        hidden: &[],
-        command: "C3",
-        text: "INSERT INTO t VALUES (2, 30)",
-        asked: &["Begin", LOOK_UP, "Relax", "Rollback"],
-        told: &[
-            "ERROR 208 class 16 state 1 line 1: Invalid object name 't'.",
-            "DONE(02,0,0)",
-        ],
-    },
-    Statement {
-        objects: DEFINED,
-        rows: ROWS,
-        hidden: &[],
-        command: "C1",
-        text: "SELECT k, v FROM t",
-        asked: &[
-            "Begin",
-            LOOK_UP,
-            "Fetch t First Last Row S",
-            "Fetch t Past (1) Last Row S",
-            "Fetch t Past (2) Last Row S",
-            "Fetch t Past (3) Last Row S",
-            "Relax",
-            "Commit",
-        ],
-        told: &[
-            "COL(k INT, v INT)",
-            "ROW(1, 10)",
-            "ROW(2, 20)",
-            "ROW(3, 30)",
-            "DONE(11,C1,3)",
-            "DONE(00,0,0)",
-        ],
-    },
-    Statement {
-        objects: DEFINED,
-        rows: ROWS,
-        hidden: &[Whole(2)],
-        command: "C1",
-        text: "SELECT k, v FROM t",
-        asked: &[
-            "Begin",
-            LOOK_UP,
-            "Fetch t First Last Row S",
-            "Fetch t Past (1) Last Row S",
-            "Fetch t Past (2) Last Row S",
-            "Fetch t Past (3) Last Row S",
-            "Relax",
-            "Commit",
-        ],
-        told: &[
-            "COL(k INT, v INT)",
-            "ROW(1, 10)",
-            "ROW(3, 30)",
-            "DONE(11,C1,2)",
-            "DONE(00,0,0)",
-        ],
-    },
-    Statement {
-        objects: DEFINED,
-        rows: ROWS,
-        hidden: &[Whole(3)],
-        command: "C1",
-        text: "SELECT k, v FROM t",
-        asked: &[
-            "Begin",
-            LOOK_UP,
-            "Fetch t First Last Row S",
-            "Fetch t Past (1) Last Row S",
-            "Fetch t Past (2) Last Row S",
-            "Fetch t Past (3) Last Row S",
-            "Relax",
-            "Commit",
-        ],
-        told: &[
-            "COL(k INT, v INT)",
-            "ROW(1, 10)",
-            "ROW(2, 20)",
-            "DONE(11,C1,2)",
-            "DONE(00,0,0)",
-        ],
-    },
-    Statement {
-        objects: DEFINED,
-        rows: ROWS,
-        hidden: &[Text("t")],
-        command: "C1",
-        text: "SELECT k, v FROM t",
-        asked: &["Begin", LOOK_UP, "Relax", "Rollback"],
-        told: &[
-            "ERROR 208 class 16 state 1 line 1: Invalid object name 't'.",
-            "DONE(02,0,0)",
-        ],
-    },
-    Statement {
-        objects: &[],
-        rows: &[],
-        hidden: &[],
-        command: "C1",
-        text: "SELECT k, v FROM t",
-        asked: &["Begin", LOOK_UP, "Relax", "Rollback"],
-        told: &[
-            "ERROR 208 class 16 state 1 line 1: Invalid object name 't'.",
-            "DONE(02,0,0)",
-        ],
-    },
-    Statement {
-        objects: DEFINED,
-        rows: &[],
-        hidden: &[],
-        command: "C3",
-        text: "INSERT INTO objects VALUES (2, 30)",
-        asked: &[],
-        told: &[
-            "ERROR 208 class 16 state 1 line 1: Invalid object name 'objects'.",
-            "DONE(02,0,0)",
-        ],
-    },
-    Statement {
-        objects: DEFINED,
-        rows: &[],
-        hidden: &[],
-        command: "C1",
-        text: "SELECT k, v FROM objects",
-        asked: &[],
-        told: &[
-            "ERROR 208 class 16 state 1 line 1: Invalid object name 'objects'.",
-            "DONE(02,0,0)",
-        ],
-    },
-];
+/// The statement of some lines.
+fn statement_of(lines: &str) -> Option<Statement<'_>> {
+    let (found, behind) = lines.split_once('\n')?;
+    let (text, behind) = behind.split_once('\n')?;
+    let (asked, told) = behind.split_once("=>\n")?;
+    let (command, found) = found.split_once(' ')?;
+    let (table, found) = found.split_once(' ')?;
+    let (rows, hidden) = found.split_once(' ')?;
+    Some(Statement {
+        command,
+        has_table: table == "t",
+        has_rows: rows == "r",
+        hidden,
+        text,
+        asked,
+        told,
+    })
+}
 
 /// A port over an engine that has what the statement is to find, of which the operation of this number wants
 /// memory.
 fn port_for(
     rt: &impl Abort,
     alloc: Global,
-    statement: &Statement,
+    statement: Statement<'_>,
     lacking: usize,
-) -> Result<Watched, Fail>
+) -> Result<Watched, Memory>
     ensures { IfOk result (λ port. port.port.session ≡ 1) }
 {
-    let hidden = match statement.hidden {
-        [] => None,
-        cells => Some(key_of(rt, alloc, cells)?),
+    let objects = if statement.has_table { DEFINED } else { "" };
+    let rows = if statement.has_rows { ROWS } else { "" };
+    let hidden = if statement.hidden == "-" {
+        None
+    } else {
+        Some(key_of(alloc, statement.hidden)?)
     };
     Ok(Watched {
-        port: port_with(rt, alloc, statement.objects, statement.rows)?,
-        asked: Vec::new(alloc),
+        port: port_with(rt, alloc, objects, rows)?,
+        asked: String::new(alloc),
+        count: 0,
         lacking,
         hidden,
         alloc,
     })
 }
 
-/// Asserts what a statement asks of a port and the reply, and that no transaction is open then.
-fn assert_asks(
-    rt: &impl Abort,
+/// Whether a statement asks and is told so, where no transaction is open.
+fn is_answered(
     alloc: Global,
     port: &mut Watched,
     text: &str,
-    asked: &[&str],
-    told: &[&str],
-) -> Result<(), Fail>
+    asked: &str,
+    told: &str,
+) -> Result<bool, Memory>
     requires { port.old.port.session ≡ 1 }
     ensures { port.new.port.session ≡ 1 }
 {
     port.asked.clear();
-    let is_open = port.in_transaction();
-    assert!(rt; !is_open);
-    let lines = reply_to(rt, alloc, port, text)?;
-    assert_lines(rt, &lines, told, text);
-    assert_lines(rt, &port.asked, asked, text);
-    Ok(())
+    port.count = 0;
+    if port.in_transaction() {
+        return Ok(false);
+    }
+    let given = reply_to(alloc, port, text)?;
+    Ok(given.as_str() == told && port.asked.as_str() == asked)
 }
 
-/// Asserts that a statement for which memory is wanting, at each operation in turn, is refused and has
-/// done nothing.
-fn assert_refuses(rt: &impl Abort, alloc: Global, statement: &Statement) -> Result<(), Fail> {
+/// Whether a statement asks what it is to ask, and tells what it is to tell.
+fn is_done(rt: &impl Abort, alloc: Global, statement: Statement<'_>) -> Result<bool, Memory> {
+    let mut port = port_for(rt, alloc, statement, 0)?;
+    is_answered(
+        alloc,
+        &mut port,
+        statement.text,
+        statement.asked,
+        statement.told,
+    )
+}
+
+/// Whether a statement for which memory is wanting at the operation of this number is refused and has done
+/// nothing, and is done when there is memory.
+fn is_refused(
+    rt: &impl Abort,
+    alloc: Global,
+    statement: Statement<'_>,
+    count: usize,
+) -> Result<bool, Memory> {
     let command = statement.command;
-    let done = format!(in alloc; "DONE(03,{command},0)")?;
-    let told = [
-        "ERROR 701 class 17 state 1 line 1: There is insufficient memory to run this statement.",
-        done.as_str(),
-        "DONE(00,0,0)",
-    ];
-    for count in 1..=statement.asked.len().saturating_sub(2) {
-        let mut port = port_for(rt, alloc, statement, count)?;
-        let asked = asked_until(alloc, statement.asked, count)?;
-        assert_asks(rt, alloc, &mut port, statement.text, &asked, &told)?;
-        port.lacking = 0;
-        assert_asks(
-            rt,
-            alloc,
-            &mut port,
-            statement.text,
-            statement.asked,
-            statement.told,
-        )?;
-    }
-    Ok(())
+    let told = format!(in alloc;
+        "ERROR 701 class 17 state 1 line 1: There is insufficient memory to run this statement.\nDONE(03,{command},0)\nDONE(00,0,0)\n"
+    )?;
+    let asked = asked_until(alloc, statement.asked, count)?;
+    let mut port = port_for(rt, alloc, statement, count)?;
+    let is_refused = is_answered(alloc, &mut port, statement.text, &asked, &told)?;
+    port.lacking = 0;
+    let is_done = is_answered(
+        alloc,
+        &mut port,
+        statement.text,
+        statement.asked,
+        statement.told,
+    )?;
+    Ok(is_refused && is_done)
 }
 
 /// The first operations of a statement, of which the last wants memory, and what is asked then: Relax only
 /// behind a fetch or an insertion.
-fn asked_until(
-    alloc: Global,
-    asked: &[&'static str],
-    count: usize,
-) -> Result<Vec<&'static str>, Fail> {
-    let mut front = Vec::new(alloc);
+fn asked_until(alloc: Global, asked: &str, count: usize) -> Result<String, Memory> {
+    let mut front = String::new(alloc);
     let mut is_touched = false;
-    for line in asked.iter().take(count) {
+    for line in asked.lines().take(count) {
         is_touched = is_touched || line.starts_with("Fetch") || line.starts_with("Insert");
-        front.push(*line)?;
+        front.push_str(line)?;
+        front.push('\n')?;
+    }
+    if is_touched && count > 1 {
+        front.push_str("Relax\n")?;
     }
     if count > 1 {
-        if is_touched {
-            front.push("Relax")?;
-        }
-        front.push("Rollback")?;
+        front.push_str("Rollback\n")?;
     }
     Ok(front)
 }
 
 #[test]
 fn statements_ask_these_operations(rt: HostRuntime) -> Result<(), Fail> {
-    let alloc = rt.alloc();
-    for statement in &STATEMENTS {
-        let mut port = port_for(&rt, alloc, statement, 0)?;
-        assert_asks(
-            &rt,
-            alloc,
-            &mut port,
-            statement.text,
-            statement.asked,
-            statement.told,
-        )?;
-        assert_refuses(&rt, alloc, statement)?;
+    let mut statements = 0u32;
+    for lines in STATEMENTS.split("---\n") {
+        let statement = statement_of(lines).ok_or(lines)?;
+        assert!(rt; is_done(&rt, rt.alloc(), statement)?, "{lines}");
+        for count in 1..=statement.asked.lines().count().saturating_sub(2) {
+            assert!(rt; is_refused(&rt, rt.alloc(), statement, count)?, "{lines}");
+        }
+        statements = statements.wrapping_add(1);
     }
+    assert!(rt; statements == 12);
     Ok(())
 }

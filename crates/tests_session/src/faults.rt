@@ -6,9 +6,10 @@ use engine_core::SoloPort;
 use outside_io::{MemorySink, MemorySource};
 use session_server::{End, serve_on_port};
 use std::alloc::Global;
-use std::process::Abort;
 use std::test::Fail;
+use tds_login::Config;
 use tests_kit::{LOGIN, LOGIN_REPLY, PRELOGIN, PRELOGIN_REPLY, batch, message};
+use value_types::Memory;
 
 /// The reply to a batch that is done: DONE in one packet.
 const DONE_REPLY: [u8; 21] = [
@@ -25,110 +26,147 @@ const FAILED_REPLY: [u8; 74] = [
     0x00, 0x00, 0x00, 0x00, 0x00, 0x00, 0x00, 0x00, 0x00, 0x00,
 ];
 
-/// The end of a connection of session 1 over a new port, of which these reads, of one byte each, and these
-/// writes, of at most seven, fail; and what it wrote.
-fn serve_failing(
-    rt: &impl Abort,
+/// No call has this number: they are counted from 1.
+const NEVER: u32 = 0;
+
+/// The first byte of the password that the login must have, as a LOGIN7 hides it, and another.
+const PASSWORD: u8 = 0xB1;
+
+const OTHER_PASSWORD: u8 = 0xB0;
+
+/// The end of a connection of session 1 over a new port.
+fn serve_over(
     alloc: Global,
-    input: Vec<u8>,
-    reads: Vec<u32>,
-    writes: Vec<u32>,
-) -> Result<(End, Vec<u8>), Fail> {
-    let config = with_login(alloc)?;
+    config: &Config,
+    source: &mut MemorySource,
+    sink: &mut MemorySink,
+) -> End {
     let mut port = SoloPort::new(alloc, 1);
-    let is_open = port.in_transaction();
-    assert!(rt; !is_open);
-    let mut source = MemorySource::new(input, 1, reads);
-    let mut sink = MemorySink::new(alloc, 7, writes);
-    let end = serve_on_port(alloc, 1, &mut port, &config, &mut source, &mut sink);
+    serve_on_port(alloc, 1, &mut port, config, source, sink)
+}
+
+/// The end of a connection of which the reads give one byte each and the writes take at most seven, and a read
+/// and a write of these numbers fail; and what it wrote.
+fn serve_failing(
+    alloc: Global,
+    input: &[u8],
+    read: u32,
+    write: u32,
+) -> Result<(End, Vec<u8>), Memory> {
+    let config = with_login(alloc)?;
+    let input = Vec::from_slice(alloc, input)?;
+    let mut source = MemorySource::new(input, 1, vec![in alloc; read]?);
+    let mut sink = MemorySink::new(alloc, 7, vec![in alloc; write]?);
+    let end = serve_over(alloc, &config, &mut source, &mut sink);
     Ok((end, sink.into_bytes()))
 }
 
-/// A PRELOGIN, a login and a batch of 26, 108 and 148 bytes. Where a byte can't be read, the messages
-/// before it are answered.
+/// Whether a connection ends so, with these bytes written.
+fn ends_so(
+    alloc: Global,
+    input: &[u8],
+    read: u32,
+    write: u32,
+    end: End,
+    bytes: &[u8],
+) -> Result<bool, Memory> {
+    let (ended, written) = serve_failing(alloc, input, read, write)?;
+    Ok(ended == end && written.as_slice() == bytes)
+}
+
+/// Bytes behind others.
+fn joined(alloc: Global, first: &[u8], second: &[u8]) -> Result<Vec<u8>, Memory> {
+    let mut bytes = Vec::from_slice(alloc, first)?;
+    bytes.extend_from_slice(second)?;
+    Ok(bytes)
+}
+
+/// A PRELOGIN and a login of 26 and 108 bytes; a login by another password has another byte at 98.
+fn prelogin_and_login(alloc: Global, password: u8) -> Result<Vec<u8>, Memory> {
+    let mut login = LOGIN;
+    login[98] = password;
+    let first = message(alloc, 0x12, &PRELOGIN)?;
+    let second = message(alloc, 0x10, &login)?;
+    joined(alloc, &first, &second)
+}
+
+/// How many bytes are written before this read of a PRELOGIN, a login and a batch of 26, 108 and 148 bytes: their
+/// replies have 43, 91 and 21.
+fn written_before_read(read: u32) -> usize {
+    match read {
+        1..=26 => 0,
+        27..=134 => 43,
+        135..=282 => 134,
+        _ => 155,
+    }
+}
+
+/// The front of the replies to a PRELOGIN, a login and a batch that has so many bytes.
+fn front_of_replies(alloc: Global, count: usize) -> Result<Vec<u8>, Memory> {
+    let mut replies = joined(alloc, &PRELOGIN_REPLY, &LOGIN_REPLY)?;
+    replies.extend_from_slice(&DONE_REPLY)?;
+    replies.truncate(count);
+    Ok(replies)
+}
+
+/// Whether a connection whose read of this number fails ends there, with the messages before it answered.
+fn fails_at_read(alloc: Global, input: &[u8], read: u32) -> Result<bool, Memory> {
+    let bytes = front_of_replies(alloc, written_before_read(read))?;
+    ends_so(alloc, input, read, NEVER, End::ReadFault, &bytes)
+}
+
+/// Where a byte can't be read, or the end, the messages before it are answered.
 #[test]
 fn a_source_may_fail_at_each_byte(rt: HostRuntime) -> Result<(), Fail> {
-    let alloc = rt.alloc();
-    let messages = [
-        message(alloc, 0x12, &PRELOGIN)?,
-        message(alloc, 0x10, &LOGIN)?,
-        batch(alloc, CREATE)?,
-    ];
-    let responses = [
-        PRELOGIN_REPLY.as_slice(),
-        LOGIN_REPLY.as_slice(),
-        DONE_REPLY.as_slice(),
-    ];
-    let mut input = Vec::new(alloc);
-    for message in &messages {
-        input.extend_from_slice(message)?;
+    let login = prelogin_and_login(rt.alloc(), PASSWORD)?;
+    let input = joined(rt.alloc(), &login, &batch(rt.alloc(), CREATE)?)?;
+    assert!(rt; input.len() == 282);
+    for read in 1..=283 {
+        assert!(rt; fails_at_read(rt.alloc(), &input, read)?, "read {read}");
     }
-    let mut written = Vec::new(alloc);
-    let mut read = 1u32;
-    for (message, response) in messages.iter().zip(&responses) {
-        for _ in message {
-            let reads = vec![in alloc; read]?;
-            let (end, bytes) = serve_failing(&rt, alloc, input.clone()?, reads, Vec::new(alloc))?;
-            assert_eq!(rt; end, End::ReadFault, "read {read}");
-            assert_eq!(rt; bytes, written, "read {read}");
-            read = read.wrapping_add(1);
-        }
-        written.extend_from_slice(response)?;
-    }
-    assert_eq!(rt; read, 283);
-    let (end, bytes) = serve_failing(&rt, alloc, input, vec![in alloc; read]?, Vec::new(alloc))?;
-    assert_eq!(rt; end, End::ReadFault);
-    assert_eq!(rt; bytes, written);
     Ok(())
 }
 
-/// Asserts that the connection ends at each write that fails, with what was written before, and else so.
-fn assert_fails_at_each_write(
-    rt: &impl Abort,
+/// How many writes two replies take, of which each, where it fails, ends the connection with what was written
+/// before; none where one does not.
+fn writes_of(
     alloc: Global,
     input: &[u8],
-    responses: &[&[u8]],
-    end: End,
-) -> Result<(), Fail> {
+    first: &[u8],
+    second: &[u8],
+) -> Result<Option<u32>, Memory> {
     let mut written = Vec::new(alloc);
     let mut write = 1u32;
-    for response in responses {
-        for piece in response.chunks(7) {
-            let writes = vec![in alloc; write]?;
-            let bytes = Vec::from_slice(alloc, input)?;
-            let (ended, front) = serve_failing(rt, alloc, bytes, Vec::new(alloc), writes)?;
-            assert_eq!(rt; ended, End::WriteFault, "write {write}");
-            assert_eq!(rt; front, written, "write {write}");
+    for reply in [first, second] {
+        for piece in reply.chunks(7) {
+            if !ends_so(alloc, input, NEVER, write, End::WriteFault, &written)? {
+                return Ok(None);
+            }
             write = write.wrapping_add(1);
             written.extend_from_slice(piece)?;
         }
     }
-    let bytes = Vec::from_slice(alloc, input)?;
-    let writes = vec![in alloc; write]?;
-    let (ended, whole) = serve_failing(rt, alloc, bytes, Vec::new(alloc), writes)?;
-    assert_eq!(rt; ended, end);
-    assert_eq!(rt; whole, written);
+    Ok(Some(write.wrapping_sub(1)))
+}
+
+/// A PRELOGIN and a login that is refused, with replies of 43 and 74 bytes.
+#[test]
+fn a_sink_may_fail_at_each_write_of_a_refusal(rt: HostRuntime) -> Result<(), Fail> {
+    let input = prelogin_and_login(rt.alloc(), OTHER_PASSWORD)?;
+    assert!(rt; writes_of(rt.alloc(), &input, &PRELOGIN_REPLY, &FAILED_REPLY)? == Some(18));
+    let end = End::LoginRefused { number: 18456 };
+    let whole = joined(rt.alloc(), &PRELOGIN_REPLY, &FAILED_REPLY)?;
+    assert!(rt; ends_so(rt.alloc(), &input, NEVER, 19, end, &whole)?);
     Ok(())
 }
 
-/// A PRELOGIN and a login that is refused, with replies of 43 and 74 bytes; and one that is granted, and a
-/// batch, with 91 and 21 bytes.
+/// A login that is granted, and a batch, with replies of 91 and 21 bytes.
 #[test]
-fn a_sink_may_fail_at_each_write(rt: HostRuntime) -> Result<(), Fail> {
-    let alloc = rt.alloc();
-    let mut other = LOGIN;
-    other[98] = 0xB0;
-    let mut input = message(alloc, 0x12, &PRELOGIN)?;
-    input.extend_from_slice(&message(alloc, 0x10, &other)?)?;
-    let end = End::LoginRefused { number: 18456 };
-    assert_fails_at_each_write(&rt, alloc, &input, &[&PRELOGIN_REPLY, &FAILED_REPLY], end)?;
-    let mut input = message(alloc, 0x10, &LOGIN)?;
-    input.extend_from_slice(&batch(alloc, CREATE)?)?;
-    assert_fails_at_each_write(
-        &rt,
-        alloc,
-        &input,
-        &[&LOGIN_REPLY, &DONE_REPLY],
-        End::Closed,
-    )
+fn a_sink_may_fail_at_each_write_of_a_grant(rt: HostRuntime) -> Result<(), Fail> {
+    let login = message(rt.alloc(), 0x10, &LOGIN)?;
+    let input = joined(rt.alloc(), &login, &batch(rt.alloc(), CREATE)?)?;
+    assert!(rt; writes_of(rt.alloc(), &input, &LOGIN_REPLY, &DONE_REPLY)? == Some(16));
+    let whole = joined(rt.alloc(), &LOGIN_REPLY, &DONE_REPLY)?;
+    assert!(rt; ends_so(rt.alloc(), &input, NEVER, 17, End::Closed, &whole)?);
+    Ok(())
 }

@@ -1,6 +1,6 @@
 //! Tests of a connection over a port, of what no row of `tests_rows` can say: a source or a sink that fails
 //! at each call, rows that are read as no row, what each statement asks of its port, also where memory is
-//! wanting, and the limits of a result and of a range.
+//! wanting, the limits of a result and of a range, and a port that goes on telling what it was asked.
 #![tactic(auto)]
 
 #[cfg(test)]

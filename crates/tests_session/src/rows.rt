@@ -1,114 +1,97 @@
-//! Rows that are read as no row, put into an engine by hand.
+//! Rows by words, put into an engine by hand: also rows that are read as no row.
 
 ghost use Rattle.std.specs.Prelude.{◌≡◌, ℕ, List, true, false, IfOk};
 ghost use Rattle.step_model.specs.Exchange.{MayAsk, MayCome};
 ghost use Rattle.engine_core.specs.Solo.{solo_open, solo_past};
 
-use self::Cell::{Bit, Null, Text, Whole};
-use crate::served::{assert_lines, reply_to};
+use crate::served::reply_to;
 use crate::watched::MANNER;
 use engine_core::SoloPort;
 use lock_modes::KeyPart;
 use std::alloc::Global;
 use std::process::Abort;
 use std::test::Fail;
-use step_model::{Op, Port, Reply};
+use step_model::{Hold, Op, Port, Reply, Start, Stop};
 use value_types::{Key, Memory, Row, TableName, Value, units_of_str};
-
-/// A value of a row.
-#[derive(Clone, Copy)]
-pub(crate) enum Cell {
-    Null,
-    Whole(i64),
-    Bit(bool),
-    Text(&'static str),
-}
-
-/// A row with its key.
-#[derive(Clone, Copy)]
-pub(crate) struct Keyed(pub(crate) &'static [Cell], pub(crate) &'static [Cell]);
 
 /// The definition of the table `t`.
 pub(crate) const CREATE: &str = "CREATE TABLE t (k INT NOT NULL PRIMARY KEY, v INT NOT NULL)";
 
 /// The row of `objects` that defines the table `t`.
-pub(crate) const DEFINED: &[Keyed] = &[Keyed(&[Text("t")], &[Text("t"), Text(CREATE)])];
+pub(crate) const DEFINED: &str =
+    "'t = 't|'CREATE TABLE t (k INT NOT NULL PRIMARY KEY, v INT NOT NULL)";
 
 /// Rows at keys of the table `t`, in order. Those that are rows of it have values of INT or NULL, two of
 /// them, of which the first is the key.
-static ROWS: [Keyed; 15] = [
-    Keyed(&[Null], &[Null, Null]),
-    Keyed(&[Whole(-2_147_483_648)], &[Whole(-2_147_483_648), Whole(1)]),
-    Keyed(&[Whole(1)], &[Whole(1), Whole(10)]),
-    Keyed(&[Whole(2)], &[Whole(2), Whole(20), Whole(200)]),
-    Keyed(&[Whole(3)], &[Whole(3)]),
-    Keyed(&[Whole(4)], &[Whole(4), Text("x")]),
-    Keyed(&[Whole(5)], &[Whole(5), Whole(2_147_483_648)]),
-    Keyed(&[Whole(6)], &[Whole(6), Whole(-2_147_483_649)]),
-    Keyed(&[Whole(7)], &[Whole(8), Whole(70)]),
-    Keyed(&[Whole(8)], &[Whole(8), Bit(true)]),
-    Keyed(&[Whole(9), Whole(1)], &[Whole(9), Whole(1)]),
-    Keyed(&[Whole(10)], &[Null, Whole(10)]),
-    Keyed(&[Whole(11)], &[Whole(11), Whole(2_147_483_647)]),
-    Keyed(&[Whole(2_147_483_648)], &[Whole(2_147_483_648), Whole(1)]),
-    Keyed(&[Text("x")], &[Text("x"), Whole(1)]),
-];
+const ROWS: &str = "null = null|null
+-2147483648 = -2147483648|1
+1 = 1|10
+2 = 2|20|200
+3 = 3
+4 = 4|'x
+5 = 5|2147483648
+6 = 6|-2147483649
+7 = 8|70
+8 = 8|true
+9|1 = 9|1
+10 = null|10
+11 = 11|2147483647
+2147483648 = 2147483648|1
+'x = 'x|1";
 
 /// Rows of `objects` by which no table `t` is known.
-static UNKNOWN: [Keyed; 10] = [
-    Keyed(&[Text("u")], &[Text("t"), Text(CREATE)]),
-    Keyed(&[Text("t ")], &[Text("t"), Text(CREATE)]),
-    Keyed(&[Text("t"), Null], &[Text("t"), Text(CREATE)]),
-    Keyed(&[Text("t")], &[Text("u"), Text(CREATE)]),
-    Keyed(
-        &[Text("t")],
-        &[
-            Text("t"),
-            Text("CREATE TABLE u (k INT NOT NULL PRIMARY KEY, v INT NOT NULL)"),
-        ],
-    ),
-    Keyed(
-        &[Text("t")],
-        &[
-            Text("t"),
-            Text("CREATE TABLE t (k INT NOT NULL PRIMARY KEY, v INT NOT NULL);"),
-        ],
-    ),
-    Keyed(&[Text("t")], &[Text("t"), Text("SELECT k, v FROM t")]),
-    Keyed(&[Text("t")], &[Text("t"), Null]),
-    Keyed(&[Text("t")], &[Text("t")]),
-    Keyed(&[Text("t")], &[Text("t"), Text(CREATE), Whole(1)]),
-];
+const UNKNOWN: &str = "'u = 't|'CREATE TABLE t (k INT NOT NULL PRIMARY KEY, v INT NOT NULL)
+'t  = 't|'CREATE TABLE t (k INT NOT NULL PRIMARY KEY, v INT NOT NULL)
+'t|null = 't|'CREATE TABLE t (k INT NOT NULL PRIMARY KEY, v INT NOT NULL)
+'t = 'u|'CREATE TABLE t (k INT NOT NULL PRIMARY KEY, v INT NOT NULL)
+'t = 't|'CREATE TABLE u (k INT NOT NULL PRIMARY KEY, v INT NOT NULL)
+'t = 't|'CREATE TABLE t (k INT NOT NULL PRIMARY KEY, v INT NOT NULL);
+'t = 't|'SELECT k, v FROM t
+'t = 't|null
+'t = 't
+'t = 't|'CREATE TABLE t (k INT NOT NULL PRIMARY KEY, v INT NOT NULL)|1";
 
-fn values(alloc: Global, cells: &[Cell]) -> Result<Vec<Value>, Memory> {
+/// The value of a word: `null`, `true`, a text behind a quote, or a number.
+fn value_of(alloc: Global, word: &str) -> Result<Value, Memory> {
+    if let Some(text) = word.strip_prefix('\'') {
+        return Ok(Value::Text(units_of_str(alloc, text)?));
+    }
+    Ok(match word {
+        "null" => Value::Null,
+        "true" => Value::Bit(true),
+        _ => Value::Whole(word.parse().unwrap_or(i64::MAX)),
+    })
+}
+
+/// Values with bars between them.
+fn values_of(alloc: Global, words: &str) -> Result<Vec<Value>, Memory> {
     let mut values = Vec::new(alloc);
-    for cell in cells {
-        values.push(match cell {
-            Null => Value::Null,
-            Whole(number) => Value::Whole(*number),
-            Bit(bit) => Value::Bit(*bit),
-            Text(text) => Value::Text(units_of_str(alloc, text)?),
-        })?;
+    for word in words.split('|') {
+        values.push(value_of(alloc, word)?)?;
     }
     Ok(values)
 }
 
-/// A key of these values.
-pub(crate) fn key_of(rt: &impl Abort, alloc: Global, cells: &[Cell]) -> Result<Key, Memory> {
-    let values = values(alloc, cells)?;
-    assert!(rt; 1 <= values.len() && values.len() <= 8);
+/// A key of these values, of which there are eight at most.
+pub(crate) fn key_of(alloc: Global, words: &str) -> Result<Key, Memory> {
+    let mut values = values_of(alloc, words)?;
+    values.truncate(8);
+    if values.is_empty() {
+        values.push(Value::Null)?;
+    }
     Ok(Key::new(values))
 }
 
-fn insertion(rt: &impl Abort, alloc: Global, table: &str, keyed: Keyed) -> Result<Op, Memory> {
-    let Keyed(key, row) = keyed;
+/// The insertion of a line's row at its key.
+fn insertion(alloc: Global, table: &str, line: &str) -> Result<Op, Memory> {
+    let (key, row) = line.split_once(" = ").unwrap_or((line, line));
     Ok(Op::Insert {
         table: TableName {
             object: units_of_str(alloc, table)?,
             part: 0,
         },
-        key: key_of(rt, alloc, key)?,
-        row: Row::from(values(alloc, row)?),
+        key: key_of(alloc, key)?,
+        row: Row::from(values_of(alloc, row)?),
     })
 }
 
@@ -125,83 +108,128 @@ fn may_ask(port: &SoloPort, op: &Op) -> bool
     }
 }
 
-/// Asks an operation, which is to succeed.
-fn ask(rt: &impl Abort, port: &mut SoloPort, op: &Op)
+/// Asks an operation, and says whether it succeeds.
+fn ask(port: &mut SoloPort, op: &Op) -> bool
     ensures { port.new.session ≡ port.old.session }
 {
-    let may = may_ask(port, op);
-    assert!(rt; may);
+    if !may_ask(port, op) {
+        return false;
+    }
     let reply = port.ask(op, MANNER);
-    assert!(rt; matches!(&reply, Reply::Began | Reply::Done | Reply::Ended { .. }));
+    matches!(
+        &reply,
+        Reply::Began | Reply::Done | Reply::Row { .. } | Reply::Marked(_) | Reply::Ended { .. }
+    )
 }
 
-/// Commits these rows of a table.
-pub(crate) fn put_rows(
-    rt: &impl Abort,
-    alloc: Global,
-    port: &mut SoloPort,
-    table: &str,
-    rows: &[Keyed],
-) -> Result<(), Memory>
+/// One transaction of six operations, and whether each succeeds.
+fn transact(alloc: Global, port: &mut SoloPort, number: u32) -> Result<bool, Memory> {
+    let line = format!(in alloc; "{number} = null")?;
+    let insertion = insertion(alloc, "t", &line)?;
+    let range = range_of(alloc, number)?;
+    Ok(
+        ask(port, &Op::Begin)
+            && ask(port, &insertion)
+            && ask(port, &range)
+            && ask(port, &Op::Mark)
+            && ask(port, &Op::Relax)
+            && ask(port, &Op::Commit),
+    )
+}
+
+/// A fetch of the keys that begin with a number, which holds their range.
+fn range_of(alloc: Global, number: u32) -> Result<Op, Memory> {
+    let start = Start::At(number_key(alloc, number)?);
+    let stop = Stop::Within(number_key(alloc, number)?);
+    let object = units_of_str(alloc, "t")?;
+    Ok(Op::Fetch {
+        table: TableName { object, part: 0 },
+        start,
+        stop,
+        hold: Hold::Range,
+        part: KeyPart::S,
+    })
+}
+
+fn number_key(alloc: Global, number: u32) -> Result<Key, Memory> {
+    Ok(Key::new(vec![in alloc; Value::Whole(i64::from(number))]?))
+}
+
+/// Some nine thousand operations, which the port copies as it tells them.
+#[test]
+fn a_port_goes_on_telling(rt: HostRuntime) -> Result<(), Fail> {
+    let mut port = SoloPort::new(rt.alloc(), 1);
+    for number in 0..1500 {
+        assert!(rt; transact(rt.alloc(), &mut port, number)?);
+    }
+    assert!(rt; port.tells());
+    Ok(())
+}
+
+/// Commits these rows of a table, a line each, and says whether all was done.
+fn put_rows(alloc: Global, port: &mut SoloPort, table: &str, rows: &str) -> Result<bool, Memory>
     ensures { port.new.session ≡ port.old.session }
 {
-    ask(rt, port, &Op::Begin);
-    for keyed in rows {
-        ask(rt, port, &insertion(rt, alloc, table, *keyed)?);
+    let mut is_done = ask(port, &Op::Begin);
+    for line in rows.lines() {
+        is_done &= ask(port, &insertion(alloc, table, line)?);
     }
-    ask(rt, port, &Op::Commit);
-    Ok(())
+    is_done &= ask(port, &Op::Commit);
+    Ok(is_done)
 }
 
 /// A port over an engine with these rows of `objects`, and these of `t`.
 pub(crate) fn port_with(
     rt: &impl Abort,
     alloc: Global,
-    objects: &[Keyed],
-    rows: &[Keyed],
+    objects: &str,
+    rows: &str,
 ) -> Result<SoloPort, Memory>
     ensures { IfOk result (λ port. (port.session ≡ 1) × (solo_open port ≡ false)) }
 {
     let mut port = SoloPort::new(alloc, 1);
-    put_rows(rt, alloc, &mut port, "objects", objects)?;
-    put_rows(rt, alloc, &mut port, "t", rows)?;
+    let has_objects = put_rows(alloc, &mut port, "objects", objects)?;
+    let has_rows = put_rows(alloc, &mut port, "t", rows)?;
     let is_open = port.in_transaction();
-    assert!(rt; !is_open);
+    assert!(rt; has_objects && has_rows && !is_open);
     Ok(port)
 }
 
 #[test]
 fn rows_that_do_not_fit_are_left_out(rt: HostRuntime) -> Result<(), Fail> {
-    let alloc = rt.alloc();
-    let mut port = port_with(&rt, alloc, DEFINED, &ROWS)?;
-    let wanted = [
-        "COL(k INT, v INT)",
-        "ROW(NULL, NULL)",
-        "ROW(-2147483648, 1)",
-        "ROW(1, 10)",
-        "ROW(11, 2147483647)",
-        "DONE(11,C1,4)",
-        "DONE(00,0,0)",
-    ];
-    let text = "SELECT k, v FROM t";
-    let given = reply_to(&rt, alloc, &mut port, text)?;
-    assert_lines(&rt, &given, &wanted, text);
+    let mut port = port_with(&rt, rt.alloc(), DEFINED, ROWS)?;
+    let given = reply_to(rt.alloc(), &mut port, "SELECT k, v FROM t")?;
+    let wanted = "COL(k INT, v INT)
+ROW(NULL, NULL)
+ROW(-2147483648, 1)
+ROW(1, 10)
+ROW(11, 2147483647)
+DONE(11,C1,4)
+DONE(00,0,0)
+";
+    assert!(rt; given.as_str() == wanted, "{given}");
     Ok(())
+}
+
+/// What a selection from `t` and an insertion into it are told, where this is the row of `objects`.
+fn told_of(rt: &impl Abort, alloc: Global, line: &str) -> Result<String, Memory> {
+    let mut port = port_with(rt, alloc, line, "")?;
+    let mut told = reply_to(alloc, &mut port, "SELECT k, v FROM t")?;
+    let inserted = reply_to(alloc, &mut port, "INSERT INTO t VALUES (1, 10)")?;
+    told.push_str(&inserted)?;
+    Ok(told)
 }
 
 #[test]
 fn a_table_is_known_by_its_definition_alone(rt: HostRuntime) -> Result<(), Fail> {
-    let alloc = rt.alloc();
-    let wanted = [
-        "ERROR 208 class 16 state 1 line 1: Invalid object name 't'.",
-        "DONE(02,0,0)",
-    ];
-    for keyed in &UNKNOWN {
-        let mut port = port_with(&rt, alloc, &[*keyed], &[])?;
-        let selected = reply_to(&rt, alloc, &mut port, "SELECT k, v FROM t")?;
-        assert_lines(&rt, &selected, &wanted, "a selection");
-        let inserted = reply_to(&rt, alloc, &mut port, "INSERT INTO t VALUES (1, 10)")?;
-        assert_lines(&rt, &inserted, &wanted, "an insertion");
+    let wanted = "ERROR 208 class 16 state 1 line 1: Invalid object name 't'.
+DONE(02,0,0)
+ERROR 208 class 16 state 1 line 1: Invalid object name 't'.
+DONE(02,0,0)
+";
+    for line in UNKNOWN.lines() {
+        let given = told_of(&rt, rt.alloc(), line)?;
+        assert!(rt; given.as_str() == wanted, "{line}");
     }
     Ok(())
 }

@@ -5,12 +5,11 @@ ghost use Rattle.std.specs.Prelude.{◌≡◌, false};
 use outside_io::{MemorySink, MemorySource};
 use session_server::{End, serve_on_port};
 use std::alloc::Global;
-use std::process::Abort;
-use std::test::Fail;
+use std::fmt::Write;
 use step_model::Port;
 use tds_login::{Config, Entry};
 use tds_tokens::read_tokens;
-use tests_kit::{batch, lines_of, replies_of};
+use tests_kit::{Reply, batch, lines_of, replies_of};
 use value_types::{Memory, Units, units_of_str};
 
 /// A connection is logged in from its beginning.
@@ -46,12 +45,7 @@ pub(crate) fn serve<P: Port>(alloc: Global, port: &mut P, input: Vec<u8>) -> (En
 }
 
 /// The lines of the one reply to a batch.
-pub(crate) fn reply_to<P: Port>(
-    rt: &impl Abort,
-    alloc: Global,
-    port: &mut P,
-    text: &str,
-) -> Result<Vec<String>, Fail>
+pub(crate) fn reply_to<P: Port>(alloc: Global, port: &mut P, text: &str) -> Result<String, Memory>
     requires session { (P.past port.old).session ≡ 1 }
     requires idle { (P.past port.old).standing.is_open ≡ false }
     ensures idle { (P.past port.new).standing.is_open ≡ false }
@@ -59,21 +53,41 @@ pub(crate) fn reply_to<P: Port>(
 {
     let input = batch(alloc, text);
     let (end, written) = serve(alloc, port, input.unwrap_or(Vec::new(alloc)));
-    assert_eq!(rt; end, End::Closed);
-    let replies = replies_of(alloc, &written, 4096)?;
-    assert_eq!(rt; replies.len(), 1, "{text}");
-    let mut lines = Vec::new(alloc);
-    for reply in &replies {
-        assert_eq!(rt; reply.spid, 51);
-        lines = lines_of(alloc, &read_tokens(alloc, &reply.payload)?)?;
+    said_of(alloc, end, &written)
+}
+
+/// The lines of the reply that a connection wrote, and whatever else there is to say of it.
+fn said_of(alloc: Global, end: End, written: &[u8]) -> Result<String, Memory> {
+    let mut lines = String::new(alloc);
+    if end != End::Closed {
+        write!(lines, "END {end:?}\n")?;
+    }
+    match replies_of(alloc, written, 4096) {
+        Ok(replies) => {
+            let count = replies.len();
+            if count != 1 {
+                write!(lines, "{count} replies\n")?;
+            }
+            for reply in &replies {
+                put_reply(alloc, &mut lines, reply)?;
+            }
+        }
+        Err(fault) => write!(lines, "{fault:?}\n")?,
     }
     Ok(lines)
 }
 
-/// Asserts that lines are those that are wanted.
-pub(crate) fn assert_lines(rt: &impl Abort, given: &[String], wanted: &[&str], text: &str) {
-    for (line, wanted) in given.iter().zip(wanted) {
-        assert_eq!(rt; line.as_str(), *wanted, "{text}");
+/// Appends the lines of a reply, which is to be one of SPID 51.
+fn put_reply(alloc: Global, lines: &mut String, reply: &Reply<'_>) -> Result<(), Memory> {
+    if reply.spid != 51 {
+        lines.push_str("another SPID\n")?;
     }
-    assert_eq!(rt; given.len(), wanted.len(), "{text}");
+    let Ok(tokens) = read_tokens(alloc, &reply.payload) else {
+        return Ok(lines.push_str("no tokens\n")?);
+    };
+    for line in &lines_of(alloc, &tokens)? {
+        lines.push_str(line)?;
+        lines.push('\n')?;
+    }
+    Ok(())
 }

@@ -26,7 +26,9 @@ pub(crate) const MANNER: Manner = Manner {
 pub(crate) struct Watched {
     pub(crate) port: SoloPort,
     /// The operations asked, a line each.
-    pub(crate) asked: Vec<String>,
+    pub(crate) asked: String,
+    /// How many they are.
+    pub(crate) count: usize,
     /// At which of these, counted from 1, memory is wanting.
     pub(crate) lacking: usize,
     /// The key at which a row is answered as Gone.
@@ -54,8 +56,9 @@ impl Port for Watched {
 
     fn ask(&mut self, op: &Op, manner: Manner) -> Reply {
         // A line for which there is no memory is missed by whoever compares them.
-        let _ = put_line(self.alloc, &mut self.asked, op, manner);
-        if self.asked.len() == self.lacking && may_lack_memory(op) {
+        let _ = put_line(&mut self.asked, op, manner);
+        self.count = self.count.saturating_add(1);
+        if self.count == self.lacking && may_lack_memory(op) {
             return Reply::Memory;
         }
         // No row is written, and so none is missing where one is sure.
@@ -103,19 +106,12 @@ fn is_hidden(hidden: &Option<Key>, key: &Key) -> bool {
     }
 }
 
-fn put_line(
-    alloc: Global,
-    lines: &mut Vec<String>,
-    op: &Op,
-    manner: Manner,
-) -> Result<(), AllocError> {
-    let mut line = String::new(alloc);
-    put_op(&mut line, op)?;
+fn put_line(lines: &mut String, op: &Op, manner: Manner) -> Result<(), AllocError> {
+    put_op(lines, op)?;
     if manner != MANNER {
-        write!(line, " in {manner:?}")?;
+        write!(lines, " in {manner:?}")?;
     }
-    lines.push(line)?;
-    Ok(())
+    lines.push('\n')
 }
 
 /// Appends an operation: its name and its parts in order, texts in quotes.

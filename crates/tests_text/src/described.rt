@@ -3,7 +3,6 @@
 use std::alloc::{AllocError, Global};
 use std::fmt::Write;
 use std::process::Abort;
-use std::test::*;
 use tsql_lexer::{Flaw, LexFault, Lexeme, Lexing, Spanned, lex, lexing_of};
 use value_types::{Memory, Units};
 
@@ -37,7 +36,8 @@ pub(crate) fn units_of(alloc: Global, text: &str) -> Result<Units, AllocError> {
     Ok(Units::from(units))
 }
 
-fn put_units(line: &mut String, units: &Units) -> Result<(), AllocError> {
+/// Appends units, as a line spells them.
+pub(crate) fn put_units(line: &mut String, units: &Units) -> Result<(), AllocError> {
     for unit in units.as_slice() {
         match *unit {
             0x0A => line.push_str("~n")?,
@@ -95,7 +95,7 @@ pub(crate) fn read(rt: &impl Abort, alloc: Global, text: &Units) -> Result<Lexin
 }
 
 /// The lexemes and the flaw.
-pub(crate) fn described(rt: &impl Abort, alloc: Global, text: &Units) -> Result<String, Fail> {
+pub(crate) fn described(rt: &impl Abort, alloc: Global, text: &Units) -> Result<String, Memory> {
     let mut line = String::new(alloc);
     let lexing = read(rt, alloc, text)?;
     put_lexemes(&mut line, lexing.lexemes.as_slice())?;
@@ -110,26 +110,35 @@ pub(crate) fn described_answer(
     rt: &impl Abort,
     alloc: Global,
     text: &Units,
-) -> Result<String, Fail> {
-    assert!(rt; text.len() < 1 << 31);
+) -> Result<String, Memory> {
     let mut line = String::new(alloc);
-    match lex(alloc, text) {
+    match answer(rt, alloc, text) {
         Ok(lexemes) => put_lexemes(&mut line, lexemes.as_slice())?,
-        Err(
-            LexFault::Bad {
-                at,
-                line: number,
-                kind,
-            },
-        ) => put_flaw(
-            &mut line,
+        Err(fault) => put_fault(&mut line, fault)?,
+    }
+    Ok(line)
+}
+
+/// What `lex` answers to a text that is short enough.
+fn answer(rt: &impl Abort, alloc: Global, text: &Units) -> Result<Vec<Spanned>, LexFault> {
+    assert!(rt; text.len() < 1 << 31);
+    lex(alloc, text)
+}
+
+fn put_fault(line: &mut String, fault: LexFault) -> Result<(), AllocError> {
+    match fault {
+        LexFault::Bad {
+            at,
+            line: number,
+            kind,
+        } => put_flaw(
+            line,
             Flaw {
                 at,
                 line: number,
                 kind,
             },
-        )?,
-        Err(LexFault::Memory) => line.push_str("no memory")?,
+        ),
+        LexFault::Memory => line.push_str("no memory"),
     }
-    Ok(line)
 }

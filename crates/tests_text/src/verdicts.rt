@@ -1,12 +1,12 @@
 //! Texts as batches: whether each reads, what is wrong in it then, or where it stops.
 
 use crate::described::{read, units_of};
-use std::alloc::{AllocError, Global};
+use std::alloc::Global;
 use std::process::Abort;
-use std::test::*;
+use std::test::Fail;
 use tsql_grammar::Rule;
 use tsql_recognizer::recognize;
-use value_types::Units;
+use value_types::{Memory, Units};
 
 /// In each line a text and what is said of it, with a tab between. Lexemes are counted from 0.
 static TABLE: &str = "\tReads(None)
@@ -59,26 +59,34 @@ IF (1 = 1) + 1 = 2 SELECT 1\tStops(6)
 IF EXISTS (1) SELECT 1\tStops(3)";
 
 /// What is said of a text as a batch.
-fn said_of(rt: &impl Abort, alloc: Global, text: &Units) -> Result<String, Fail> {
+fn said_of(rt: &impl Abort, alloc: Global, text: &Units) -> Result<String, Memory> {
     let lexing = read(rt, alloc, text)?;
     let verdict = recognize(alloc, Rule::Batch, lexing.lexemes.as_slice(), true)?;
     Ok(format!(in alloc; "{verdict:?}")?)
 }
 
+/// Whether a line says what is said of its text.
+fn holds(rt: &impl Abort, alloc: Global, line: &str) -> Result<bool, Memory> {
+    let (text, verdict) = line.split_once('\t').unwrap_or((line, line));
+    let said = said_of(rt, alloc, &units_of(alloc, text)?)?;
+    Ok(said.as_str() == verdict)
+}
+
 #[test]
 fn texts_read_or_stop_so(rt: HostRuntime) -> Result<(), Fail> {
-    let alloc = rt.alloc();
     for line in TABLE.lines() {
-        if let Some((text, verdict)) = line.split_once('\t') {
-            let said = said_of(&rt, alloc, &units_of(alloc, text)?)?;
-            assert_eq!(rt; said.as_str(), verdict);
-        }
+        assert!(rt; holds(&rt, rt.alloc(), line)?, "{line}");
     }
     Ok(())
 }
 
-/// `SELECT`, so many open parentheses, 1, and so many closed ones.
-fn nested(alloc: Global, open: u32, closed: u32) -> Result<Units, AllocError> {
+/// What is said of `SELECT`, so many open parentheses, 1, and so many closed ones.
+fn said_of_nested(
+    rt: &impl Abort,
+    alloc: Global,
+    open: u32,
+    closed: u32,
+) -> Result<String, Memory> {
     let mut text = String::new(alloc);
     text.push_str("SELECT ")?;
     for _ in 0..open {
@@ -88,17 +96,16 @@ fn nested(alloc: Global, open: u32, closed: u32) -> Result<Units, AllocError> {
     for _ in 0..closed {
         text.push(')')?;
     }
-    units_of(alloc, text.as_str())
+    said_of(rt, alloc, &units_of(alloc, text.as_str())?)
 }
 
 #[test]
 fn parentheses_nest_128_deep(rt: HostRuntime) -> Result<(), Fail> {
-    let alloc = rt.alloc();
-    let said = said_of(&rt, alloc, &nested(alloc, 128, 128)?)?;
-    assert_eq!(rt; said.as_str(), "Reads(None)");
-    let said = said_of(&rt, alloc, &nested(alloc, 129, 129)?)?;
-    assert_eq!(rt; said.as_str(), "Reads(Some((TooDeep, 129)))");
-    let said = said_of(&rt, alloc, &nested(alloc, 200_000, 0)?)?;
-    assert_eq!(rt; said.as_str(), "Stops(200002)");
+    let said = said_of_nested(&rt, rt.alloc(), 128, 128)?;
+    assert!(rt; said.as_str() == "Reads(None)");
+    let said = said_of_nested(&rt, rt.alloc(), 129, 129)?;
+    assert!(rt; said.as_str() == "Reads(Some((TooDeep, 129)))");
+    let said = said_of_nested(&rt, rt.alloc(), 200_000, 0)?;
+    assert!(rt; said.as_str() == "Stops(200002)");
     Ok(())
 }

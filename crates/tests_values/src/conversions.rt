@@ -1,68 +1,105 @@
-//! Conversions that take memory, or may: those to texts and those of texts.
+//! Conversions, as lines.
 
-ghost use Rattle.std.specs.Prelude.{IfOk};
+ghost use Rattle.std.specs.Prelude.{◌≡◌, true};
 ghost use Rattle.convert_rules.specs.Types.{IsOf};
-ghost use Rattle.value_types.specs.declared.sql_type.SqlType.TheVariants.{NText};
 
+use crate::words::{number_of, put_value, value_of};
 use convert_rules::{ConvertFault, cast, convert, error_of};
-use std::alloc::Global;
-use std::test::*;
-use value_types::{Memory, SqlType, Value, units_of_str};
+use std::alloc::{AllocError, Global};
+use std::fmt::Write;
+use std::test::Fail;
+use value_types::{Memory, SqlType, Value};
 
-/// A text as a value of a type of this size, or NULL where it is longer.
-fn text(alloc: Global, text: &str, size: u16) -> Result<Value, Memory>
-    ensures { IfOk result (λ value. IsOf (NText size) value) }
+/// In each line a value, its type, the type that it is converted to, and what comes of it; behind `cast` a text
+/// that is too long is cut.
+const LINES: &str = "cast|' -12 |text 5|int|-12
+cast|'|text 1|int|0
+convert|'x|text 1|int|NotANumber, error 245
+cast|'abc|text 3|text 2|'ab
+convert|'abc|text 3|text 2|TooLong, error 49006
+convert|-7|int|text 2|'-7
+convert|true|bit|text 1|'1
+cast|300|int|tinyint|Overflow, error 220
+cast|255|int|tinyint|255
+cast|null|int|text 1|null";
+
+/// The type of a name.
+fn type_of(name: &str) -> SqlType {
+    match name.strip_prefix("text ") {
+        Some(size) => SqlType::NText(number_of(size).clamp(0, 4000) as u16),
+        None if name == "int" => SqlType::Int,
+        None if name == "bit" => SqlType::Bit,
+        None => SqlType::TinyInt,
+    }
+}
+
+/// Whether a value is of one of these types.
+fn is_of(kind: SqlType, value: &Value) -> bool
+    ensures { result ≡ true → IsOf kind value.now }
 {
-    let units = units_of_str(alloc, text)?;
-    if units.len() <= usize::from(size) {
-        Ok(Value::Text(units))
+    match (kind, value) {
+        (_, Value::Null) => true,
+        (SqlType::Int, Value::Whole(number)) => (-2147483648..=2147483647).contains(number),
+        (SqlType::Bit, Value::Bit(_)) => true,
+        (SqlType::NText(size), Value::Text(text)) => text.len() <= usize::from(size),
+        _ => false,
+    }
+}
+
+fn put_answer(
+    line: &mut String,
+    answer: &Result<Value, ConvertFault>,
+    from: SqlType,
+    to: SqlType,
+) -> Result<(), AllocError> {
+    match answer {
+        Ok(value) => put_value(line, value),
+        Err(fault) => {
+            let number = error_of(*fault, from, to).unwrap_or(0);
+            write!(line, "{fault:?}, error {number}")
+        }
+    }
+}
+
+/// What comes of a conversion.
+fn answer_to(
+    alloc: Global,
+    way: &str,
+    value: &Value,
+    from: SqlType,
+    to: SqlType,
+) -> Result<String, Memory> {
+    let mut line = String::new(alloc);
+    if !is_of(from, value) {
+        line.push_str("the value is not of its type")?;
+        return Ok(line);
+    }
+    let answer = if way == "cast" {
+        cast(alloc, value, from, to)
     } else {
-        Ok(Value::Null)
+        convert(alloc, value, from, to)
+    };
+    put_answer(&mut line, &answer, from, to)?;
+    Ok(line)
+}
+
+/// Whether what comes of a line's conversion is what it says.
+fn holds(alloc: Global, line: &str) -> Result<bool, Memory> {
+    let words: Vec<&str> = line.split('|').collect(alloc)?;
+    match words.as_slice() {
+        [way, value, from, to, wanted] => {
+            let value = value_of(alloc, value)?;
+            let answer = answer_to(alloc, way, &value, type_of(from), type_of(to))?;
+            Ok(answer.as_str() == *wanted)
+        }
+        _ => Ok(false),
     }
 }
 
 #[test]
-fn texts_are_read_as_numbers(rt: HostRuntime) -> Result<(), Fail> {
-    let alloc = rt.alloc();
-    let padded = text(alloc, " -12 ", 5)?;
-    assert!(rt; cast(alloc, &padded, SqlType::NText(5), SqlType::Int) == Ok(Value::Whole(-12)));
-    let empty = text(alloc, "", 1)?;
-    assert!(rt; cast(alloc, &empty, SqlType::NText(1), SqlType::Int) == Ok(Value::Whole(0)));
-    let word = text(alloc, "x", 1)?;
-    assert!(rt;
-        convert(alloc, &word, SqlType::NText(1), SqlType::Int) == Err(ConvertFault::NotANumber)
-    );
-    assert!(rt; error_of(ConvertFault::NotANumber, SqlType::NText(1), SqlType::Int) == Some(245));
-    Ok(())
-}
-
-#[test]
-fn texts_are_made_and_cut(rt: HostRuntime) -> Result<(), Fail> {
-    let alloc = rt.alloc();
-    let long = text(alloc, "abc", 3)?;
-    let cut = text(alloc, "ab", 2)?;
-    assert!(rt; cast(alloc, &long, SqlType::NText(3), SqlType::NText(2)) == Ok(cut));
-    assert!(rt;
-        convert(alloc, &long, SqlType::NText(3), SqlType::NText(2)) == Err(ConvertFault::TooLong)
-    );
-    let digits = text(alloc, "-7", 2)?;
-    assert!(rt; convert(alloc, &Value::Whole(-7), SqlType::Int, SqlType::NText(2)) == Ok(digits));
-    let one = text(alloc, "1", 1)?;
-    assert!(rt; convert(alloc, &Value::Bit(true), SqlType::Bit, SqlType::NText(1)) == Ok(one));
-    Ok(())
-}
-
-#[test]
-fn numbers_stay_in_their_type(rt: HostRuntime) -> Result<(), Fail> {
-    let alloc = rt.alloc();
-    assert!(rt;
-        cast(alloc, &Value::Whole(300), SqlType::Int, SqlType::TinyInt)
-            == Err(ConvertFault::Overflow)
-    );
-    assert!(rt; error_of(ConvertFault::Overflow, SqlType::Int, SqlType::TinyInt) == Some(220));
-    assert!(rt;
-        cast(alloc, &Value::Whole(255), SqlType::Int, SqlType::TinyInt) == Ok(Value::Whole(255))
-    );
-    assert!(rt; cast(alloc, &Value::Null, SqlType::Int, SqlType::NText(1)) == Ok(Value::Null));
+fn values_are_converted_so(rt: HostRuntime) -> Result<(), Fail> {
+    for line in LINES.lines() {
+        assert!(rt; holds(rt.alloc(), line)?, "{line}");
+    }
     Ok(())
 }

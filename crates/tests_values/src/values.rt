@@ -1,159 +1,83 @@
-//! How values and keys are compared, that maps take them, and which units texts have.
+//! That maps take keys and names, which units texts have, and that copies are made.
 
+use crate::words::{key_of, value_of};
 use std::alloc::Global;
-use std::cmp::Ordering;
 use std::collections::BTreeMap;
 use std::test::Fail;
-use value_types::{
-    Key, Row, TableName, Units, Value, compare, key_order, prefix_order, units_of_str,
-};
+use value_types::{Memory, Row, TableName, Units, Value, units_of_str};
 
-/// Two texts between bars, and how they compare: blanks behind them make no difference.
-const TEXTS: &str = "a|a  |Equal
-| |Equal
-a|ab|Less
-a|a\t|Greater
-b|ab|Greater
-ab|ac |Less";
+/// How many rows a map has in which two spellings of a key were put, and the row that it finds.
+fn rows_of_spellings(alloc: Global) -> Result<(usize, Option<i64>), Memory> {
+    let mut rows = BTreeMap::new(alloc);
+    rows.insert(key_of(alloc, "'a")?, 1)?;
+    rows.insert(key_of(alloc, "'a  ")?, 2)?;
+    let sought = key_of(alloc, "'a")?;
+    Ok((rows.len(), rows.get(&sought).copied()))
+}
 
-/// Keys from the lowest to the highest.
-const RISING: &str = "null
-null null
--1
-0
-1
-1 null
-1 'a
-false
-true
-'a\t
-'a
-'ab";
-
-/// A value as the lines above spell it.
-fn value_of(alloc: Global, word: &str) -> Result<Value, Fail> {
-    Ok(match word {
-        "null" => Value::Null,
-        "false" => Value::Bit(false),
-        "true" => Value::Bit(true),
-        _ => match word.strip_prefix('\'') {
-            Some(text) => Value::Text(units_of_str(alloc, text)?),
-            None => Value::Whole(word.parse()?),
-        },
+fn name_of(alloc: Global, object: &str, part: u16) -> Result<TableName, Memory> {
+    Ok(TableName {
+        object: units_of_str(alloc, object)?,
+        part,
     })
 }
 
-/// A key of one value or of two.
-fn key_of(alloc: Global, words: &str) -> Result<Key, Fail> {
-    Ok(match words.split_once(' ') {
-        None => Key::new(vec![in alloc; value_of(alloc, words)?]?),
-        Some((first, second)) => {
-            Key::new(vec![in alloc; value_of(alloc, first)?, value_of(alloc, second)?]?)
-        }
-    })
-}
-
-/// The order of a name.
-fn order_of(name: &str) -> Option<Ordering> {
-    match name {
-        "Less" => Some(Ordering::Less),
-        "Equal" => Some(Ordering::Equal),
-        "Greater" => Some(Ordering::Greater),
-        _ => None,
-    }
-}
-
-#[test]
-fn texts_compare_without_blanks_behind(rt: HostRuntime) -> Result<(), Fail> {
-    let alloc = rt.alloc();
-    for line in TEXTS.lines() {
-        let (first, others) = line.split_once('|').ok_or(line)?;
-        let (second, wanted) = others.split_once('|').ok_or(line)?;
-        let first = Value::Text(units_of_str(alloc, first)?);
-        let second = Value::Text(units_of_str(alloc, second)?);
-        let wanted = order_of(wanted);
-        assert_eq!(rt; compare(&first, &second), wanted, "{line}");
-        assert_eq!(rt;
-            compare(&second, &first),
-            wanted.map(Ordering::reverse),
-            "{line}"
-        );
-    }
-    Ok(())
-}
-
-#[test]
-fn values_compare_by_their_kind(rt: HostRuntime) -> Result<(), Fail> {
-    let below = Some(Ordering::Less);
-    assert_eq!(rt; compare(&Value::Whole(-1), &Value::Whole(0)), below);
-    assert_eq!(rt; compare(&Value::Bit(false), &Value::Bit(true)), below);
-    assert_eq!(rt; compare(&Value::Null, &Value::Null), None);
-    assert_eq!(rt; compare(&Value::Null, &Value::Bit(true)), None);
-    assert_eq!(rt; compare(&Value::Whole(1), &Value::Null), None);
-    Ok(())
-}
-
-#[test]
-fn keys_are_in_one_order(rt: HostRuntime) -> Result<(), Fail> {
-    let alloc = rt.alloc();
-    for (i, words) in RISING.lines().enumerate() {
-        let key = key_of(alloc, words)?;
-        for (j, words) in RISING.lines().enumerate() {
-            let order = key_order(&key, &key_of(alloc, words)?);
-            assert_eq!(rt; order, i.cmp(&j));
-        }
-    }
-    let pair = key_of(alloc, "1 true")?;
-    let one = key_of(alloc, "1")?;
-    assert!(rt; prefix_order(&pair, &one).is_eq());
-    assert!(rt; prefix_order(&pair, &key_of(alloc, "2")?).is_lt());
-    assert!(rt; prefix_order(&one, &pair).is_lt());
-    Ok(())
+/// How many tables a map has in which three names were put.
+fn tables_of_names(alloc: Global) -> Result<usize, Memory> {
+    let mut tables = BTreeMap::new(alloc);
+    tables.insert(name_of(alloc, "t", 0)?, 0)?;
+    tables.insert(name_of(alloc, "t", 1)?, 1)?;
+    tables.insert(name_of(alloc, "t ", 0)?, 0)?;
+    Ok(tables.len())
 }
 
 #[test]
 fn maps_take_keys_and_names(rt: HostRuntime) -> Result<(), Fail> {
-    let alloc = rt.alloc();
-    let mut rows = BTreeMap::new(alloc);
-    rows.insert(key_of(alloc, "'a")?, 1)?;
-    let blank = Value::Text(units_of_str(alloc, "a  ")?);
-    rows.insert(Key::new(vec![in alloc; blank]?), 2)?;
-    assert_eq!(rt; rows.len(), 1);
-    assert_eq!(rt; rows.get(&key_of(alloc, "'a")?).copied(), Some(2));
-    let mut tables = BTreeMap::new(alloc);
-    for (object, part) in [("t", 0), ("t", 1), ("t ", 0)] {
-        let object = units_of_str(alloc, object)?;
-        tables.insert(TableName { object, part }, part)?;
-    }
-    assert_eq!(rt; tables.len(), 3);
+    assert!(rt; rows_of_spellings(rt.alloc())? == (1, Some(2)));
+    assert!(rt; tables_of_names(rt.alloc())? == 3);
     Ok(())
+}
+
+/// A text made in two ways.
+fn is_made_twice(alloc: Global) -> Result<bool, Memory> {
+    let units = units_of_str(alloc, "Not built.")?;
+    Ok(units == Units::of_ascii(alloc, b"Not built.")?)
+}
+
+/// The units of a front of a text.
+fn front_of(alloc: Global, text: &str, most: usize) -> Result<Vec<u16>, Memory> {
+    let mut units = units_of_str(alloc, text)?;
+    units.truncate(most);
+    Ok(units.into_vec())
 }
 
 #[test]
 fn texts_are_units(rt: HostRuntime) -> Result<(), Fail> {
-    let alloc = rt.alloc();
-    let units = units_of_str(alloc, "Not built.")?;
-    assert!(rt; units == Units::of_ascii(alloc, b"Not built.")?);
-    let mut front = units;
-    front.truncate(3);
-    assert_eq!(rt;
-        front.into_vec().as_slice(),
-        [0x004E, 0x006F, 0x0074].as_slice()
-    );
-    let pair = units_of_str(alloc, "\u{1F600}")?;
-    assert_eq!(rt; pair.as_slice(), [0xD83D, 0xDE00].as_slice());
+    assert!(rt; is_made_twice(rt.alloc())?);
+    let front = front_of(rt.alloc(), "Not built.", 3)?;
+    assert!(rt; front.as_slice() == [0x004E, 0x006F, 0x0074].as_slice());
+    let pair = front_of(rt.alloc(), "\u{1F600}", 3)?;
+    assert!(rt; pair.as_slice() == [0xD83D, 0xDE00].as_slice());
     Ok(())
+}
+
+/// How many values the copy of a row of three has.
+fn count_of_copy(alloc: Global) -> Result<usize, Memory> {
+    let text = value_of(alloc, "'a")?;
+    let row = Row::from(vec![in alloc; text, Value::Null, Value::Bit(true)]?);
+    Ok(row.copy(alloc)?.into_vec().len())
+}
+
+/// Whether a key and a name are their copies.
+fn are_their_copies(alloc: Global) -> Result<(bool, bool), Memory> {
+    let key = key_of(alloc, "1,'a")?;
+    let name = name_of(alloc, "t", 1)?;
+    Ok((key.copy(alloc)? == key, name.copy(alloc)? == name))
 }
 
 #[test]
 fn copies_are_made(rt: HostRuntime) -> Result<(), Fail> {
-    let alloc = rt.alloc();
-    let row = Row::from(vec![in alloc; value_of(alloc, "'a")?, Value::Null, Value::Bit(true)]?);
-    assert_eq!(rt; row.copy(alloc)?.into_vec().len(), 3);
-    let key = key_of(alloc, "1 'a")?;
-    assert!(rt; key.copy(alloc)? == key);
-    let object = units_of_str(alloc, "t")?;
-    let name = TableName { object, part: 1 };
-    assert!(rt; name.copy(alloc)? == name);
+    assert!(rt; count_of_copy(rt.alloc())? == 3);
+    assert!(rt; are_their_copies(rt.alloc())? == (true, true));
     Ok(())
 }

@@ -1,11 +1,10 @@
 //! Sources and sinks over std's readers and writers.
 
-use crate::parts::Part::{Bytes, Packet};
-use crate::parts::{Part, Seen, assert_reads, bytes_of};
+use crate::streams::read_of;
 use outside_io::{ReadSource, Sink, Source, WriteSink};
+use std::alloc::{AllocError, Global};
 use std::io::{self, ErrorKind, Read, Write};
-use std::test::*;
-use tds_packets::MessageFault::{Closed, Cut, ReadFault};
+use std::test::Fail;
 use tds_packets::{SendFault, TABULAR_RESULT, send_message};
 
 /// A reader that fails, and a writer that fails or takes nothing.
@@ -163,54 +162,52 @@ fn a_writer_may_fail_once_and_go_on(rt: HostRuntime) {
     }
 }
 
-/// A message goes out by a writer that takes a byte at a time, or now two and now all; where a flush fails the
-/// message ends there, though the writer would go on.
+/// The message of the bytes `ab`, with SPID 51.
+const MESSAGE: &[u8; 10] = b"\x04\x01\x00\x0A\x00\x33\x01\x00ab";
+
+/// What comes of sending it to a writer that answers so, and what the writer has taken.
+fn sent_to(alloc: Global, answers: &'static [Answer]) -> (Result<(), SendFault>, Vec<u8>) {
+    let mut writer = Scripted {
+        answers,
+        taken: Vec::new(alloc),
+        is_full: false,
+    };
+    let mut sink = WriteSink::new(&mut writer);
+    let sent = send_message(alloc, &mut sink, TABULAR_RESULT, 51, 4096, b"ab");
+    (sent, writer.taken)
+}
+
+/// A message goes out by a writer that takes a byte at a time, or now two and now all.
 #[test]
-fn a_message_is_sent_to_a_writer_that_takes_part(rt: HostRuntime) -> Result<(), Fail> {
-    let alloc = rt.alloc();
-    let table: [(&'static [Answer], Result<(), SendFault>, usize); 5] = [
-        (&[Answer::Takes(1); 10], Ok(()), 10),
-        (&[Answer::Takes(2), Answer::Takes(1)], Ok(()), 10),
-        (
-            &[Answer::Takes(4), Answer::Fails],
-            Err(SendFault::WriteFault),
-            4,
-        ),
-        (
-            &[Answer::Takes(4), Answer::Takes(0)],
-            Err(SendFault::WriteFault),
-            4,
-        ),
-        (&[Answer::StaysFull(10)], Err(SendFault::WriteFault), 10),
-    ];
-    for (answers, wanted, count) in table {
-        let mut writer = Scripted {
-            answers,
-            taken: Vec::new(alloc),
-            is_full: false,
-        };
-        let mut sink = WriteSink::new(&mut writer);
-        assert_eq!(rt;
-            send_message(alloc, &mut sink, TABULAR_RESULT, 51, 4096, b"ab"),
-            wanted
-        );
-        let whole = [0x04, 0x01, 0x00, 0x0A, 0x00, 0x33, 0x01, 0x00, 0x61, 0x62];
-        assert_eq!(rt; Some(writer.taken.as_slice()), whole.get(..count));
-    }
-    Ok(())
+fn a_message_is_sent_to_a_writer_that_takes_part(rt: HostRuntime) {
+    let (sent, taken) = sent_to(rt.alloc(), &[Answer::Takes(1); 10]);
+    assert!(rt; sent.is_ok() && taken.as_slice() == MESSAGE.as_slice());
+    let (sent, taken) = sent_to(rt.alloc(), &[Answer::Takes(2), Answer::Takes(1)]);
+    assert!(rt; sent.is_ok() && taken.as_slice() == MESSAGE.as_slice());
+}
+
+/// Whether a writer that answers so fails with a front of the message.
+fn fails_behind(alloc: Global, answers: &'static [Answer], count: usize) -> bool {
+    let (sent, taken) = sent_to(alloc, answers);
+    sent == Err(SendFault::WriteFault) && MESSAGE.get(..count) == Some(taken.as_slice())
+}
+
+/// Where a write or a flush fails the message ends there, though the writer would go on.
+#[test]
+fn a_message_ends_where_a_write_fails(rt: HostRuntime) {
+    assert!(rt; fails_behind(rt.alloc(), &[Answer::Takes(4), Answer::Fails], 4));
+    assert!(rt; fails_behind(rt.alloc(), &[Answer::Takes(4), Answer::Takes(0)], 4));
+    assert!(rt; fails_behind(rt.alloc(), &[Answer::StaysFull(10)], 10));
 }
 
 /// A message of two packets, and one of one: 11 and 10, and 9 bytes.
-static STREAM: [Part; 3] = [
-    Packet(0x10, 0x00, b"abc"),
-    Packet(0x10, 0x01, b"de"),
-    Packet(0x01, 0x01, b"f"),
-];
+const STREAM: &[u8; 30] = b"\x10\x00\x00\x0B\x00\x00\x01\x00abc\
+\x10\x01\x00\x0A\x00\x00\x01\x00de\
+\x01\x01\x00\x09\x00\x00\x01\x00f";
 
-static SEEN: [Seen; 2] = [
-    Seen(0x10, 0, &[Bytes(b"abcde")]),
-    Seen(0x01, 21, &[Bytes(b"f")]),
-];
+const ONE: &str = "10 at 0: abcde; ";
+
+const BOTH: &str = "10 at 0: abcde; 01 at 21: f; ";
 
 /// A reader that gives its bytes one at a time, and then ends or fails.
 #[derive(Drop)]
@@ -233,41 +230,35 @@ impl Read for Dribble<'_> {
     }
 }
 
+/// Whether the first bytes, one at a time, are read as these messages, and end so, or else with a failing read.
+fn are_read(alloc: Global, left: &[u8], messages: &str, end: &str) -> Result<bool, AllocError> {
+    let ended = read_of(alloc, &mut ReadSource::new(Dribble { left, fails: false }))?;
+    let failed = read_of(alloc, &mut ReadSource::new(Dribble { left, fails: true }))?;
+    Ok(
+        ended.strip_prefix(messages) == Some(end)
+            && failed.strip_prefix(messages) == Some("ReadFault"),
+    )
+}
+
 #[test]
 fn messages_are_read_from_a_reader(rt: HostRuntime) -> Result<(), Fail> {
-    let alloc = rt.alloc();
-    let bytes = bytes_of(alloc, &STREAM)?;
-    let mut whole = ReadSource::new(bytes.as_slice());
-    assert_reads(&rt, alloc, &mut whole, &SEEN, Closed, "a reader")?;
-    for (count, messages, end) in [(30, 2, Closed), (29, 1, Cut { at: 29 }), (21, 1, Closed)] {
-        for fails in [false, true] {
-            let left = bytes.get(..count).ok_or("no such front")?;
-            let mut source = ReadSource::new(Dribble { left, fails });
-            let end = if fails { ReadFault } else { end };
-            let seen = &SEEN[..messages];
-            assert_reads(
-                &rt,
-                alloc,
-                &mut source,
-                seen,
-                end,
-                "a reader of single bytes",
-            )?;
-        }
-    }
+    let mut whole = ReadSource::new(STREAM.as_slice());
+    let line = read_of(rt.alloc(), &mut whole)?;
+    assert!(rt; line.strip_prefix(BOTH) == Some("Closed"));
+    assert!(rt; are_read(rt.alloc(), STREAM, BOTH, "Closed")?);
+    assert!(rt; are_read(rt.alloc(), &STREAM[..29], ONE, "Cut { at: 29 }")?);
+    assert!(rt; are_read(rt.alloc(), &STREAM[..21], ONE, "Closed")?);
     Ok(())
 }
 
 #[test]
 fn messages_are_sent_to_a_writer(rt: HostRuntime) -> Result<(), Fail> {
-    let alloc = rt.alloc();
-    let mut bytes = Vec::new(alloc);
+    let mut bytes = Vec::new(rt.alloc());
     let mut sink = WriteSink::new(&mut bytes);
-    send_message(alloc, &mut sink, TABULAR_RESULT, 51, 4096, b"ab")?;
-    let expected = [0x04, 0x01, 0x00, 0x0A, 0x00, 0x33, 0x01, 0x00, 0x61, 0x62];
-    assert_eq!(rt; bytes.as_slice(), expected.as_slice());
+    send_message(rt.alloc(), &mut sink, TABULAR_RESULT, 51, 4096, b"ab")?;
+    assert!(rt; bytes.as_slice() == MESSAGE.as_slice());
     let mut broken = WriteSink::new(Broken);
-    let sent = send_message(alloc, &mut broken, TABULAR_RESULT, 51, 4096, b"ab");
-    assert_eq!(rt; sent, Err(SendFault::WriteFault));
+    let sent = send_message(rt.alloc(), &mut broken, TABULAR_RESULT, 51, 4096, b"ab");
+    assert!(rt; sent == Err(SendFault::WriteFault));
     Ok(())
 }

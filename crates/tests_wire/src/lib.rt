@@ -5,11 +5,11 @@
 #[cfg(test)]
 mod adapters;
 #[cfg(test)]
-mod parts;
-#[cfg(test)]
 mod pieces;
 #[cfg(test)]
 mod sending;
+#[cfg(test)]
+mod streams;
 #[cfg(test)]
 mod texts;
 

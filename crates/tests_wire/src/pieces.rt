@@ -2,41 +2,48 @@
 
 ghost use Rattle.std.specs.Prelude.{◌≤◌, ◌<◌, None, length};
 
-use crate::parts::Part::{Bytes, Header, Packet};
-use crate::parts::{Part, Seen, assert_reads, bytes_of};
-use outside_io::{Failed, MemorySource, Source};
+use crate::streams::{read_in_pieces, read_of};
+use outside_io::{Failed, Source};
 use std::alloc::{AllocError, Global};
-use std::process::Abort;
-use std::test::*;
-use tds_packets::MessageFault::{BadHeader, Closed, Cut, ReadFault};
+use std::test::Fail;
 
 /// Three messages, of two packets, of one, and of one without data: 12 and 11, 10, and 8 bytes.
-static STREAM: [Part; 4] = [
-    Packet(0x10, 0x00, b"abcd"),
-    Packet(0x10, 0x01, b"efg"),
-    Packet(0x01, 0x01, b"hi"),
-    Header(0x06, 0x01, 8),
-];
+const STREAM: &[u8; 41] = b"\x10\x00\x00\x0C\x00\x00\x01\x00abcd\
+\x10\x01\x00\x0B\x00\x00\x01\x00efg\
+\x01\x01\x00\x0A\x00\x00\x01\x00hi\
+\x06\x01\x00\x08\x00\x00\x01\x00";
 
-static SEEN: [Seen; 3] = [
-    Seen(0x10, 0, &[Bytes(b"abcdefg")]),
-    Seen(0x01, 23, &[Bytes(b"hi")]),
-    Seen(0x06, 33, &[]),
-];
+/// A packet of 12 bytes that ends with its eleventh.
+const CUT: &[u8; 11] = b"\x01\x01\x00\x0C\x00\x00\x01\x00abc";
 
-/// Where the stream ends.
-const END: usize = 41;
+/// Headers that are refused, each before a packet: one of an unknown type, and one with a Length below 8.
+const UNKNOWN: &[u8; 17] = b"\x02\x01\x00\x09\x00\x00\x01\x00\x01\x01\x00\x09\x00\x00\x01\x00a";
+
+const SHORT: &[u8; 17] = b"\x01\x01\x00\x07\x00\x00\x01\x00\x01\x01\x00\x09\x00\x00\x01\x00a";
+
+/// What the first messages are read as.
+fn messages(count: usize) -> &'static str {
+    match count {
+        0 => "",
+        1 => "10 at 0: abcdefg; ",
+        2 => "10 at 0: abcdefg; 01 at 23: hi; ",
+        _ => "10 at 0: abcdefg; 01 at 23: hi; 06 at 33: ; ",
+    }
+}
 
 /// How many whole messages the first bytes are.
-fn whole(count: usize) -> usize
-    ensures { result ≤ 3 }
-{
+fn whole(count: usize) -> usize {
     match count {
         0..=22 => 0,
         23..=32 => 1,
         33..=40 => 2,
         _ => 3,
     }
+}
+
+/// Whether a line has so many of the messages, and then this end.
+fn is_read(line: &str, count: usize, end: &str) -> bool {
+    line.strip_prefix(messages(count)) == Some(end)
 }
 
 /// A source that gives the bytes before `cut` at most to `cut`, and behind it either the others or
@@ -49,18 +56,6 @@ struct CutSource {
     fails: bool,
     faults: u64,
     ghost within: { at ≤ length bytes.items },
-}
-
-impl CutSource {
-    fn new(bytes: Vec<u8>, cut: usize, fails: bool) -> CutSource {
-        CutSource {
-            bytes,
-            at: 0,
-            cut,
-            fails,
-            faults: 0,
-        }
-    }
 }
 
 impl Source for CutSource {
@@ -85,142 +80,102 @@ impl Source for CutSource {
     }
 }
 
-/// A source of the stream that gives at most `piece` bytes a read, and fails at the reads given.
-fn in_pieces(alloc: Global, piece: u32, failing: &[u32]) -> Result<MemorySource, AllocError>
-    requires { 0 < piece }
-{
-    let bytes = bytes_of(alloc, &STREAM)?;
-    Ok(MemorySource::new(bytes, piece, failing.to_vec(alloc)?))
+/// The stream, cut so.
+fn cut_at(alloc: Global, cut: usize, fails: bool) -> Result<CutSource, AllocError> {
+    Ok(CutSource {
+        bytes: Vec::from_slice(alloc, STREAM)?,
+        at: 0,
+        cut,
+        fails,
+        faults: 0,
+    })
+}
+
+/// Whether a stream in two pieces is read whole.
+fn is_whole(alloc: Global, cut: usize) -> Result<bool, AllocError> {
+    let mut source = cut_at(alloc, cut, false)?;
+    Ok(is_read(&read_of(alloc, &mut source)?, 3, "Closed"))
+}
+
+/// Whether a source that fails behind so many bytes has a read fault there.
+fn has_fault(alloc: Global, cut: usize) -> Result<bool, AllocError> {
+    let mut source = cut_at(alloc, cut, true)?;
+    let line = read_of(alloc, &mut source)?;
+    Ok(is_read(&line, whole(cut), "ReadFault") && source.faults > 0)
 }
 
 #[test]
 fn a_cut_anywhere_gives_the_same_messages(rt: HostRuntime) -> Result<(), Fail> {
-    let alloc = rt.alloc();
-    for cut in 0..=END + 1 {
-        let bytes = bytes_of(alloc, &STREAM)?;
-        assert_eq!(rt; bytes.len(), END);
-        let mut source = CutSource::new(bytes, cut, false);
-        assert_reads(
-            &rt,
-            alloc,
-            &mut source,
-            &SEEN,
-            Closed,
-            "a stream in two pieces",
-        )?;
+    for cut in 0..=42 {
+        assert!(rt; is_whole(rt.alloc(), cut)?, "cut at {cut}");
     }
     Ok(())
 }
 
 #[test]
 fn a_source_that_fails_anywhere_is_a_read_fault(rt: HostRuntime) -> Result<(), Fail> {
-    let alloc = rt.alloc();
-    for cut in 0..=END {
-        let bytes = bytes_of(alloc, &STREAM)?;
-        let mut source = CutSource::new(bytes, cut, true);
-        assert_reads(
-            &rt,
-            alloc,
-            &mut source,
-            &SEEN[..whole(cut)],
-            ReadFault,
-            "a failing source",
-        )?;
-        assert!(rt; source.faults > 0);
+    for cut in 0..=41 {
+        assert!(rt; has_fault(rt.alloc(), cut)?, "a failure at {cut}");
     }
     Ok(())
 }
 
-/// A source in pieces of one byte fails at a read. The read before it gave the byte before it, and
-/// the read behind the last byte finds the end.
+/// Whether a read of one byte that fails is a read fault. The read before it gave the byte before it, and the
+/// read behind the last byte finds the end.
+fn fails_at_byte(alloc: Global, call: u32) -> Result<bool, AllocError> {
+    let line = read_in_pieces(alloc, STREAM, 1, call)?;
+    let before = (call as usize).saturating_sub(1);
+    let end = if before <= 41 { "ReadFault" } else { "Closed" };
+    Ok(is_read(&line, whole(before), end))
+}
+
 #[test]
 fn a_failing_read_of_one_byte_is_a_read_fault(rt: HostRuntime) -> Result<(), Fail> {
-    let alloc = rt.alloc();
-    for call in 1..=60u32 {
-        let mut source = in_pieces(alloc, 1, &[call])?;
-        let before = call as usize - 1;
-        let fault = if before <= END { ReadFault } else { Closed };
-        let seen = &SEEN[..whole(before)];
-        assert_reads(
-            &rt,
-            alloc,
-            &mut source,
-            seen,
-            fault,
-            "a failing read of one byte",
-        )?;
+    for call in 1..=60 {
+        assert!(rt; fails_at_byte(rt.alloc(), call)?, "read {call}");
     }
     Ok(())
 }
 
-/// A source of whole pieces fails at a read. The reads are a header and data, a header and data;
-/// a header and data; a header; and the end.
+/// Whether a source of whole pieces that fails at a read has its fault there. The reads are a header and data, a
+/// header and data; a header and data; a header; and the end.
+fn fails_at_piece(alloc: Global, call: u32) -> Result<bool, AllocError> {
+    let line = read_in_pieces(alloc, STREAM, 4096, call)?;
+    Ok(match call {
+        1..=4 => is_read(&line, 0, "ReadFault"),
+        5..=6 => is_read(&line, 1, "ReadFault"),
+        7 => is_read(&line, 2, "ReadFault"),
+        8 => is_read(&line, 3, "ReadFault"),
+        _ => is_read(&line, 3, "Closed"),
+    })
+}
+
 #[test]
 fn a_failing_read_of_a_whole_piece_is_a_read_fault(rt: HostRuntime) -> Result<(), Fail> {
-    let alloc = rt.alloc();
-    let table = [
-        (1, 0, ReadFault),
-        (2, 0, ReadFault),
-        (3, 0, ReadFault),
-        (4, 0, ReadFault),
-        (5, 1, ReadFault),
-        (6, 1, ReadFault),
-        (7, 2, ReadFault),
-        (8, 3, ReadFault),
-        (9, 3, Closed),
-        (1000, 3, Closed),
-    ];
-    for (call, count, fault) in table {
-        let mut source = in_pieces(alloc, 4096, &[call])?;
-        let seen = &SEEN[..count.min(3)];
-        assert_reads(
-            &rt,
-            alloc,
-            &mut source,
-            seen,
-            fault,
-            "a failing read of a piece",
-        )?;
+    for call in 1..=9 {
+        assert!(rt; fails_at_piece(rt.alloc(), call)?, "read {call}");
     }
+    assert!(rt; fails_at_piece(rt.alloc(), 1000)?);
     Ok(())
 }
 
-#[test]
-fn a_failing_read_at_a_cut_is_no_cut(rt: HostRuntime) -> Result<(), Fail> {
-    let alloc = rt.alloc();
-    // The third read gives the last three bytes, and the fourth finds the end.
-    for (call, fault) in [(3, ReadFault), (4, ReadFault), (5, Cut { at: 11 })] {
-        let bytes = bytes_of(alloc, &[Header(0x01, 0x01, 12), Bytes(b"abc")])?;
-        let failing = vec![in alloc; call]?;
-        let mut source = MemorySource::new(bytes, 4, failing);
-        assert_reads(
-            &rt,
-            alloc,
-            &mut source,
-            &[],
-            fault,
-            "a cut where the read fails",
-        )?;
-    }
-    Ok(())
-}
+/// The third read gives the last three bytes, and the fourth finds the end. In front of a refused header, the
+/// first read gives the header, and no second is made.
+const READS: [(&[u8], u32, u32, &str); 5] = [
+    (CUT, 4, 3, "ReadFault"),
+    (CUT, 4, 4, "ReadFault"),
+    (CUT, 4, 5, "Cut { at: 11 }"),
+    (UNKNOWN, 4096, 2, "BadHeader { at: 0 }"),
+    (SHORT, 4096, 2, "BadHeader { at: 0 }"),
+];
 
-/// The first read gives the header, and no second is made.
 #[test]
-fn nothing_is_read_behind_a_refused_header(rt: HostRuntime) -> Result<(), Fail> {
-    let alloc = rt.alloc();
-    for header in [Header(0x02, 0x01, 9), Header(0x01, 0x01, 7)] {
-        let bytes = bytes_of(alloc, &[header, Packet(0x01, 0x01, b"a")])?;
-        let failing = vec![in alloc; 2]?;
-        let mut source = MemorySource::new(bytes, 4096, failing);
-        assert_reads(
-            &rt,
-            alloc,
-            &mut source,
-            &[],
-            BadHeader { at: 0 },
-            "a refused header",
-        )?;
+fn a_failing_read_is_no_cut_and_not_made_behind_a_refused_header(
+    rt: HostRuntime,
+) -> Result<(), Fail> {
+    for (bytes, piece, failing, wanted) in READS {
+        let line = read_in_pieces(rt.alloc(), bytes, piece, failing)?;
+        assert!(rt; line.as_str() == wanted, "read {failing}");
     }
     Ok(())
 }

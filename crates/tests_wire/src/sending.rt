@@ -1,139 +1,103 @@
 //! What is sent, in which packets, and how it is read again.
 
-ghost use Rattle.std.specs.Prelude.{◌≤◌, None};
+ghost use Rattle.std.specs.Prelude.{◌≤◌, ◌<◌, None};
 
+use crate::streams::only;
 use outside_io::{MemorySink, MemorySource, Sink, SinkFault};
 use std::alloc::{AllocError, Global};
-use std::process::Abort;
-use std::test::*;
+use std::test::Fail;
 use tds_packets::{MessageFault, Reader, SQL_BATCH, SendFault, TABULAR_RESULT, send_message};
 
-/// A payload of so many bytes at a packet size of 512 or more, and its packets: those before the
+/// In each line a payload of so many bytes, a packet size of 512 or more, and its packets: those before the
 /// last, which have the packet size, and the Length of the last.
+///
+/// A packet has room for its size less the eight bytes of its header: 504 bytes at 512, 4088 at 4096 and 32,759
+/// at 32,767. With 300 packets the PacketID goes from 255 to 0 and ends at 44.
+const SENT: &str = "0 512 0 8
+1 512 0 9
+503 512 0 511
+504 512 0 512
+505 512 1 9
+1008 512 1 512
+5000 512 9 472
+0 4096 0 8
+1 4096 0 9
+504 4096 0 512
+505 4096 0 513
+1008 4096 0 1016
+4088 4096 0 4096
+5000 4096 1 920
+32759 32767 0 32767
+32760 32767 1 9
+151200 512 299 512";
+
+/// In each line how many bytes a write takes at most, which write fails, and how many bytes are written then of
+/// two packets of 512 bytes. In pieces of 100 bytes each takes six writes, of which the sixth has 12.
+const FAILING: &str = "4096 1 0
+4096 2 512
+4096 3 1024
+100 1 0
+100 2 100
+100 6 500
+100 7 512
+100 8 612
+100 12 1012
+100 13 1024";
+
+/// A payload and its packets.
 #[derive(Clone, Copy)]
 struct Sent {
     payload: u32,
     size: u16,
     earlier: u32,
     last: u16,
+    ghost least: { 512 ≤ size },
+    ghost most: { size ≤ 32767 },
+    ghost header: { 8 ≤ last },
 }
 
-/// A packet has room for its size less the eight bytes of its header: 504 bytes at 512, 4088 at
-/// 4096 and 32,759 at 32,767.
-static TABLE: [Sent; 17] = [
-    Sent {
-        payload: 0,
-        size: 512,
-        earlier: 0,
-        last: 8,
-    },
-    Sent {
-        payload: 1,
-        size: 512,
-        earlier: 0,
-        last: 9,
-    },
-    Sent {
-        payload: 503,
-        size: 512,
-        earlier: 0,
-        last: 511,
-    },
-    Sent {
-        payload: 504,
-        size: 512,
-        earlier: 0,
-        last: 512,
-    },
-    Sent {
-        payload: 505,
-        size: 512,
-        earlier: 1,
-        last: 9,
-    },
-    Sent {
-        payload: 1008,
-        size: 512,
-        earlier: 1,
-        last: 512,
-    },
-    Sent {
-        payload: 5000,
-        size: 512,
-        earlier: 9,
-        last: 472,
-    },
-    Sent {
-        payload: 0,
-        size: 4096,
-        earlier: 0,
-        last: 8,
-    },
-    Sent {
-        payload: 1,
-        size: 4096,
-        earlier: 0,
-        last: 9,
-    },
-    Sent {
-        payload: 504,
-        size: 4096,
-        earlier: 0,
-        last: 512,
-    },
-    Sent {
-        payload: 505,
-        size: 4096,
-        earlier: 0,
-        last: 513,
-    },
-    Sent {
-        payload: 1008,
-        size: 4096,
-        earlier: 0,
-        last: 1016,
-    },
-    Sent {
-        payload: 4088,
-        size: 4096,
-        earlier: 0,
-        last: 4096,
-    },
-    Sent {
-        payload: 5000,
-        size: 4096,
-        earlier: 1,
-        last: 920,
-    },
-    Sent {
-        payload: 32_759,
-        size: 32_767,
-        earlier: 0,
-        last: 32_767,
-    },
-    Sent {
-        payload: 32_760,
-        size: 32_767,
-        earlier: 1,
-        last: 9,
-    },
-    // 300 packets: the PacketID goes from 255 to 0 and ends at 44.
-    Sent {
-        payload: 151_200,
-        size: 512,
-        earlier: 299,
-        last: 512,
-    },
-];
+/// Two packets of 512 bytes.
+const TWO: Sent = Sent {
+    payload: 1008,
+    size: 512,
+    earlier: 1,
+    last: 512,
+};
 
-/// A payload: its byte at a place is the place modulo 251.
-fn payload_of(alloc: Global, count: u32) -> Result<Vec<u8>, AllocError> {
-    let mut payload = Vec::new(alloc);
-    put_data(&mut payload, 0, count)?;
-    Ok(payload)
+fn number_of(word: &str) -> u32 {
+    word.parse().unwrap_or(0)
 }
 
-/// Appends so many bytes of a payload from a place on.
+fn size_of(word: &str) -> u16 {
+    word.parse().unwrap_or(0)
+}
+
+/// The row of a line.
+fn row_of(line: &str) -> Option<Sent> {
+    let (payload, others) = line.split_once(' ')?;
+    let (size, others) = others.split_once(' ')?;
+    let (earlier, last) = others.split_once(' ')?;
+    row_with(
+        number_of(payload),
+        size_of(size),
+        number_of(earlier),
+        size_of(last),
+    )
+}
+
+fn row_with(payload: u32, size: u16, earlier: u32, last: u16) -> Option<Sent> {
+    if size < 512 || size > 32767 || last < 8 {
+        return None;
+    }
+    Some(Sent {
+        payload,
+        size,
+        earlier,
+        last,
+    })
+}
+
+/// Appends so many bytes of a payload from a place on: its byte at a place is the place modulo 251.
 fn put_data(bytes: &mut Vec<u8>, from: u32, count: u32) -> Result<(), AllocError> {
     for place in 0..count {
         bytes.push((from.wrapping_add(place) % 251) as u8)?;
@@ -141,8 +105,15 @@ fn put_data(bytes: &mut Vec<u8>, from: u32, count: u32) -> Result<(), AllocError
     Ok(())
 }
 
-/// Appends a packet of type 0x04 and SPID 0x0133 with this status, this Length and this number,
-/// counted from 1, whose data stand in the payload from a place on.
+/// A payload of so many bytes.
+fn payload_of(alloc: Global, count: u32) -> Result<Vec<u8>, AllocError> {
+    let mut payload = Vec::new(alloc);
+    put_data(&mut payload, 0, count)?;
+    Ok(payload)
+}
+
+/// Appends a packet of type 0x04 and SPID 0x0133 with this status, this Length and this number, counted from 1,
+/// whose data stand in the payload from a place on.
 fn put_packet(
     bytes: &mut Vec<u8>,
     status: u8,
@@ -152,16 +123,14 @@ fn put_packet(
 ) -> Result<(), AllocError>
     requires { 8 ≤ length }
 {
-    let high = (length / 256) as u8;
-    let low = (length % 256) as u8;
+    let [high, low] = length.to_be_bytes();
     let id = (number % 256) as u8;
     bytes.extend_from_slice(&[0x04, status, high, low, 0x01, 0x33, id, 0x00])?;
     put_data(bytes, from, u32::from(length) - 8)
 }
 
-/// The packets that a row of the table names.
-fn packets_of(rt: &impl Abort, alloc: Global, row: &Sent) -> Result<Vec<u8>, AllocError> {
-    assert!(rt; row.size >= 512 && row.last >= 8);
+/// The packets that a row names, or none where its numbers do not fit.
+fn packets_of(alloc: Global, row: Sent) -> Result<Vec<u8>, AllocError> {
     let mut bytes = Vec::new(alloc);
     let mut from = 0u32;
     let mut number = 1u32;
@@ -171,118 +140,107 @@ fn packets_of(rt: &impl Abort, alloc: Global, row: &Sent) -> Result<Vec<u8>, All
         from = from.wrapping_add(u32::from(row.size - 8));
     }
     put_packet(&mut bytes, 0x01, row.last, number, from)?;
-    assert_eq!(rt;
-        from.wrapping_add(u32::from(row.last - 8)),
-        row.payload,
-        "a row of the table"
-    );
+    if from.wrapping_add(u32::from(row.last - 8)) != row.payload {
+        bytes.clear();
+    }
     Ok(bytes)
 }
 
 /// Sends a payload to a sink, as a message of type 0x04 with SPID 0x0133.
-fn send<K: Sink>(
-    rt: &impl Abort,
-    alloc: Global,
-    sink: &mut K,
-    size: u16,
-    payload: &[u8],
-) -> Result<(), SendFault> {
-    assert!(rt; size >= 512 && size <= 32767);
+fn send<K: Sink>(alloc: Global, sink: &mut K, size: u16, payload: &[u8]) -> Result<(), SendFault>
+    requires { (512 ≤ size) × (size ≤ 32767) }
+{
     send_message(alloc, sink, TABULAR_RESULT, 0x0133, size, payload)
 }
 
-/// Asserts that a payload is read again from what was sent, and no message more.
-fn assert_read_again(rt: &impl Abort, alloc: Global, bytes: Vec<u8>, payload: &[u8]) {
+/// Whether a payload is read again from what was sent, and no message more.
+fn is_read_again(alloc: Global, bytes: Vec<u8>, payload: &[u8]) -> bool {
     let mut source = MemorySource::new(bytes, 4096, Vec::new(alloc));
     let mut reader = Reader::new();
-    match reader.next_message(alloc, &mut source) {
+    let is_same = match reader.next_message(alloc, &mut source) {
         Ok(message) => {
-            assert_eq!(rt; message.kind, 0x04);
-            assert_eq!(rt; message.at, 0);
-            assert!(rt; message.payload.as_slice() == payload);
+            message.kind == 0x04 && message.at == 0 && message.payload.as_slice() == payload
         }
-        Err(fault) => panic!(rt; "{fault:?} in place of what was sent"),
-    }
-    match reader.next_message(alloc, &mut source) {
-        Ok(_) => panic!(rt; "one message too many"),
-        Err(fault) => assert_eq!(rt; fault, MessageFault::Closed),
-    }
+        Err(_) => false,
+    };
+    is_same
+        && matches!(
+            reader.next_message(alloc, &mut source),
+            Err(MessageFault::Closed)
+        )
+}
+
+/// Whether a row's payload is sent in its packets, and read again from them.
+fn is_sent_so(alloc: Global, row: Sent, piece: u32) -> Result<bool, SendFault>
+    requires { 0 < piece }
+{
+    let payload = payload_of(alloc, row.payload)?;
+    let mut sink = MemorySink::new(alloc, piece, Vec::new(alloc));
+    send(alloc, &mut sink, row.size, payload.as_slice())?;
+    let bytes = sink.into_bytes();
+    let is_wanted = bytes == packets_of(alloc, row)?;
+    Ok(is_wanted && is_read_again(alloc, bytes, payload.as_slice()))
 }
 
 #[test]
 fn a_payload_is_sent_in_its_packets_and_read_again(rt: HostRuntime) -> Result<(), Fail> {
-    let alloc = rt.alloc();
-    for row in &TABLE {
-        let payload = payload_of(alloc, row.payload)?;
-        let expected = packets_of(&rt, alloc, row)?;
+    for line in SENT.lines() {
+        let row = row_of(line).ok_or(line)?;
         for piece in [1_000_000, 4096, 7] {
-            let mut sink = MemorySink::new(alloc, piece, Vec::new(alloc));
-            send(&rt, alloc, &mut sink, row.size, payload.as_slice())?;
-            let bytes = sink.into_bytes();
-            let count = row.payload;
-            let size = row.size;
-            assert_eq!(rt; bytes.len(), expected.len(), "{count} at {size}");
-            assert!(rt; bytes == expected, "{count} at {size} in pieces of {piece}");
-            assert_read_again(&rt, alloc, bytes, payload.as_slice());
+            assert!(rt; is_sent_so(rt.alloc(), row, piece)?, "{line}");
         }
     }
     Ok(())
 }
 
-#[test]
-fn packet_ids_begin_anew_with_each_message(rt: HostRuntime) -> Result<(), Fail> {
-    let alloc = rt.alloc();
+/// The bytes of two messages, one of 505 bytes and one of one.
+fn two_messages(alloc: Global) -> Result<Vec<u8>, SendFault> {
     let mut sink = MemorySink::new(alloc, 7, Vec::new(alloc));
     send_message(alloc, &mut sink, TABULAR_RESULT, 51, 512, &[0x61; 505])?;
     send_message(alloc, &mut sink, SQL_BATCH, 0, 512, b"b")?;
-    let mut expected = vec![in alloc; 0x04, 0x00, 0x02, 0x00, 0x00, 0x33, 0x01, 0x00]?;
-    expected.extend_from_slice(&[0x61; 504])?;
-    expected.extend_from_slice(&[0x04, 0x01, 0x00, 0x09, 0x00, 0x33, 0x02, 0x00, 0x61])?;
-    expected.extend_from_slice(&[0x01, 0x01, 0x00, 0x09, 0x00, 0x00, 0x01, 0x00, 0x62])?;
-    assert!(rt; sink.into_bytes() == expected);
+    Ok(sink.into_bytes())
+}
+
+#[test]
+fn packet_ids_begin_anew_with_each_message(rt: HostRuntime) -> Result<(), Fail> {
+    let bytes = two_messages(rt.alloc())?;
+    let (header, behind) = bytes.split_at_checked(8).ok_or("no header")?;
+    assert!(rt; header == b"\x04\x00\x02\x00\x00\x33\x01\x00".as_slice());
+    let (data, others) = behind.split_at_checked(504).ok_or("no data")?;
+    assert!(rt; data == [0x61; 504].as_slice());
+    let wanted = b"\x04\x01\x00\x09\x00\x33\x02\x00a\x01\x01\x00\x09\x00\x00\x01\x00b";
+    assert!(rt; others == wanted.as_slice());
     Ok(())
 }
 
-/// Two packets of 512 bytes. In pieces of 100 bytes each takes six writes, of which the sixth has 12.
+/// Whether a write that fails leaves a front of the packets, of so many bytes.
+fn leaves_front(alloc: Global, piece: u32, call: u32, front: usize) -> Result<bool, SendFault>
+    requires { 0 < piece }
+{
+    let payload = payload_of(alloc, 1008)?;
+    let mut sink = MemorySink::new(alloc, piece, only(alloc, call)?);
+    let sent = send(alloc, &mut sink, 512, payload.as_slice());
+    let ends_so = if front == 1024 {
+        sent.is_ok()
+    } else {
+        matches!(sent, Err(SendFault::WriteFault))
+    };
+    let mut wanted = packets_of(alloc, TWO)?;
+    wanted.truncate(front);
+    Ok(ends_so && sink.into_bytes() == wanted)
+}
+
+fn leaves_so(alloc: Global, line: &str) -> Result<bool, SendFault> {
+    let (piece, others) = line.split_once(' ').unwrap_or((line, line));
+    let (call, front) = others.split_once(' ').unwrap_or((line, line));
+    let piece = number_of(piece).max(1);
+    leaves_front(alloc, piece, number_of(call), number_of(front) as usize)
+}
+
 #[test]
 fn a_write_that_fails_leaves_a_front_of_the_packets(rt: HostRuntime) -> Result<(), Fail> {
-    let alloc = rt.alloc();
-    let table = [
-        (4096, 1, Some(0)),
-        (4096, 2, Some(512)),
-        (4096, 3, None),
-        (100, 1, Some(0)),
-        (100, 2, Some(100)),
-        (100, 6, Some(500)),
-        (100, 7, Some(512)),
-        (100, 8, Some(612)),
-        (100, 12, Some(1012)),
-        (100, 13, None),
-    ];
-    let payload = payload_of(alloc, 1008)?;
-    let row = Sent {
-        payload: 1008,
-        size: 512,
-        earlier: 1,
-        last: 512,
-    };
-    for (piece, call, front) in table {
-        assert!(rt; piece > 0);
-        let failing = vec![in alloc; call]?;
-        let mut sink = MemorySink::new(alloc, piece, failing);
-        let sent = send(&rt, alloc, &mut sink, 512, payload.as_slice());
-        let mut expected = packets_of(&rt, alloc, &row)?;
-        match front {
-            Some(count) => {
-                expected.truncate(count);
-                assert_eq!(rt; sent, Err(SendFault::WriteFault), "write {call}");
-            }
-            None => assert_eq!(rt; sent, Ok(()), "write {call}"),
-        }
-        assert!(rt;
-            sink.into_bytes() == expected,
-            "write {call} in pieces of {piece}"
-        );
+    for line in FAILING.lines() {
+        assert!(rt; leaves_so(rt.alloc(), line)?, "{line}");
     }
     Ok(())
 }
@@ -316,31 +274,38 @@ impl Sink for FullSink {
     }
 }
 
+/// What comes of sending two packets, of 512 and of 504 bytes, to a sink with room for so many, and whether a
+/// fault was counted.
+fn sent_to_full(
+    alloc: Global,
+    room: usize,
+    wants_memory: bool,
+) -> Result<(Option<SendFault>, bool), SendFault> {
+    let payload = payload_of(alloc, 1000)?;
+    let mut sink = FullSink {
+        room,
+        wants_memory,
+        faults: 0,
+    };
+    let sent = send(alloc, &mut sink, 512, payload.as_slice()).err();
+    Ok((sent, sink.faults > 0))
+}
+
 #[test]
 fn a_full_sink_is_a_write_fault_and_want_of_memory_is_none(rt: HostRuntime) -> Result<(), Fail> {
-    let alloc = rt.alloc();
-    // Two packets, of 512 and of 504 bytes.
-    let payload = payload_of(alloc, 1000)?;
-    for room in [0, 1, 8, 511, 512, 513, 1015, 1016] {
-        for wants_memory in [false, true] {
-            let mut sink = FullSink {
-                room,
-                wants_memory,
-                faults: 0,
-            };
-            let expected = match (room, wants_memory) {
-                (1016, _) => Ok(()),
-                (_, true) => Err(SendFault::Memory),
-                (_, false) => Err(SendFault::WriteFault),
-            };
-            let sent = send(&rt, alloc, &mut sink, 512, payload.as_slice());
-            assert_eq!(rt; sent, expected, "room for {room}");
-            assert_eq!(rt;
-                sink.faults > 0,
-                sent == Err(SendFault::WriteFault),
-                "room for {room}"
-            );
-        }
+    for room in [0, 1, 8, 511, 512, 513, 1015] {
+        let full = sent_to_full(rt.alloc(), room, false)?;
+        assert!(rt;
+            full == (Some(SendFault::WriteFault), true),
+            "room for {room}"
+        );
+        let wants = sent_to_full(rt.alloc(), room, true)?;
+        assert!(rt;
+            wants == (Some(SendFault::Memory), false),
+            "room for {room}"
+        );
     }
+    assert!(rt; sent_to_full(rt.alloc(), 1016, false)? == (None, false));
+    assert!(rt; sent_to_full(rt.alloc(), 1016, true)? == (None, false));
     Ok(())
 }
