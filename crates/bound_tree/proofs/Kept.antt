@@ -1,26 +1,26 @@
 -- What each node gives is of the type that its node says, whatever its parts gave.
-use Rattle.std.proofs.Common.{◌≡◌, refl, sym, ap, subst, ℕ, ◌+◌, ◌≤◌, min, max, List, ◌++◌, take, length, Bool, true, false, ◌&&◌, IsTrue, nat_le, Option, Some, None, Result, Ok, Err, arith, if◌then◌else◌, ℤ, pos, negsuc, ◌+ℤ◌, ◌-ℤ◌, ◌*ℤ◌, neg_ℤ, int_div, int_rem}
+use Rattle.std.proofs.Common.{◌≡◌, refl, sym, ap, subst, ℕ, ◌+◌, ◌≤◌, min, max, List, ◌++◌, take, length, Bool, true, false, ◌&&◌, IsTrue, nat_le, Option, Some, None, Result, Ok, Err, arith, if◌then◌else◌, ℤ, pos, ◌+ℤ◌, ◌-ℤ◌, ◌*ℤ◌, neg_ℤ, int_div, int_rem}
 use Rattle.std.specs.Prelude.{codes}
 use Rattle.std.specs.Fmt.{signed_decimal}
 use Rattle.std.specs.Ordering.{int_eq}
-use Rattle.std.proofs.lemmas.Bool.{leb-true, le-leb, eqb-true}
+use Rattle.std.proofs.lemmas.Bool.{leb-true, eqb-true}
 use Rattle.std.proofs.lemmas.List.{length-append, length-take}
 use Rattle.value_types.specs.declared.value.Value.{Value}
 use Rattle.value_types.specs.declared.value.Value.TheVariants.{Null, Whole, Bit, Text}
 use Rattle.value_types.specs.declared.sql_type.SqlType.{SqlType}
 use Rattle.value_types.specs.declared.sql_type.SqlType.TheVariants.{TinyInt, SmallInt, Int, BigInt, Bit as BitType, NText}
 use Rattle.convert_rules.specs.declared.fault.ConvertFault.{ConvertFault}
-use Rattle.convert_rules.specs.Types.{IsOf, is_in_range}
+use Rattle.convert_rules.specs.Types.{IsOf, is_in_range, text_limit}
 use Rattle.convert_rules.specs.Reading.{number_in}
 use Rattle.convert_rules.specs.Errors.{error_of}
 use Rattle.convert_rules.specs.Conversion as rule
 use Rattle.convert_rules.specs.Conversion.{cast_of, is_text}
 use Rattle.bound_tree.specs.declared.expr.InfixOp.{InfixOp}
 use Rattle.bound_tree.specs.declared.expr.InfixOp.TheVariants.{Add, Subtract, Multiply, Divide, Remainder}
-use Rattle.bound_tree.specs.Kinds.{are_alike, is_of, longer, same_kind}
+use Rattle.bound_tree.specs.Kinds.{are_alike, longer, same_kind}
 use Rattle.bound_tree.specs.Outcomes.{Outcome, after, overflow, zero_divisor}
 use Rattle.bound_tree.specs.Numbers.{arithmetic_of, computed, fitted, negation_of, value_outcome}
-use Rattle.bound_tree.specs.Texts.{count_units, length_of, text_limit}
+use Rattle.bound_tree.specs.Texts.{count_units, length_of}
 use Rattle.bound_tree.specs.Conversions.{cast_outcome, conversion, error_outcome}
 use Rattle.bound_tree.specs.Typed.{GivesOf}
 
@@ -143,7 +143,7 @@ cast_kept (Text units) to = from_text_kept to units
 
 pub conversion_kept : (from to : SqlType) (a : Outcome Value) → GivesOf to (after a (conversion from to))
 conversion_kept from to (Err n) = tt
-conversion_kept from to (Ok x) = by_test (is_of from x)
+conversion_kept from to (Ok x) = of_cast (cast_of x to) (cast_kept x to)
   where
     of_error : (number : Option ℤ) → GivesOf to (error_outcome number)
     of_error None = tt
@@ -152,10 +152,6 @@ conversion_kept from to (Ok x) = by_test (is_of from x)
     of_cast : (cast : Result Value ConvertFault) → CastOf to cast → GivesOf to (cast_outcome from to cast)
     of_cast (Ok value) e = e
     of_cast (Err fault) e = of_error (error_of fault from to)
-
-    by_test : (b : Bool) → GivesOf to (if b then cast_outcome from to (cast_of x to) else Ok Null)
-    by_test true = of_cast (cast_of x to) (cast_kept x to)
-    by_test false = tt
 
 -- ---- types
 

@@ -11,7 +11,7 @@ use Rattle.convert_rules.specs.declared.fault.ConvertFault.{ConvertFault}
 use Rattle.convert_rules.specs.declared.fault.ConvertFault.TheVariants.{Overflow, NotANumber, TooLong, Memory}
 use Rattle.convert_rules.specs.Types.{is_in_range}
 use Rattle.convert_rules.specs.Reading.{number_in}
-use Rattle.convert_rules.specs.Errors.{error_of, no_number, number_outside, text_outside}
+use Rattle.convert_rules.specs.Errors.{no_number, number_outside, text_outside}
 use Rattle.convert_rules.specs.Conversion as rule
 use Rattle.convert_rules.specs.Conversion.{cast_of, is_text}
 use Rattle.bound_tree.specs.declared.truth.Truth.{Truth}
@@ -28,12 +28,12 @@ use Rattle.bound_tree.specs.declared.expr.BoundExpr.TheOpen.{BoundExpr-F, BoundT
 use Rattle.bound_tree.specs.declared.expr.BoundExpr.TheFolds.{ind-BoundExpr, ind-BoundTest, map-BoundExpr, map-BoundTest, fold-roll-BoundExpr, fold-roll-BoundTest, fold-roll-BoundArm, fold-roll-BoundSide}
 use Rattle.bound_tree.specs.declared.expr.BoundExpr.TheViews.{roll-BoundExpr, roll-BoundTest, roll-BoundArm, roll-BoundSide}
 use Rattle.bound_tree.specs.Truths.{is_false, is_true}
-use Rattle.bound_tree.specs.Kinds.{are_alike, is_of}
+use Rattle.bound_tree.specs.Kinds.{are_alike}
 use Rattle.bound_tree.specs.Outcomes.{Outcome, after}
 use Rattle.bound_tree.specs.Numbers as numbers
 use Rattle.bound_tree.specs.Texts as texts
-use Rattle.bound_tree.specs.Conversions.{brought, cast_outcome, conversion, error_outcome}
-use Rattle.bound_tree.specs.Comparisons.{and_then, any_of, any_onto, both, compared, either, or_then}
+use Rattle.bound_tree.specs.Conversions.{brought, cast_outcome, conversion}
+use Rattle.bound_tree.specs.Comparisons.{any_onto, both, compared, or_then}
 use Rattle.bound_tree.specs.Setting.{Setting, rows_at, scalar_of}
 use Rattle.bound_tree.specs.Meaning as meaning
 use Rattle.bound_tree.specs.Meaning.{ArmOutcome, SideOutcome, is_null}
@@ -189,7 +189,7 @@ cast_raises from to (Err TooLong) h = absurd h
 cast_raises from to (Err Memory) h = absurd h
 
 conversion_raises : (from to : SqlType) (x : Value) → Raises (conversion from to x)
-conversion_raises from to x = choice_raises (is_of from x) _ _ (cast_raises from to (cast_of x to) (cast_faults x to)) tt
+conversion_raises from to x = cast_raises from to (cast_of x to) (cast_faults x to)
 
 brought_raises : (from to : SqlType) (x : Value) → Raises (brought from to x)
 brought_raises from to x = choice_raises (are_alike from to) _ _ tt (conversion_raises from to x)

@@ -1,11 +1,11 @@
 -- What a well-formed tree gives is of its type, by induction over the tree.
 use Rattle.std.proofs.lemmas.Bool.{leb-true, le-leb}
-use Rattle.std.proofs.Common.{◌≡◌, refl, sym, subst, ℕ, zero, suc, ◌+◌, ◌≤◌, min, max, List, [], ◌∷◌, ◌++◌, map, take, length, slice_get, Bool, true, false, ◌&&◌, IsTrue, nat_le, nat_abs, Option, Some, None, Ok, Err, rules, arith, if◌then◌else◌, ℤ, pos, negsuc, All}
+use Rattle.std.proofs.Common.{◌≡◌, refl, sym, subst, ℕ, zero, suc, ◌+◌, ◌≤◌, min, List, [], ◌∷◌, ◌++◌, map, take, length, slice_get, Bool, true, false, ◌&&◌, IsTrue, nat_le, nat_abs, Option, Some, None, Ok, Err, arith, if◌then◌else◌, ℤ, pos, negsuc, All}
 use Rattle.value_types.specs.declared.value.Value.{Value}
 use Rattle.value_types.specs.declared.value.Value.TheVariants.{Null, Whole, Bit, Text}
 use Rattle.value_types.specs.declared.sql_type.SqlType.{SqlType}
 use Rattle.value_types.specs.declared.sql_type.SqlType.TheVariants.{TinyInt, SmallInt, Int, BigInt, Bit as BitType, NText}
-use Rattle.convert_rules.specs.Types.{IsOf, is_in_range}
+use Rattle.convert_rules.specs.Types.{IsOf, is_in_range, text_limit}
 use Rattle.convert_rules.specs.Conversion.{is_text}
 use Rattle.bound_tree.specs.declared.truth.Truth.{Truth}
 use Rattle.bound_tree.specs.declared.truth.Truth.TheVariants as truth
@@ -21,7 +21,7 @@ use Rattle.bound_tree.specs.Kinds.{are_alike, longer}
 use Rattle.bound_tree.specs.Truths.{is_true}
 use Rattle.bound_tree.specs.Outcomes.{Outcome, after}
 use Rattle.bound_tree.specs.Numbers.{arithmetic_of, number_outcome, value_outcome}
-use Rattle.bound_tree.specs.Texts.{joined_of, text_limit}
+use Rattle.bound_tree.specs.Texts.{joined_of}
 use Rattle.bound_tree.specs.Setting.{Setting, only_of, rows_at, scalar_of, system_place, value_at}
 use Rattle.bound_tree.specs.Meaning as meaning
 use Rattle.bound_tree.specs.Meaning.{ArmOutcome, SideOutcome, is_null}

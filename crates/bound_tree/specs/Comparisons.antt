@@ -1,6 +1,6 @@
 -- Transact-SQL reference, "Comparison operators" and "Logical operators": what a comparison says, which is
 -- unknown beside NULL, and tests joined, of which what doesn't decide is not evaluated.
-use Rattle.std.specs.Prelude.{Bool, true, false, nat_eq, if◌then◌else◌, List, [], ◌∷◌, Option, Some, None, Ok, Err}
+use Rattle.std.specs.Prelude.{Bool, true, false, nat_eq, if◌then◌else◌, List, [], ◌∷◌, Option, Some, None, Ok}
 use Rattle.std.specs.declared.cmp.Ordering.{Ordering}
 use Rattle.std.specs.declared.cmp.Ordering.TheVariants as order
 use Rattle.value_types.specs.declared.value.Value.{Value}

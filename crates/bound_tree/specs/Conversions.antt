@@ -7,7 +7,7 @@ use Rattle.value_types.specs.declared.value.Value.TheVariants.{Null}
 use Rattle.convert_rules.specs.declared.fault.ConvertFault.{ConvertFault}
 use Rattle.convert_rules.specs.Conversion.{cast_of}
 use Rattle.convert_rules.specs.Errors.{error_of}
-use Rattle.bound_tree.specs.Kinds.{are_alike, is_of}
+use Rattle.bound_tree.specs.Kinds.{are_alike}
 use Rattle.bound_tree.specs.Outcomes.{Outcome}
 
 -- the error of this number; the one fault without a number, want of memory, is not in the table of
@@ -21,9 +21,9 @@ abbrev pub cast_outcome : SqlType → SqlType → Result Value ConvertFault → 
 cast_outcome from to (Ok value) = Ok value
 cast_outcome from to (Err fault) = error_outcome (error_of fault from to)
 
--- the value as one of the type `to`; one that is not of the type `from` counts as NULL
+-- the value as one of the type `to`. The type `from` says which error there is.
 abbrev pub conversion : SqlType → SqlType → Value → Outcome Value
-conversion from to value = if is_of from value then cast_outcome from to (cast_of value to) else Ok Null
+conversion from to value = cast_outcome from to (cast_of value to)
 
 -- the value as one of the type in which a pair is compared: a text beside a text stays as it is, whatever
 -- their sizes

@@ -1,9 +1,8 @@
 -- Transact-SQL reference, "Database engine events and errors": the errors that an expression or a test can
 -- give. A text too long for a column is none of them, since expressions cut.
-use Rattle.std.specs.Prelude.{ℤ, pos, Bool, true, false, ◌||◌, List, [], ◌∷◌, Ok, Err}
+use Rattle.std.specs.Prelude.{ℤ, pos, Bool, List, [], ◌∷◌}
 use Rattle.std.specs.Ordering.{int_eq}
 use Rattle.std.specs.List.{list_any}
-use Rattle.bound_tree.specs.Outcomes.{Outcome}
 
 -- a number outside TINYINT or SMALLINT; one in a text outside them, and outside INT; a text that is no
 -- number; more rows than one; a text that is no BIGINT; a result outside its type; a divisor of zero

@@ -1,11 +1,8 @@
 -- Transact-SQL reference, "Data type precedence": types in their order, the highest first BIGINT, INT,
 -- SMALLINT, TINYINT, BIT, NVARCHAR. Operands of two types are converted to the higher.
-use Rattle.std.specs.Prelude.{ℕ, max, Bool, true, false, nat_lt, nat_le, nat_eq, ◌&&◌, unwrap_or, if◌then◌else◌, length, Option, Some, None}
+use Rattle.std.specs.Prelude.{ℕ, max, Bool, nat_lt, nat_eq, ◌&&◌, unwrap_or, if◌then◌else◌, Option, Some, None}
 use Rattle.value_types.specs.declared.sql_type.SqlType.{SqlType}
 use Rattle.value_types.specs.declared.sql_type.SqlType.TheVariants.{TinyInt, SmallInt, Int, BigInt, Bit as BitType, NText}
-use Rattle.value_types.specs.declared.value.Value.{Value}
-use Rattle.value_types.specs.declared.value.Value.TheVariants.{Null, Whole, Bit, Text}
-use Rattle.convert_rules.specs.Types.{is_in_range}
 
 -- the place of a type among the types, the lowest first
 abbrev pub rank : SqlType → ℕ
@@ -41,15 +38,3 @@ text_size BigInt = None
 -- both are the same type
 abbrev pub same_kind : SqlType → SqlType → Bool
 same_kind a b = are_alike a b && nat_eq (unwrap_or (text_size a) 0) (unwrap_or (text_size b) 0)
-
--- a text of so many units is one of the type
-abbrev pub has_room : ℕ → Option ℕ → Bool
-has_room count None = false
-has_room count (Some size) = nat_le count size
-
--- the value is NULL or one of the type
-abbrev pub is_of : SqlType → Value → Bool
-is_of kind Null = true
-is_of kind (Whole number) = is_in_range kind number
-is_of kind (Bit bit) = are_alike kind BitType
-is_of kind (Text units) = has_room (length units) (text_size kind)

@@ -15,10 +15,6 @@ pub record Setting : Type 0 where
   pub system : List Value
   pub inner : List (List (List Value))
 
--- how many values of the session there are
-abbrev pub system_count : ℕ
-system_count = 11
-
 abbrev pub system_place : SystemValue → ℕ
 system_place TranCount = 0
 system_place Error = 1
@@ -43,7 +39,8 @@ rows_at inner place = get_or inner place []
 abbrev pub only_of : List Value → Value
 only_of row = value_at row 0
 
--- the rows as one value: NULL where there is none; an error where the caller's promise is broken
+-- the rows as one value: NULL where there is none. Who answers an inner query that stands as a value comes
+-- first and gives this error there, so it comes here only where that promise is broken.
 abbrev pub scalar_of : List (List Value) → Outcome Value
 scalar_of [] = Ok Null
 scalar_of (row ∷ []) = Ok (only_of row)

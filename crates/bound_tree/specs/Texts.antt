@@ -5,13 +5,10 @@ use Rattle.std.specs.List.{suffix_len}
 use Rattle.value_types.specs.declared.sql_type.SqlType.TheVariants.{Int}
 use Rattle.value_types.specs.declared.value.Value.{Value}
 use Rattle.value_types.specs.declared.value.Value.TheVariants.{Null, Whole, Bit, Text}
+use Rattle.convert_rules.specs.Types.{text_limit}
 use Rattle.convert_rules.specs.Reading.{is_space}
 use Rattle.bound_tree.specs.Outcomes.{Outcome, after}
 use Rattle.bound_tree.specs.Numbers.{fitted}
-
--- the most units of a text that is made of two
-abbrev pub text_limit : ℕ
-text_limit = 4000
 
 -- two texts joined, and cut where they are too long; of NULL comes NULL
 abbrev pub joined : Value → Value → Value

@@ -3,13 +3,13 @@
 -- types that the node says, of which a lone NULL has any. Sizes of texts alone may differ where texts are
 -- compared or one of several is given: a longer type would change no value. What a well-formed tree gives
 -- is of its type. Which type a text of the language wants, and where it wants conversions, binding says.
-use Rattle.std.specs.Prelude.{◌≡◌, ℕ, ◌+◌, ℤ, min, max, nat_abs, Bool, true, false, ◌&&◌, IsTrue, nat_le, is_some, if◌then◌else◌, List, [], ◌∷◌, length, All, slice_get, Option, Some, None, Ok, Err}
+use Rattle.std.specs.Prelude.{ℕ, ◌+◌, min, max, nat_abs, Bool, true, false, ◌&&◌, nat_le, is_some, if◌then◌else◌, List, [], ◌∷◌, length, All, slice_get, Option, Some, None, Ok, Err}
 use Rattle.std.specs.List.{list_all}
 use Rattle.value_types.specs.declared.sql_type.SqlType.{SqlType}
 use Rattle.value_types.specs.declared.sql_type.SqlType.TheVariants.{TinyInt, SmallInt, Int, BigInt, Bit as BitType, NText}
 use Rattle.value_types.specs.declared.value.Value.{Value}
 use Rattle.value_types.specs.declared.value.Value.TheVariants.{Null, Whole, Bit, Text}
-use Rattle.convert_rules.specs.Types.{IsOf, is_in_range}
+use Rattle.convert_rules.specs.Types.{IsOf, is_in_range, text_limit}
 use Rattle.convert_rules.specs.Conversion.{is_text}
 use Rattle.bound_tree.specs.declared.expr.InfixOp.{InfixOp}
 use Rattle.bound_tree.specs.declared.expr.InfixOp.TheVariants.{Add, Subtract, Multiply, Divide, Remainder}
@@ -21,7 +21,6 @@ use Rattle.bound_tree.specs.declared.expr.BoundExpr.TheOpen.{BoundExpr-F, BoundT
 use Rattle.bound_tree.specs.declared.expr.BoundExpr.TheFolds.{fold-BoundExpr, fold-BoundTest, fold-BoundArm, fold-BoundSide}
 use Rattle.bound_tree.specs.Kinds.{are_alike, longer, rank, same_kind, text_size}
 use Rattle.bound_tree.specs.Outcomes.{Outcome}
-use Rattle.bound_tree.specs.Texts.{text_limit}
 use Rattle.bound_tree.specs.Setting.{Setting, system_place}
 
 -- ---- types
@@ -173,6 +172,10 @@ pub record SettingTypes : Type 0 where
   pub vars : List SqlType
   pub system : List SqlType
   pub inner : List (List SqlType)
+
+-- the types of a row alone, as a CHECK is well formed over them
+abbrev pub row_types : List SqlType → SettingTypes
+row_types kinds = record { row = kinds; vars = []; system = []; inner = [] }
 
 -- the types of the values of the session, in their order
 abbrev pub system_kinds : List SqlType

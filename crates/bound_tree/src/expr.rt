@@ -1,13 +1,13 @@
 //! Expressions and tests.
 
-ghost use Rattle.std.specs.Prelude.{◌≡◌, ℤ, IsTrue, Err};
+ghost use Rattle.std.specs.Prelude.{◌≡◌, ℤ, List, IsTrue, Err};
 ghost use Rattle.value_types.specs.declared.sql_type.SqlType.{SqlType as Kind};
 ghost use Rattle.bound_tree.specs.declared.expr.BoundExpr.{BoundExpr};
 ghost use Rattle.bound_tree.specs.declared.expr.BoundTest.{BoundTest};
 ghost use Rattle.bound_tree.specs.Setting.{Setting};
 ghost use Rattle.bound_tree.specs.Faults.{is_fault};
 ghost use Rattle.bound_tree.specs.Meaning.{truth, value};
-ghost use Rattle.bound_tree.specs.Typed.{Fits, GivesOf, SettingTypes, is_formed};
+ghost use Rattle.bound_tree.specs.Typed.{Fits, GivesOf, SettingTypes, is_formed, is_formed_test, row_types};
 
 use crate::SystemValue;
 use sqlite_items::{Boxed, Items};
@@ -72,7 +72,8 @@ pub enum BoundExpr {
     NullIf(SqlType, Boxed<BoundExpr>, Boxed<BoundSide>),
     /// LEN of a text.
     Length(Boxed<BoundExpr>),
-    /// The one value of the inner query of this place; NULL where it has no row.
+    /// The one value of the inner query of this place; NULL where it has no row. Who answered that
+    /// query came first, and refused there what has more rows than one.
     Scalar(u16),
 }
 
@@ -136,4 +137,13 @@ pub fn law_faults()
         → value setting expr ≡ Err number → IsTrue (is_fault number) }
     ensures test { (setting : Setting) (test : BoundTest) (number : ℤ)
         → truth setting test ≡ Err number → IsTrue (is_fault number) }
+{}
+
+/// What is well formed over the types of a row alone, as a CHECK is, gives the same whatever the
+/// variables, the values of the session and the rows of inner queries are.
+pub fn law_row_alone()
+    ensures expr { (kinds : List Kind) (a b : Setting) → a.row ≡ b.row → (expr : BoundExpr) (kind : Kind)
+        → IsTrue (is_formed (row_types kinds) expr kind) → value a expr ≡ value b expr }
+    ensures test { (kinds : List Kind) (a b : Setting) → a.row ≡ b.row → (test : BoundTest)
+        → IsTrue (is_formed_test (row_types kinds) test) → truth a test ≡ truth b test }
 {}

@@ -71,11 +71,20 @@ pub struct Item {
     pub expr: BoundExpr,
 }
 
+/// Of what the values are that rows are ordered by.
+#[derive(Drop)]
+pub enum OrderKey {
+    /// The item of this place: an alias, or an item's number. With DISTINCT there is no other key.
+    Item(u16),
+    /// An expression over the rows of the query.
+    Expr(BoundExpr),
+}
+
 /// What rows are ordered by.
 #[derive(Drop)]
 pub struct BoundOrder {
     /// The values that are compared.
-    pub expr: BoundExpr,
+    pub key: OrderKey,
     /// Whether the greatest comes first.
     pub descending: bool,
 }
@@ -106,5 +115,16 @@ pub struct BoundQuery {
     /// At most how many rows it gives, where TOP stands.
     pub top: Option<u32>,
     /// The inner queries, in the order of the text.
-    pub inner: Items<BoundQuery>,
+    pub inner: Items<InnerQuery>,
+}
+
+/// An inner query. All are answered before what they stand in is evaluated, in the order of the text.
+#[cycle(query)]
+#[derive(Drop)]
+pub struct InnerQuery {
+    /// The query.
+    pub query: BoundQuery,
+    /// Whether it stands as a value. More than one row is error 512 then, where it is answered, also
+    /// if the value is not needed.
+    pub single: bool,
 }

@@ -1,7 +1,8 @@
 //! The values of the session that an expression may name.
 
 ghost use Rattle.std.specs.Prelude.{◌≡◌, length};
-ghost use Rattle.bound_tree.specs.Setting.{system_count, system_place, value_at};
+ghost use Rattle.bound_tree.specs.Setting.{system_place, value_at};
+ghost use Rattle.bound_tree.specs.Typed.{AreOf, system_kinds};
 
 use std::marker::Model;
 use value_types::Value;
@@ -54,7 +55,7 @@ impl SystemValue {
     }
 }
 
-/// The values of the session, one for each [`SystemValue`], in that order.
+/// The values of the session, one for each [`SystemValue`], in that order, each NULL or of its type.
 #[derive(Debug, Drop)]
 pub struct SystemValues {
     values: Vec<Value>,
@@ -63,19 +64,21 @@ pub struct SystemValues {
 impl Model for SystemValues {
     ghost use Rattle.std.specs.Prelude.{◌≡◌, List, length};
     ghost use Rattle.value_types.specs.declared.value.Value.{Value as SqlValue};
-    ghost use Rattle.bound_tree.specs.Setting.{system_count};
+    ghost use Rattle.bound_tree.specs.Typed.{AreOf, system_kinds};
 
     ghost Value = { List SqlValue };
 
     ghost view = { λ system. system.values.items };
 
-    ghost invariant = { λ system. length system.values.items ≡ system_count };
+    ghost invariant = { λ system. (length system.values.items ≡ length system_kinds)
+        × AreOf system_kinds system.values.items };
 }
 
 impl SystemValues {
     /// These values, of which there are eleven.
     pub fn new(values: Vec<Value>) -> SystemValues
-        requires { length values.items ≡ system_count }
+        requires count { length values.items ≡ length system_kinds }
+        requires typed { AreOf system_kinds values.items }
         ensures { result ≡ values.items }
     {
         SystemValues { values }
@@ -86,5 +89,12 @@ impl SystemValues {
         ensures { result.now ≡ value_at self.now (system_place of) }
     {
         &self.values[of.place()]
+    }
+
+    /// Each value is NULL or of its type.
+    pub fn law_typed(&self)
+        ensures { AreOf system_kinds self.now }
+    {
+        let _ = &self.values;
     }
 }

@@ -1,6 +1,6 @@
 //! Writes, and what a statement is bound to.
 
-use crate::{BoundExpr, BoundQuery, BoundTest};
+use crate::{BoundExpr, BoundQuery, BoundTest, InnerQuery};
 use sqlite_items::Items;
 use value_types::TableName;
 
@@ -17,7 +17,7 @@ pub struct BoundSet {
 #[derive(Drop)]
 pub enum BoundRows {
     /// The values of each row, and the inner queries in them.
-    Values(Items<Items<BoundExpr>>, Items<BoundQuery>),
+    Values(Items<Items<BoundExpr>>, Items<InnerQuery>),
     /// What a query answers.
     Query(BoundQuery),
 }
@@ -29,6 +29,9 @@ pub enum BoundWrite {
     Insert {
         /// The table.
         table: TableName,
+        /// The places of the columns that are given, in the order of the text. Each row has a value for
+        /// each of them, in this order; the other columns are NULL.
+        columns: Items<u16>,
         /// The rows.
         rows: BoundRows,
     },
@@ -41,7 +44,7 @@ pub enum BoundWrite {
         /// WHERE.
         filter: Option<BoundTest>,
         /// The inner queries, in the order of the text.
-        inner: Items<BoundQuery>,
+        inner: Items<InnerQuery>,
     },
     /// DELETE.
     Delete {
@@ -50,7 +53,7 @@ pub enum BoundWrite {
         /// WHERE.
         filter: Option<BoundTest>,
         /// The inner queries, in the order of the text.
-        inner: Items<BoundQuery>,
+        inner: Items<InnerQuery>,
     },
 }
 

@@ -1,6 +1,6 @@
 -- Transact-SQL reference, "int, bigint, smallint, and tinyint", "bit" and "nchar and nvarchar": which
 -- values a type has. The code compares a number with ranges.
-use Rattle.std.specs.Prelude.{◌≤◌, ℤ, pos, negsuc, Bool, false, ◌&&◌, IsTrue, length, int_le}
+use Rattle.std.specs.Prelude.{◌≤◌, ℕ, ℤ, pos, negsuc, Bool, false, ◌&&◌, IsTrue, length, int_le}
 use Rattle.value_types.specs.declared.sql_type.SqlType.{SqlType}
 use Rattle.value_types.specs.declared.sql_type.SqlType.TheVariants.{TinyInt, SmallInt, Int, BigInt, Bit as BitType, NText}
 use Rattle.value_types.specs.declared.value.Value.{Value}
@@ -28,3 +28,14 @@ IsOf kind (Whole number) = IsTrue (is_in_range kind number)
 IsOf BitType (Bit bit) = Unit {0}
 IsOf (NText size) (Text units) = length units ≤ size
 IsOf kind value = ⊥
+
+-- the most units of a type of texts
+abbrev pub text_limit : ℕ
+text_limit = 4000
+
+-- a type of the value's own kind: the longest one, and INT where it is NULL (own)
+abbrev pub type_of : Value → SqlType
+type_of Null = Int
+type_of (Whole number) = BigInt
+type_of (Bit bit) = BitType
+type_of (Text units) = NText text_limit

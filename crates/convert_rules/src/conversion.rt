@@ -3,7 +3,7 @@
 ghost use Rattle.std.specs.Prelude.{◌≡◌, zip, take, IsTrue, Ok};
 ghost use Rattle.std.specs.List.{list_all};
 ghost use Rattle.std.specs.Char.{to_ascii_lowercase};
-ghost use Rattle.convert_rules.specs.Types.{is_in_range, IsOf};
+ghost use Rattle.convert_rules.specs.Types.{is_in_range};
 ghost use Rattle.convert_rules.specs.Conversion.{Gives, bit_in, bit_number, cast_of, converted, decimal_in, from_text, from_whole, is_letter, is_text, says, text_in, whole_in};
 ghost use Rattle.convert_rules.specs.Partial.{bit_of_read, whole_of};
 
@@ -13,14 +13,14 @@ use itoa::Buffer;
 use std::alloc::Global;
 use value_types::{SqlType, Units, Value};
 
-/// The value as one of the type `to`. A text that is too long is refused.
+/// The value as one of the type `to`. A text that is too long is refused. The value says by itself of
+/// which kind it comes, so nothing hangs on `from`, by which [`error_of`] names a fault.
 pub fn convert(
     alloc: Global,
     value: &Value,
     from: SqlType,
     to: SqlType,
 ) -> Result<Value, ConvertFault>
-    requires { IsOf from value.now }
     ensures value { Gives result (converted value.now to) }
     ensures memory { result ≡ Err ConvertFault.Memory → IsTrue (is_text to) }
 {
@@ -32,9 +32,8 @@ pub fn convert(
     }
 }
 
-/// The value as one of the type `to`. A text that is too long is cut.
+/// The value as one of the type `to`, as by [`convert`], but a text that is too long is cut.
 pub fn cast(alloc: Global, value: &Value, from: SqlType, to: SqlType) -> Result<Value, ConvertFault>
-    requires { IsOf from value.now }
     ensures value { Gives result (cast_of value.now to) }
     ensures memory { result ≡ Err ConvertFault.Memory → IsTrue (is_text to) }
 {

@@ -1,13 +1,18 @@
 //! Why a value is not converted, and which error that is.
 
-ghost use Rattle.std.specs.Prelude.{◌≡◌};
+ghost use Rattle.std.specs.Prelude.{◌≡◌, ◌≢◌};
+ghost use Rattle.value_types.specs.declared.sql_type.SqlType.{SqlType as Kind};
+ghost use Rattle.value_types.specs.declared.value.Value.{Value as SqlValue};
+ghost use Rattle.value_types.specs.declared.value.Value.TheVariants.{Null};
+ghost use Rattle.convert_rules.specs.Types.{IsOf, type_of};
 ghost use Rattle.convert_rules.specs.Conversion.{is_text};
 ghost use Rattle.convert_rules.specs.Errors.{error_of, no_number, number_outside, text_outside};
+ghost use Rattle.convert_rules.specs.declared.fault.ConvertFault.{ConvertFault as Fault};
 ghost use Rattle.convert_rules.specs.declared.fault.ConvertFault.TheVariants.{Memory as NoMemory};
 
 use std::alloc::{AllocError, AllocFailed};
 use thiserror::Error;
-use value_types::{Memory, SqlType};
+use value_types::{Memory, SqlType, Value};
 
 /// Why a value is not converted.
 #[derive(Clone, Copy, Debug, PartialEq, Eq, Error)]
@@ -63,6 +68,24 @@ pub fn error_of(fault: ConvertFault, from: SqlType, to: SqlType) -> Option<i32>
         ConvertFault::Memory => None,
     }
 }
+
+/// A type of the value's own kind, from which it is converted where no other is known.
+pub fn type_of(value: &Value) -> SqlType
+    ensures { result ≡ type_of value.now }
+{
+    match value {
+        Value::Null => SqlType::Int,
+        Value::Whole(_) => SqlType::BigInt,
+        Value::Bit(_) => SqlType::Bit,
+        Value::Text(_) => SqlType::NText(4000),
+    }
+}
+
+/// The error of a fault is the same from every type that has the value. NULL is never refused.
+pub fn law_error_of()
+    ensures { (fault : Fault) (value : SqlValue) (from to : Kind) → value ≢ Null → IsOf from value
+        → error_of fault from to ≡ error_of fault (type_of value) to }
+{}
 
 /// The error where a number is outside this type.
 fn number_outside(to: SqlType) -> i32

@@ -1,5 +1,5 @@
 -- Places in a list, and in the list of what a function makes of each element.
-use Rattle.std.proofs.Common.{◌≡◌, ℕ, zero, suc, ◌+◌, ◌<◌, Bool, true, false, not, nat_lt, cond, List, [], ◌∷◌, map, length, get_or, Some, None, position, refl, ap, ◌∙◌, arith}
+use Rattle.std.proofs.Common.{◌≡◌, ℕ, zero, suc, ◌+◌, ◌<◌, Bool, true, false, not, nat_lt, cond, List, [], ◌∷◌, map, length, get_or, Some, None, position, refl, ap, sym, ◌∙◌, arith}
 use Rattle.std.specs.Prelude.{slice_get}
 use Rattle.std.specs.List.{position_or_len, prefix_len, list_any}
 
@@ -44,3 +44,9 @@ pub at_place : {A : Type 0} (xs : List A) (i : ℕ) (r x : A) → slice_get xs i
 at_place [] i r x at is = cc
 at_place (y ∷ xs) zero r x at is = cc
 at_place (y ∷ xs) (suc i) r x at is = at_place xs i r x at is
+
+-- what is read at a place within is found there
+pub found_at : {A : Type 0} (xs : List A) (i : ℕ) (r : A) → i < length xs → r ≡ get_or xs i r → slice_get xs i ≡ Some r
+found_at [] i r within is = absurd (omega (arith, within))
+found_at (y ∷ xs) zero r within is = ap Some (sym is)
+found_at (y ∷ xs) (suc i) r within is = found_at xs i r (omega (arith, within)) is

@@ -21,6 +21,10 @@ fresh name kind = record { name = name; kind = kind; value = Null }
 abbrev pub StandsAt : ℕ → Variable → List Variable → Type 0
 StandsAt place variable variables = slice_get variables place ≡ Some variable
 
+-- the variable is NULL or has a value of its type
+abbrev pub HasItsType : Variable → Type 0
+HasItsType variable = IsOf variable.kind variable.value
+
 -- the value is one of the type of the variable at this place
 abbrev pub FitsAt : ℕ → Value → List Variable → Type 0
 FitsAt place value variables = (variable : Variable) → StandsAt place variable variables → IsOf variable.kind value

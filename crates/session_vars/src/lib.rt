@@ -7,8 +7,8 @@
 //! declared. Only tests show that want of memory is not answered where there is memory.
 #![tactic(auto)]
 
-ghost use Rattle.std.specs.Prelude.{◌≡◌, ◌<◌, ◌++◌, ◌∷◌, ◌↔◌, [], length, map, IsSome, OnOk, OnErr, slice_set};
-ghost use Rattle.session_vars.specs.Variables.{FitsAt, StandsAt, count_limit, fresh, place_of};
+ghost use Rattle.std.specs.Prelude.{◌≡◌, ◌<◌, ◌++◌, ◌∷◌, ◌↔◌, [], All, length, map, IsSome, OnOk, OnErr, slice_set};
+ghost use Rattle.session_vars.specs.Variables.{FitsAt, HasItsType, StandsAt, count_limit, fresh, place_of};
 ghost use Rattle.session_vars.specs.declared.Variable.{Variable};
 ghost use Rattle.session_vars.specs.declared.VarFault.TheVariants.{Memory as NoMemory};
 
@@ -73,9 +73,9 @@ pub struct Vars {
 }
 
 impl Model for Vars {
-    ghost use Rattle.std.specs.Prelude.{◌≡◌, ◌≤◌, List, length, map};
+    ghost use Rattle.std.specs.Prelude.{◌≡◌, ◌≤◌, All, List, length, map};
     ghost use Rattle.session_vars.specs.declared.Variable.{Variable as Declared};
-    ghost use Rattle.session_vars.specs.Variables.{count_limit};
+    ghost use Rattle.session_vars.specs.Variables.{HasItsType, count_limit};
 
     ghost Value = { List Declared };
 
@@ -83,7 +83,8 @@ impl Model for Vars {
 
     ghost invariant = { λ vars.
         (map (λ key. key.items) vars.names.keys ≡ map (λ variable. variable.name) vars.variables.items)
-        × (length vars.variables.items ≤ count_limit) };
+        × (length vars.variables.items ≤ count_limit)
+        × All HasItsType vars.variables.items };
 }
 
 impl Vars {
@@ -131,6 +132,13 @@ impl Vars {
         ensures { result ≡ length self.now }
     {
         self.variables.len() as u16
+    }
+
+    /// Each variable is NULL or has a value of its type.
+    pub fn law_typed(&self)
+        ensures { All HasItsType self.now }
+    {
+        let _ = &self.variables;
     }
 
     /// The value of the variable at a place.
