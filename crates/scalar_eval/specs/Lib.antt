@@ -2,4 +2,4 @@
 pub mod Scopes  -- setting_of: what is read, as the meaning of trees has it
 pub mod Answers  -- Gives: an answer is the outcome that is meant
 -- What private contracts alone cite.
-pub mod Operands  -- values lent and made
+pub mod Operands  -- values lent and made; computes: what gives a number

@@ -1,10 +1,10 @@
 //! Texts joined and measured, conversions, and what a comparison says.
 
-ghost use Rattle.std.specs.Prelude.{◌≡◌, IsTrue, map, Ok};
+ghost use Rattle.std.specs.Prelude.{◌≡◌, map, Ok};
 ghost use Rattle.value_types.specs.Order.{comparison};
-ghost use Rattle.convert_rules.specs.Types.{IsOf};
 ghost use Rattle.convert_rules.specs.Conversion.{is_text};
 ghost use Rattle.bound_tree.specs.Kinds as kinds;
+ghost use Rattle.bound_tree.specs.Numbers as numbers;
 ghost use Rattle.bound_tree.specs.Truths as truths;
 ghost use Rattle.bound_tree.specs.Texts as texts;
 ghost use Rattle.bound_tree.specs.Conversions as conversions;
@@ -14,8 +14,8 @@ ghost use Rattle.scalar_eval.specs.Answers.{Finds};
 ghost use Rattle.scalar_eval.specs.Operands.{FindsOperand};
 
 use crate::fault::Stop;
-use crate::numbers::{OVERFLOW, fits, fitted};
-use crate::operand::Operand;
+use crate::numbers::{OVERFLOW, fitted};
+use crate::operand::{Operand, lent_or_null};
 use crate::scope::cell;
 use bound_tree::{CompareOp, Truth, higher};
 use convert_rules::{cast, error_of};
@@ -109,28 +109,12 @@ pub(crate) fn conversion(
 ) -> Result<Value, Stop>
     ensures { Finds result (conversions.conversion from to value.now) }
 {
-    if !is_of(from, value) {
-        return Ok(Value::Null);
-    }
     match cast(alloc, value, from, to) {
         Ok(value) => Ok(value),
         Err(fault) => match error_of(fault, from, to) {
             Some(number) => Err(Stop::Number(number)),
             None => Err(Stop::Memory),
         },
-    }
-}
-
-/// Whether a value is NULL or one of the type.
-fn is_of(kind: SqlType, value: &Value) -> bool
-    ensures is { result ≡ kinds.is_of kind value.now }
-    ensures of { IsTrue result → IsOf kind value.now }
-{
-    match (value, kind) {
-        (Value::Null, _) | (Value::Bit(_), SqlType::Bit) => true,
-        (Value::Whole(number), _) => fits(kind, *number),
-        (Value::Text(units), SqlType::NText(size)) => units.len() <= usize::from(size),
-        _ => false,
     }
 }
 
@@ -150,7 +134,7 @@ pub(crate) fn brought(
 }
 
 /// Whether both are texts, or both are the same type.
-fn are_alike(a: SqlType, b: SqlType) -> bool
+pub(crate) fn are_alike(a: SqlType, b: SqlType) -> bool
     ensures { result ≡ kinds.are_alike a b }
 {
     match (a, b) {
@@ -166,6 +150,16 @@ pub(crate) fn order_of(a: &Value, b: &Value) -> Option<Ordering>
     match (a, b) {
         (Value::Whole(a), Value::Whole(b)) => Some(a.cmp(b)),
         (Value::Bit(_), Value::Bit(_)) | (Value::Text(_), Value::Text(_)) => compare(a, b),
+        _ => None,
+    }
+}
+
+/// How two numbers compare, where both are there.
+pub(crate) fn order_of_numbers(a: Option<i64>, b: Option<i64>) -> Option<Ordering>
+    ensures { result ≡ spec.order_of (numbers.value_of a) (numbers.value_of b) }
+{
+    match (a, b) {
+        (Some(a), Some(b)) => Some(a.cmp(&b)),
         _ => None,
     }
 }
@@ -220,7 +214,7 @@ fn equals_row(
 {
     let pair = higher(kind, other);
     let a = brought(alloc, kind, pair, value)?;
-    let only = cell(row, 0);
+    let only = lent_or_null(cell(row, 0));
     let b = brought(alloc, other, pair, only.get())?;
     Ok(order_truth(CompareOp::Equal, order_of(a.get(), b.get())))
 }

@@ -1,21 +1,21 @@
 //! The evaluation of expressions and tests.
 
-ghost use Rattle.std.specs.Prelude.{◌≡◌, IsTrue, map, Ok};
+ghost use Rattle.std.specs.Prelude.{◌≡◌, ◌||◌, IfSome, map, Ok};
 ghost use Rattle.bound_tree.specs.Setting.{Setting};
 ghost use Rattle.bound_tree.specs.Numbers.{number_outcome};
 ghost use Rattle.bound_tree.specs.Comparisons as spec;
 ghost use Rattle.bound_tree.specs.Meaning as meaning;
 ghost use Rattle.scalar_eval.specs.Answers.{Finds, Gives};
-ghost use Rattle.scalar_eval.specs.Operands.{FindsOperand};
+ghost use Rattle.scalar_eval.specs.Operands.{FindsOperand, computes};
 ghost use Rattle.scalar_eval.specs.Scopes.{setting_of};
 
 use crate::comparison::{
-    brought, conversion, in_rows, is_false, is_null, is_text, is_true, joined, length_of, order_of,
-    order_truth, truth_of,
+    are_alike, brought, conversion, in_rows, is_false, is_null, is_text, is_true, joined,
+    length_of, order_of, order_of_numbers, order_truth, truth_of,
 };
 use crate::fault::{EvalFault, Stop, widened};
 use crate::numbers::{arithmetic, negation, number_of, value_of};
-use crate::operand::Operand;
+use crate::operand::{Operand, lent_or_null};
 use crate::scope::{Scope, cell, rows, scalar, variable};
 use bound_tree::{BoundArm, BoundExpr, BoundSide, BoundTest, CompareOp, Truth};
 use std::alloc::Global;
@@ -41,6 +41,39 @@ pub fn test(alloc: Global, of: &BoundTest, scope: &Scope<'_>) -> Result<Truth, E
     }
 }
 
+/// The value of an expression that only reads it, lent.
+#[inline(always)]
+fn seen<'a>(expr: &'a BoundExpr, scope: &Scope<'a>) -> Option<&'a Value>
+    ensures { IfSome result (λ value. meaning.value (setting_of scope.now) expr.now ≡ Ok value.now) }
+{
+    match expr {
+        BoundExpr::Constant(value) => Some(value),
+        BoundExpr::Cell(place) => cell(scope.row, *place),
+        BoundExpr::Variable(place) => variable(scope.vars, *place),
+        BoundExpr::System(of) => Some(scope.system.get(*of)),
+        _ => None,
+    }
+}
+
+/// Whether an expression computes a whole number.
+#[inline(always)]
+fn is_computed(expr: &BoundExpr) -> bool
+    ensures { result ≡ computes expr.now }
+{
+    match expr {
+        BoundExpr::Negate(_, _) => true,
+        BoundExpr::Infix(_, kind, _, _) => !is_text(*kind),
+        _ => false,
+    }
+}
+
+/// Whether one of two expressions does.
+fn is_one_computed(a: &BoundExpr, b: &BoundExpr) -> bool
+    ensures { result ≡ (computes a.now || computes b.now) }
+{
+    is_computed(a) || is_computed(b)
+}
+
 /// The value of an expression, owned.
 #[cycle(evaluate)]
 fn value<'a>(alloc: Global, expr: &'a BoundExpr, scope: &Scope<'a>) -> Result<Value, Stop>
@@ -48,9 +81,12 @@ fn value<'a>(alloc: Global, expr: &'a BoundExpr, scope: &Scope<'a>) -> Result<Va
 {
     match expr {
         BoundExpr::Constant(value) => Ok(value.copy(alloc)?),
-        BoundExpr::Cell(place) => Ok(cell(scope.row, *place).into_value(alloc)?),
-        BoundExpr::Variable(place) => Ok(variable(scope.vars, *place).into_value(alloc)?),
+        BoundExpr::Cell(place) => Ok(lent_or_null(cell(scope.row, *place)).into_value(alloc)?),
+        BoundExpr::Variable(place) => Ok(lent_or_null(variable(scope.vars, *place)).into_value(
+            alloc,
+        )?),
         BoundExpr::System(of) => Ok(scope.system.get(*of).copy(alloc)?),
+        BoundExpr::Scalar(place) => Ok(scalar(rows(scope.inner, *place))?.into_value(alloc)?),
         BoundExpr::Negate(kind, a) => {
             let a = number(alloc, a.get(), scope)?;
             Ok(value_of(negation(*kind, a)?))
@@ -86,7 +122,6 @@ fn value<'a>(alloc: Global, expr: &'a BoundExpr, scope: &Scope<'a>) -> Result<Va
             let a = operand(alloc, a.get(), scope)?;
             Ok(value_of(length_of(a.get())?))
         }
-        BoundExpr::Scalar(place) => Ok(scalar(rows(scope.inner, *place))?.into_value(alloc)?),
     }
 }
 
@@ -95,25 +130,33 @@ fn value<'a>(alloc: Global, expr: &'a BoundExpr, scope: &Scope<'a>) -> Result<Va
 fn operand<'a>(alloc: Global, expr: &'a BoundExpr, scope: &Scope<'a>) -> Result<Operand<'a>, Stop>
     ensures { FindsOperand result (meaning.value (setting_of scope.now) expr.now) }
 {
-    match expr {
-        BoundExpr::Constant(value) => Ok(Operand::Lent(value)),
-        BoundExpr::Cell(place) => Ok(cell(scope.row, *place)),
-        BoundExpr::Variable(place) => Ok(variable(scope.vars, *place)),
-        BoundExpr::System(of) => Ok(Operand::Lent(scope.system.get(*of))),
-        BoundExpr::Scalar(place) => scalar(rows(scope.inner, *place)),
-        _ => Ok(Operand::Made(value(alloc, expr, scope)?)),
+    if let Some(value) = seen(expr, scope) {
+        return Ok(Operand::Lent(value));
     }
+    if is_computed(expr) {
+        return Ok(Operand::Made(value_of(computed(alloc, expr, scope)?)));
+    }
+    Ok(Operand::Made(value(alloc, expr, scope)?))
 }
 
-/// The number that an expression gives, where it gives one. No value is made on the way.
+/// The number that an expression gives, where it gives one.
 #[cycle(evaluate)]
+#[inline(always)]
 fn number<'a>(alloc: Global, expr: &'a BoundExpr, scope: &Scope<'a>) -> Result<Option<i64>, Stop>
     ensures { Finds result (number_outcome (meaning.value (setting_of scope.now) expr.now)) }
 {
+    match seen(expr, scope) {
+        Some(value) => Ok(number_of(value)),
+        None => computed(alloc, expr, scope),
+    }
+}
+
+/// The number that an expression computes. Of arithmetic no value is made on the way.
+#[cycle(evaluate)]
+fn computed<'a>(alloc: Global, expr: &'a BoundExpr, scope: &Scope<'a>) -> Result<Option<i64>, Stop>
+    ensures { Finds result (number_outcome (meaning.value (setting_of scope.now) expr.now)) }
+{
     match expr {
-        BoundExpr::Constant(value) => Ok(number_of(value)),
-        BoundExpr::Cell(place) => Ok(number_of(cell(scope.row, *place).get())),
-        BoundExpr::Variable(place) => Ok(number_of(variable(scope.vars, *place).get())),
         BoundExpr::Infix(op, kind, a, b) if !is_text(*kind) => {
             let x = number(alloc, a.get(), scope)?;
             let y = number(alloc, b.get(), scope)?;
@@ -123,20 +166,11 @@ fn number<'a>(alloc: Global, expr: &'a BoundExpr, scope: &Scope<'a>) -> Result<O
             let a = number(alloc, a.get(), scope)?;
             negation(*kind, a)
         }
-        _ => number_by_value(alloc, expr, scope),
+        _ => {
+            let value = value(alloc, expr, scope)?;
+            Ok(number_of(&value))
+        }
     }
-}
-
-#[cycle(evaluate)]
-fn number_by_value<'a>(
-    alloc: Global,
-    expr: &'a BoundExpr,
-    scope: &Scope<'a>,
-) -> Result<Option<i64>, Stop>
-    ensures { Finds result (number_outcome (meaning.value (setting_of scope.now) expr.now)) }
-{
-    let value = value(alloc, expr, scope)?;
-    Ok(number_of(&value))
 }
 
 /// The first value that isn't NULL.
@@ -181,6 +215,11 @@ fn compared<'a>(
     ensures { let side = meaning.side_of (setting_of scope.now) side.now in
         Finds result (meaning.with_side op kind value.now side) }
 {
+    if are_alike(kind, side.pair)
+        && let Some(y) = seen(&side.expr, scope)
+    {
+        return Ok(order_truth(op, order_of(value, y)));
+    }
     let x = brought(alloc, kind, side.pair, &*value)?;
     let y = operand(alloc, &side.expr, scope)?;
     Ok(order_truth(op, order_of(x.get(), y.get())))
@@ -209,9 +248,29 @@ fn in_sides<'a>(
     Ok(so_far)
 }
 
-/// What a test says.
+/// What a test says. Numbers are compared with no value made of them.
 #[cycle(evaluate)]
 fn truth<'a>(alloc: Global, of: &'a BoundTest, scope: &Scope<'a>) -> Result<Truth, Stop>
+    ensures { Finds result (meaning.truth (setting_of scope.now) of.now) }
+{
+    match of {
+        BoundTest::Compare(op, a, b) if is_one_computed(a.get(), b.get()) => {
+            let x = number(alloc, a.get(), scope)?;
+            let y = number(alloc, b.get(), scope)?;
+            Ok(order_truth(*op, order_of_numbers(x, y)))
+        }
+        BoundTest::Compare(op, a, b)
+            if let Some(x) = seen(a.get(), scope) && let Some(y) = seen(b.get(), scope) => {
+            Ok(order_truth(*op, order_of(x, y)))
+        }
+        _ => truth_by_parts(alloc, of, scope),
+    }
+}
+
+/// What a test says, by what its parts say and give.
+#[cycle(evaluate)]
+#[inline(never)]
+fn truth_by_parts<'a>(alloc: Global, of: &'a BoundTest, scope: &Scope<'a>) -> Result<Truth, Stop>
     ensures { Finds result (meaning.truth (setting_of scope.now) of.now) }
 {
     match of {

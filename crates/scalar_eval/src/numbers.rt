@@ -133,7 +133,7 @@ pub(crate) fn fitted(kind: SqlType, number: i64) -> Result<Option<i64>, Stop>
 }
 
 /// Whether a number is in the range of its type.
-pub(crate) fn fits(kind: SqlType, number: i64) -> bool
+fn fits(kind: SqlType, number: i64) -> bool
     ensures { result ≡ is_in_range kind number }
 {
     match kind {

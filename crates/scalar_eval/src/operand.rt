@@ -1,7 +1,8 @@
 //! A value that stands somewhere, or was made.
 
-ghost use Rattle.std.specs.Prelude.{◌≡◌, IfOk};
+ghost use Rattle.std.specs.Prelude.{◌≡◌, MatchOption, IfOk};
 ghost use Rattle.scalar_eval.specs.Operands.{operand_value};
+ghost use Rattle.value_types.specs.declared.value.Value.TheVariants.{Null};
 
 use std::alloc::Global;
 use value_types::{Memory, Value};
@@ -13,6 +14,17 @@ pub(crate) enum Operand<'a> {
     Lent(&'a Value),
     /// It was made.
     Made(Value),
+}
+
+/// What is lent, or NULL where nothing is there.
+pub(crate) fn lent_or_null(value: Option<&Value>) -> Operand<'_>
+    ensures { let of = operand_value result in
+        MatchOption value.entry (of ≡ Null) (λ value. of ≡ value.now) }
+{
+    match value {
+        Some(value) => Operand::Lent(value),
+        None => Operand::Made(Value::Null),
+    }
 }
 
 impl Operand<'_> {

@@ -1,12 +1,13 @@
 //! What an expression reads beside its own tree.
 
-ghost use Rattle.std.specs.Prelude.{◌≡◌, map, Ok};
+ghost use Rattle.std.specs.Prelude.{◌≡◌, map, MatchOption, Ok};
+ghost use Rattle.value_types.specs.declared.value.Value.TheVariants.{Null};
 ghost use Rattle.bound_tree.specs.Setting.{rows_at, scalar_of, value_at};
-ghost use Rattle.scalar_eval.specs.Operands.{FindsOperand, operand_value};
+ghost use Rattle.scalar_eval.specs.Operands.{FindsOperand};
 ghost use Rattle.scalar_eval.specs.Scopes.{inner_rows, setting_of, values_of};
 
 use crate::fault::Stop;
-use crate::operand::Operand;
+use crate::operand::{Operand, lent_or_null};
 use bound_tree::{SystemValues, Table};
 use session_vars::Vars;
 use value_types::{Row, Value};
@@ -38,24 +39,25 @@ impl Scope<'_> {
     }
 }
 
-/// The value at a place of a row; NULL where there is none.
-pub(crate) fn cell(row: &Row, place: u16) -> Operand<'_>
-    ensures { operand_value result ≡ value_at row.now place }
+/// The value at a place of a row, where there is one.
+#[inline(always)]
+pub(crate) fn cell(row: &Row, place: u16) -> Option<&Value>
+    ensures { let found = value_at row.now place in
+        MatchOption result (found ≡ Null) (λ value. found ≡ value.now) }
 {
-    match row.as_slice().get(usize::from(place)) {
-        Some(value) => Operand::Lent(value),
-        None => Operand::Made(Value::Null),
-    }
+    row.as_slice().get(usize::from(place))
 }
 
-/// The value of the variable at a place; NULL where there is none.
-pub(crate) fn variable(vars: &Vars, place: u16) -> Operand<'_>
-    ensures { operand_value result ≡ value_at (values_of vars.now) place }
+/// The value of the variable at a place, where there is one.
+#[inline(always)]
+pub(crate) fn variable(vars: &Vars, place: u16) -> Option<&Value>
+    ensures { let found = value_at (values_of vars.now) place in
+        MatchOption result (found ≡ Null) (λ value. found ≡ value.now) }
 {
     if place < vars.count() {
-        Operand::Lent(vars.get(place))
+        Some(vars.get(place))
     } else {
-        Operand::Made(Value::Null)
+        None
     }
 }
 
@@ -75,7 +77,7 @@ pub(crate) fn scalar(rows: &[Row]) -> Result<Operand<'_>, Stop>
 {
     match rows {
         [] => Ok(Operand::Made(Value::Null)),
-        [row] => Ok(cell(row, 0)),
+        [row] => Ok(lent_or_null(cell(row, 0))),
         _ => Err(Stop::Number(512)),
     }
 }
