@@ -1,0 +1,6 @@
+use Rattle.std.proofs.Common.{◌≡◌, map}
+use Rattle.typed_nodes.specs.Nodes as spec
+use Rattle.typed_nodes.proofs.expr.coalesce_expr.Given as goal
+
+abbrev pub invariant-loop-item : goal.invariant-loop-item
+invariant-loop-item l = l.done.items ≡ map (spec.converted l.to) l.yielded
