@@ -1,0 +1,46 @@
+//! The order of values, and of rows by the order of keys.
+
+ghost use Rattle.std.specs.Prelude.{◌≡◌};
+ghost use Rattle.value_types.specs.Order as spec;
+
+use std::cmp::Ordering;
+use value_types::{Value, compare};
+
+/// The order of two values in a key: NULL is lowest and equal to NULL, and kinds go by their rank.
+pub(crate) fn value_order(a: &Value, b: &Value) -> Ordering
+    ensures { result ≡ spec.value_order a.now b.now }
+{
+    let (a_rank, b_rank) = (kind_rank(a), kind_rank(b));
+    if a_rank != b_rank {
+        return a_rank.cmp(&b_rank);
+    }
+    match compare(a, b) {
+        Some(order) => order,
+        None => Ordering::Equal,
+    }
+}
+
+/// The order of two rows as keys: value by value, and a proper prefix first.
+pub(crate) fn row_order(a: &[Value], b: &[Value]) -> Ordering
+    ensures { result ≡ spec.key_cmp a.now b.now }
+{
+    for (x, y) in a.iter().zip(b) {
+        let order = value_order(x, y);
+        if order.is_ne() {
+            return order;
+        }
+    }
+    a.len().cmp(&b.len())
+}
+
+/// The place of a value's kind among the kinds.
+fn kind_rank(value: &Value) -> u8
+    ensures { result ≡ spec.kind_rank value.now }
+{
+    match value {
+        Value::Null => 0,
+        Value::Whole(_) => 1,
+        Value::Bit(_) => 2,
+        Value::Text(_) => 3,
+    }
+}
