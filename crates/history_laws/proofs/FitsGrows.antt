@@ -14,7 +14,7 @@ use Rattle.step_model.specs.declared.op.Hold.TheVariants.{Range}
 use Rattle.step_model.specs.declared.op.Op.{Op}
 use Rattle.step_model.specs.declared.op.Op.TheVariants.{Fetch, Insert, Replace, Erase, Commit}
 use Rattle.step_model.specs.declared.reply.Reply.{Reply}
-use Rattle.step_model.specs.declared.reply.Reply.TheVariants.{Began, Row, Gone, End, Done, Exists, Missing, Marked, Ended, Wait, TimedOut, Memory}
+use Rattle.step_model.specs.declared.reply.Reply.TheVariants.{Began, Row, Gone, End, Done, Exists, Missing, Marked, Ended, Wait, TimedOut, Victim, Memory}
 use Rattle.step_model.specs.declared.resource.Span.TheVariants.{Transaction as Whole}
 use Rattle.step_model.specs.Database.{Database, With}
 use Rattle.step_model.specs.Entries.{change_at}
@@ -53,6 +53,7 @@ at_below high (Marked mark) all = omega arith
 at_below high (Ended place) all = omega arith
 at_below high (Wait holder) all = omega arith
 at_below high (TimedOut holder holds_range asked on) all = omega arith
+at_below high (Victim cycle) all = omega arith
 at_below high Memory all = omega arith
 
 rise_to : (low high more : ℕ) (numbers : List ℕ) → NeverFall low numbers high → high ≤ more

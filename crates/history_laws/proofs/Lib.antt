@@ -26,9 +26,12 @@ pub mod OneMove
 pub mod Tables
 pub mod OwnMore
 pub mod OwnMoves
+pub mod Told
 pub mod StepMoves
 pub mod OwnStep
 pub mod OwnOps
+pub mod Waiting
+pub mod Marks
 pub mod Story
 pub mod Laws
 pub mod Missing

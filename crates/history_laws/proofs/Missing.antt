@@ -18,7 +18,7 @@ use Rattle.step_model.specs.declared.op.Hold.TheVariants.{Range, Row as RowAlone
 use Rattle.step_model.specs.declared.op.Op.{Op}
 use Rattle.step_model.specs.declared.op.Op.TheVariants.{Begin, Fetch, Insert, Replace, Erase, Mark, BackTo}
 use Rattle.step_model.specs.declared.reply.Reply.{Reply}
-use Rattle.step_model.specs.declared.reply.Reply.TheVariants.{Began, Row, Done, Missing, Marked, Ended}
+use Rattle.step_model.specs.declared.reply.Reply.TheVariants.{Began, Row, Done, Missing, Marked, Ended, Victim}
 use Rattle.step_model.specs.Database.{Database, With, with_change, is_at, nothing}
 use Rattle.step_model.specs.Entries.{row_at}
 use Rattle.step_model.specs.Exchange.{Exchange}
@@ -26,9 +26,10 @@ use Rattle.step_model.specs.Fits.{all_numbers, AnswersIn, NoneEnds, is_ended, Ke
 use Rattle.step_model.specs.Log.{Commit as Logged, State}
 use Rattle.step_model.specs.Moves.{without_wait}
 use Rattle.step_model.specs.Own.{Progress, progress_after, progress_from, progress_of, none_open, change_of}
-use Rattle.step_model.specs.State.{Engine}
-use Rattle.step_model.specs.Step.{Step, write_reply}
-use Rattle.history_laws.specs.Knows.{Knows}
+use Rattle.step_model.specs.State.{Engine, victim_of}
+use Rattle.step_model.specs.Step.{Step, write_reply, StepFrom, Hears, told_first}
+use Rattle.step_model.specs.declared.edge.Edge.{Edge}
+use Rattle.history_laws.specs.Knows.{Accords}
 use Rattle.history_laws.specs.Relies.{KeysOf, is_fetch}
 use Rattle.history_laws.specs.Sure.{WritesTo}
 use Rattle.step_model.specs.declared.resource.Span.{Span}
@@ -144,16 +145,27 @@ not_missing : (o : Option (List Value)) → Missing ≡ write_reply o → is_som
 not_missing None is there = let h : false ≡ true = there in cc
 not_missing (Some row) is there = cc
 
+from_missing : (mid new : Engine) (session : ℕ) (op : Op) (manner : Manner) (t : TableName) (x : List Value)
+    → StepFrom mid session op manner Missing new → WritesTo op t x
+    → Missing ≡ write_reply (row_at session mid.entries t x)
+from_missing mid new session (Replace table key row) manner t x step (tables, keys) =
+    rw (← tables, ← keys) step.1.0
+from_missing mid new session (Erase table key) manner t x step (tables, keys) = rw (← tables, ← keys) step.1.0
+from_missing mid new session op manner t x step targets = absurd targets
+
 missing_there : (old new : Engine) (session : ℕ) (op : Op) (manner : Manner) (t : TableName) (x : List Value)
     → Step old session op manner Missing new → WritesTo op t x
     → Missing ≡ write_reply (row_at session (without_wait session old).entries t x)
-missing_there old new session (Replace table key row) manner t x step (tables, keys) =
-    rw (← tables, ← keys) step.1.0
-missing_there old new session (Erase table key) manner t x step (tables, keys) = rw (← tables, ← keys) step.1.0
-missing_there old new session op manner t x step targets = absurd targets
+missing_there old new session op manner t x step targets =
+    by_told (told_first op (victim_of session old)) step
+  where
+    by_told : (told : Option (List Edge)) → Hears told (without_wait session old) session op manner Missing new
+        → Missing ≡ write_reply (row_at session (without_wait session old).entries t x)
+    by_told None step = from_missing (without_wait session old) new session op manner t x step targets
+    by_told (Some cycle) step = absurd (let h : Missing ≡ Victim cycle = step.0 in cc)
 
 pub law_missing : (old new : Engine) (session : ℕ) (steps : List Exchange) (op : Op) (manner : Manner)
-    → Knows old session steps → Step old session op manner Missing new → (t : TableName) (x : List Value)
+    → Accords old session steps → Step old session op manner Missing new → (t : TableName) (x : List Value)
     → WritesTo op t x
     → (before between : List Exchange) (fetch : Exchange) → without_waits steps ≡ before ++ fetch ∷ between
     → NoneEnds between → SparesAll t x between → KeepsRow fetch.op fetch.reply between t x → ⊥

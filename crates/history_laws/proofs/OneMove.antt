@@ -1,5 +1,5 @@
 -- One move of a session: it leaves a sane engine, and what other sessions have.
-use Rattle.std.proofs.Common.{◌≡◌, ◌≢◌, ℕ, zero, suc, ◌+◌, ◌==◌, Bool, true, false, if◌then◌else◌, List, [], ◌∷◌, ◌++◌, map, drop, Option, None, Some, is_some, IsTrue, refl, sym, ap, ◌∙◌, eqb-true, append-nil}
+use Rattle.std.proofs.Common.{◌≡◌, ◌≢◌, ◌⊎◌, inl, inr, ℕ, zero, suc, ◌+◌, ◌==◌, Bool, true, false, if◌then◌else◌, List, [], ◌∷◌, ◌++◌, map, drop, Option, None, Some, is_some, IsTrue, refl, sym, ap, ◌∙◌, eqb-true, append-nil}
 use Rattle.std.specs.Prelude.{is_none}
 use Rattle.std.specs.List.{AllByRecursion, AllZip}
 use Rattle.std.specs.Option.{option_and_then, option_map}
@@ -19,11 +19,11 @@ use Rattle.step_model.specs.Exchange.{Exchange}
 use Rattle.step_model.specs.Fits.{Fits, changes_of_session, without_waits, at_of}
 use Rattle.step_model.specs.Locks.{Lock, same_resource, is_x, is_any, key_on}
 use Rattle.step_model.specs.Log.{Commit as Logged}
-use Rattle.step_model.specs.Moves.{with_state, with_session, without_wait, drop_wait, with_locks, add_locks, with_entry, new_entry, after_begin, after_mark, with_mark, after_back, cut_marks, restore, pending_from, of_others, state_of_mark, after_relax, drop_statement, after_end, after_commit, after_rollback, settle, drop_pending, stays, log_with, without_session}
+use Rattle.step_model.specs.Moves.{with_state, with_session, with_locks, add_locks, with_entry, new_entry, after_begin, after_mark, with_mark, after_back, cut_marks, restore, pending_from, of_others, state_of_mark, after_relax, drop_statement, after_end, after_commit, after_rollback, settle, drop_pending, stays, log_with, without_session}
 use Rattle.step_model.specs.Own.{MarkedAt, progress_of, last_at, is_insert}
 use Rattle.step_model.specs.State.{Engine, Saved, Transaction, locks_of, saved_of, has, is_open, saved_in, made_by}
 use Rattle.history_laws.specs.Guarded.{Guarded}
-use Rattle.history_laws.specs.Knows.{Knows, Tied, FirstsFit, SameMark}
+use Rattle.history_laws.specs.Knows.{Accords, Tied, FirstsFit, SameMark}
 use Rattle.history_laws.specs.Sane.{AreSaved, Sane, IsOwned}
 use Rattle.history_laws.proofs.Basics.{find_passes}
 use Rattle.history_laws.proofs.EntryOrder.{key_cmp_total}
@@ -32,7 +32,7 @@ use Rattle.history_laws.proofs.Changes.{pending_there}
 use Rattle.history_laws.proofs.Guards.{guarded_commit, entry_on_key, all_found}
 use Rattle.history_laws.proofs.Pairs.{has_same, has_weaker, lonely}
 use Rattle.history_laws.proofs.Places.{find_mapped}
-use Rattle.history_laws.proofs.Sessions.{apart, other_locks, other_saved, other_open, closed_other}
+use Rattle.history_laws.proofs.Sessions.{same_or_not, apart, open_changed, other_locks, other_saved, other_open, closed_other}
 use Rattle.history_laws.proofs.Splits.{all_both}
 use Rattle.history_laws.proofs.FitsGrows.{fits_grown}
 use Rattle.history_laws.proofs.OwnChanges.{last_none, change_made}
@@ -53,9 +53,16 @@ set_engine session k row e engine =
       })) e) engine.entries;
     }
 
+-- a change of waits and marks alone
+pub record Shifts (f : Transaction → Transaction) : Type 0 where
+  pub session : (t : Transaction) → (f t).session ≡ t.session
+  pub locks : (t : Transaction) → (f t).locks ≡ t.locks
+  pub marks : (t : Transaction) → (f t).marks ≡ t.marks
+
 -- one move of a session, and what allows it
 pub data Move (session : ℕ) (old new : Engine) : Type 0 where
-  calms : new ≡ without_wait session old → Move session old new
+  shifts : (who : ℕ) (f : Transaction → Transaction) → Shifts f → new ≡ with_session who f old
+      → Move session old new
   begins : is_open session old ≡ false → new ≡ after_begin session old → Move session old new
   grants : (lock : Lock) → is_open session old ≡ true → NoFoe session lock.on lock.pair old → MayKeep old lock
       → new ≡ with_locks session (lock ∷ []) old → Move session old new
@@ -71,14 +78,14 @@ pub data Move (session : ℕ) (old new : Engine) : Type 0 where
   commits : new ≡ after_commit session old → Move session old new
   rolls_back : new ≡ after_rollback session old → Move session old new
 
-pub sane_calm : (session : ℕ) (old : Engine) → Sane old → Sane (without_wait session old)
-sane_calm session old sane =
-    sane_alike old (without_wait session old) sane refl refl
-    (all_locks session drop_wait (λ t. refl) (λ t. refl) old)
-    (all_saved session drop_wait (λ t. refl) (λ t. refl) old)
+pub sane_shift : (who : ℕ) (f : Transaction → Transaction) → Shifts f → (old : Engine) → Sane old
+    → Sane (with_session who f old)
+sane_shift who f shift old sane =
+    sane_alike old (with_session who f old) sane refl refl (all_locks who f shift.session shift.locks old)
+    (all_saved who f shift.session shift.marks old)
 
 pub sane_move : (session : ℕ) (old new : Engine) → Sane old → Move session old new → Sane new
-sane_move session old new sane (calms is) = rw is (sane_calm session old sane)
+sane_move session old new sane (shifts who f shift is) = rw is (sane_shift who f shift old sane)
 sane_move session old new sane (begins without_session is) = rw is (sane_begin session old sane without_session)
 sane_move session old new sane (grants lock there free may is) =
     rw is (sane_granted session old lock sane there free may)
@@ -128,6 +135,21 @@ frame_alike t old new entries log opened saved locks = record {
   theirs = refl;
   untouched = λ span u x guarded. tt;
 }
+
+-- it leaves all of each session
+all_open : (who : ℕ) (f : Transaction → Transaction) → ((t : Transaction) → (f t).session ≡ t.session)
+    → (engine : Engine) (s : ℕ) → is_open s (with_session who f engine) ≡ is_open s engine
+all_open who f keeps engine s = by_case (same_or_not s who)
+  where
+    by_case : (s ≡ who) ⊎ (s ≢ who) → is_open s (with_session who f engine) ≡ is_open s engine
+    by_case (inl is) = rw is (open_changed who f keeps engine)
+    by_case (inr differ) = other_open who f keeps s differ engine
+
+pub frame_shift : (who : ℕ) (f : Transaction → Transaction) → Shifts f → (t : ℕ) (old : Engine)
+    → Frame t old (with_session who f old)
+frame_shift who f shift t old =
+    frame_alike t old (with_session who f old) refl refl (all_open who f shift.session old t)
+    (all_saved who f shift.session shift.marks old t) (all_locks who f shift.session shift.locks old t)
 
 -- what a session has set at the entry of a key
 abbrev pub pend : ℕ → Option Entry → Option Change
@@ -426,7 +448,7 @@ module _ (session t : ℕ) (differ : t ≢ session) where
   all_added u x (change ∷ changes) none = (none, tt)
 
   pub frame_move : (old new : Engine) → Sane old → Move session old new → Frame t old new
-  frame_move old new sane (calms is) = rw is (frame_changed drop_wait (λ tr. refl) old)
+  frame_move old new sane (shifts who f shift is) = rw is (frame_shift who f shift t old)
   frame_move old new sane (begins without_session is) = rw is (frame_begin old)
   frame_move old new sane (grants lock there free may is) =
       rw is (frame_changed (add_locks (lock ∷ [])) (λ tr. refl) old)
@@ -560,9 +582,9 @@ module _ (t : ℕ) (old new : Engine) (sane : Sane old) (frame : Frame t old new
       (λ u x relies. frame.untouched Whole u x (tied.relied Whole u x relies)))
 
 -- a session's move keeps what is known of each other one
-pub knows_other : (session t : ℕ) → t ≢ session → (old new : Engine) (steps : List Exchange)
-    → Move session old new → Knows old t steps → Knows new t steps
-knows_other session t differ old new steps move knows =
+pub accords_other : (session t : ℕ) → t ≢ session → (old new : Engine) (steps : List Exchange)
+    → Move session old new → Accords old t steps → Accords new t steps
+accords_other session t differ old new steps move knows =
     let frame = frame_move session t differ old new knows.sane move in
     record {
       sane = sane_move session old new knows.sane move;

@@ -1,5 +1,5 @@
 -- Each operation of a session keeps what is known of it, with the exchange more.
-use Rattle.std.proofs.Common.{◌≡◌, ◌≢◌, inl, inr, ℕ, ◌+◌, ◌&&◌, ◌||◌, Bool, true, false, if◌then◌else◌, List, [], ◌∷◌, ◌++◌, map, Option, None, Some, is_some, refl, sym, ap, subst, ◌∙◌, eq-eqb, append-nil}
+use Rattle.std.proofs.Common.{◌≡◌, ◌≢◌, inl, inr, ℕ, ◌+◌, ◌&&◌, ◌||◌, Bool, true, false, if◌then◌else◌, List, [], ◌∷◌, ◌++◌, map, Option, None, Some, is_some, IsTrue, refl, sym, ap, subst, ◌∙◌, eq-eqb, append-nil}
 use Rattle.std.specs.Prelude.{is_none, nat_le}
 use Rattle.std.specs.List.{AllByRecursion, filter, AllZip}
 use Rattle.std.specs.Option.{option_and_then, option_map}
@@ -28,11 +28,11 @@ use Rattle.step_model.specs.Log.{Commit as Logged, State}
 use Rattle.step_model.specs.Moves.{without_wait, with_locks, add_locks, with_entry, new_entry, after_begin, after_mark, with_mark, after_back, cut_marks, restore, state_of_mark, after_relax, drop_statement, after_commit, after_rollback, log_with, upto_mark, set_at}
 use Rattle.step_model.specs.Own.{Progress, progress_of, last_at, is_insert, change_of, own_at, progress_after, none_open}
 use Rattle.step_model.specs.Runs.{MayStep, standing_of}
-use Rattle.step_model.specs.State.{Engine, Saved, Transaction, locks_of, saved_of, has, is_open, transaction_in, saved_in, made_by, locks_in}
-use Rattle.step_model.specs.Step.{Does, Inserts, insert_at, write_at, StepFrom, Step, entry_reply, fetch_reply, insert_reply, write_reply, TimesOut}
+use Rattle.step_model.specs.State.{Engine, Saved, Transaction, locks_of, saved_of, has, is_open, transaction_in, saved_in, made_by, locks_in, victim_of}
+use Rattle.step_model.specs.Step.{Does, Inserts, insert_at, write_at, StepFrom, Step, Hears, told_first, FallsAt, entry_reply, fetch_reply, insert_reply, write_reply, TimesOut}
 use Rattle.step_model.specs.Sure.{SameKey}
 use Rattle.history_laws.specs.Guarded.{Guarded, Covers, lasts}
-use Rattle.history_laws.specs.Knows.{Knows, FirstsFit, SameMark}
+use Rattle.history_laws.specs.Knows.{Accords, FirstsFit, SameMark}
 use Rattle.history_laws.specs.Relies.{KeysOf, is_fetch, reaches}
 use Rattle.history_laws.specs.Sane.{Sane}
 use Rattle.history_laws.proofs.Basics.{both}
@@ -58,7 +58,7 @@ use Rattle.step_model.specs.declared.op.Hold.TheVariants.{Row as RowAlone, Range
 use Rattle.step_model.specs.declared.op.Op.{Op}
 use Rattle.step_model.specs.declared.op.Op.TheVariants.{Begin, Fetch, Insert, Replace, Erase, Mark, BackTo, Relax, Commit, Rollback}
 use Rattle.step_model.specs.declared.reply.Reply.{Reply}
-use Rattle.step_model.specs.declared.reply.Reply.TheVariants.{Began, Row, Gone, End as Over, Done, Exists, Missing, Marked, Ended, Wait, TimedOut, Memory}
+use Rattle.step_model.specs.declared.reply.Reply.TheVariants.{Began, Row, Gone, End as Over, Done, Exists, Missing, Marked, Ended, Wait, TimedOut, Victim, Memory}
 use Rattle.history_laws.proofs.Firsts.{next_there}
 use Rattle.history_laws.proofs.Sessions.{open_changed}
 use Rattle.history_laws.proofs.EntryLists.{has_back}
@@ -78,8 +78,11 @@ use Rattle.history_laws.proofs.GuardMoves.{guarded_grown_own, guarded_eased}
 use Rattle.history_laws.proofs.SaneMarks.{added_own}
 use Rattle.history_laws.proofs.OwnMore.{After, tied_ended}
 use Rattle.history_laws.proofs.OwnMoves.{firsts_same, marks_same, set_own, set_first, set_rows, add_own, add_first, add_rows, mark_found, marks_upto, back_own, back_rows, closed_none, entry_table}
-use Rattle.history_laws.proofs.StepMoves.{taken_fetch, x_taken, calm_standing, granted_none, found_stands}
-use Rattle.history_laws.proofs.OwnStep.{knows_more, knows_plain, knows_wait, knows_calm, knows_granted, knows_taken, kept_progress, after_same, waits_more}
+use Rattle.history_laws.proofs.StepMoves.{taken_fetch, x_taken, calm_standing, granted_none, found_stands, wait_shifts, fall_shifts, told_shifts}
+use Rattle.history_laws.proofs.Told.{told_is}
+use Rattle.step_model.specs.declared.edge.Edge.{Edge}
+use Rattle.step_model.specs.Cycles.{IsCycle, BeginsAt, is_waiter}
+use Rattle.history_laws.proofs.OwnStep.{accords_more, accords_plain, accords_wait, accords_calm, accords_granted, accords_taken, accords_shifts, kept_progress, after_same, waits_more}
 
 -- ---- what a lock that is taken guards
 
@@ -295,10 +298,10 @@ module _ (session : ℕ) (mid : Engine) (there : is_open session mid
       by_stop false is r keys = past hold part span is keys
 
 pub own_fetch : (session : ℕ) (mid : Engine) (steps : List Exchange) (manner : Manner) (table : TableName)
-    (start : Start) (stop : Stop) (hold : Hold) (part : KeyPart) → Knows mid session steps
+    (start : Start) (stop : Stop) (hold : Hold) (part : KeyPart) → Accords mid session steps
     → is_open session mid ≡ true → IsPartOfFetch part
     → Passes session (claim_of mid (Fetch table start stop hold part)) mid
-    → Knows (with_claim session (claim_of mid (Fetch table start stop hold part)) mid) session
+    → Accords (with_claim session (claim_of mid (Fetch table start stop hold part)) mid) session
     (steps ++ record {
       op = Fetch table start stop hold part;
       manner = manner;
@@ -306,12 +309,12 @@ pub own_fetch : (session : ℕ) (mid : Engine) (steps : List Exchange) (manner :
     } ∷ [])
 own_fetch session mid steps manner table start stop hold part knows there may free =
     let new = with_claim session (claim_of mid (Fetch table start stop hold part)) mid in
-    let k : Knows new session steps =
-    knows_taken session mid new steps there (taken_fetch session mid hold part may table start stop free)
+    let k : Accords new session steps =
+    accords_taken session mid new steps there (taken_fetch session mid hold part may table start stop free)
     knows in
     let parts = fetched_parts session stop (length mid.log) (next_entry mid.entries table start) in
     let own = (progress_of (without_waits steps)).own in
-    knows_more session new new steps _ k k.sane parts.1 parts.2 refl parts.3
+    accords_more session new new steps _ k k.sane parts.1 parts.2 refl parts.3
     (answers session mid.entries knows.sane.ordered (With (State mid.log) (map change_of own))
     (sees mid knows.sane session own knows.tied.own) table start stop hold part (length mid.log))
     tt (caused_any session Forever manner.patience _ parts.0)
@@ -329,14 +332,14 @@ abbrev x_on : Entry → Lock
 x_on e = record { on = entry_on e; pair = exclusive; span = Whole }
 
 module _ (session : ℕ) (mid : Engine) (steps : List Exchange) (manner : Manner)
-    (knows : Knows mid session steps) (there : is_open session mid
+    (knows : Accords mid session steps) (there : is_open session mid
     ≡ true) (t : TableName) (k : List Value) (e : Entry) (found : entry_at mid.entries t k
     ≡ Some e) (free : NoFoe session (entry_on e) exclusive mid) where
   abbrev taken_e : Engine
   taken_e = with_locks session (x_on e ∷ []) mid
 
-  knows_e : Knows taken_e session steps
-  knows_e = knows_granted session mid steps (x_on e) there free (record {
+  accords_e : Accords taken_e session steps
+  accords_e = accords_granted session mid steps (x_on e) there free (record {
     shape = refl;
     key = tt;
     stands = found_stands mid.entries t k e found;
@@ -375,18 +378,18 @@ module _ (session : ℕ) (mid : Engine) (steps : List Exchange) (manner : Manner
       → progress_after (progress_of (without_waits steps)) op reply ≡ progress_of (without_waits steps)
       → ((span : Span) (u : TableName) (x : List Value) → KeysOf op reply [] span u x
       → (span ≡ Whole) × SameKey t k u x) → (is_fetch op ≡ false)
-      → Knows taken_e session (steps ++ record { op = op; manner = manner; reply = reply } ∷ [])
+      → Accords taken_e session (steps ++ record { op = op; manner = manner; reply = reply } ∷ [])
   own_taken op reply not_wait goes_on numbers answered fresh caused same keys not_fetch =
-      knows_more session taken_e taken_e steps (record {
+      accords_more session taken_e taken_e steps (record {
         op = op;
         manner = manner;
         reply = reply;
-      }) knows_e knows_e.sane not_wait goes_on refl (rw numbers tt) answered fresh caused
+      }) accords_e accords_e.sane not_wait goes_on refl (rw numbers tt) answered fresh caused
       (after_same session taken_e taken_e (without_waits steps) (record {
         op = op;
         manner = manner;
         reply = reply;
-      }) knows_e.tied same refl refl refl)
+      }) accords_e.tied same refl refl refl)
       (λ span u x still guarded. guarded)
       (λ span u x there. let parts = keys span u x there in
       subst (λ (s : Span). Guarded s session u x taken_e) (sym parts.0)
@@ -404,44 +407,44 @@ module _ (session : ℕ) (mid : Engine) (steps : List Exchange) (manner : Manner
       { own = (progress_of (without_waits steps)).own ++ planned ∷ [] }
       → ((span : Span) (u : TableName) (x : List Value) → KeysOf op Done [] span u x
       → (span ≡ Whole) × SameKey t k u x) → (is_fetch op ≡ false)
-      → Knows (set_engine session k row e taken_e) session (steps ++ record {
+      → Accords (set_engine session k row e taken_e) session (steps ++ record {
         op = op;
         manner = manner;
         reply = Done;
       } ∷ [])
   own_set op row planned plans fits answered fresh same keys not_fetch =
-      knows_more session taken_e (set_engine session k row e taken_e) steps (record {
+      accords_more session taken_e (set_engine session k row e taken_e) steps (record {
         op = op;
         manner = manner;
         reply = Done;
-      }) knows_e
-      (sane_set taken_e knows_e.sane e t k found (record {
+      }) accords_e
+      (sane_set taken_e accords_e.sane e t k found (record {
         owner = session;
         key = k;
         row = row;
       }) (tied_itself key_cmp_total k) x_there)
       refl refl refl tt answered fresh tt
       (record {
-        is_open = knows_e.tied.is_open ∙ ap (λ (p : Progress). p.is_open) (sym same);
-        own = λ u x. set_own session taken_e knows_e.sane t k row e found x_there planned plans
-            (progress_of (without_waits steps)).own knows_e.tied.own u x
+        is_open = accords_e.tied.is_open ∙ ap (λ (p : Progress). p.is_open) (sym same);
+        own = λ u x. set_own session taken_e accords_e.sane t k row e found x_there planned plans
+            (progress_of (without_waits steps)).own accords_e.tied.own u x
             ∙ ap (λ (p : Progress). last_at p.own u x) (sym same);
         first = subst (λ (p : Progress). FirstsFit (set_engine session k row e taken_e).entries p.own)
-            (sym same) (set_first session taken_e knows_e.sane t k row e found x_there planned plans
-            (progress_of (without_waits steps)).own knows_e.tied.own fits knows_e.tied.first);
+            (sym same) (set_first session taken_e accords_e.sane t k row e found x_there planned plans
+            (progress_of (without_waits steps)).own accords_e.tied.own fits accords_e.tied.first);
         marks = subst
             (λ (p : Progress). AllZip (SameMark (set_engine session k row e taken_e).entries)
             (saved_of session taken_e) p.marks) (sym same)
             (marks_same taken_e.entries (set_engine session k row e taken_e).entries
-            (set_rows session taken_e knows_e.sane t k row e found x_there planned plans)
-            (saved_of session taken_e) (progress_of (without_waits steps)).marks knows_e.tied.marks);
+            (set_rows session taken_e accords_e.sane t k row e found x_there planned plans)
+            (saved_of session taken_e) (progress_of (without_waits steps)).marks accords_e.tied.marks);
       })
       (λ span u x still guarded. guarded_same taken_e (set_engine session k row e taken_e) session span u x
       (place_set e (Some (record {
         owner = session;
         key = k;
         row = row;
-      })) mid.entries knows_e.sane.ordered (at_itself mid.entries e t k found) u x)
+      })) mid.entries accords_e.sane.ordered (at_itself mid.entries e t k found) u x)
       (λ test on is. is) guarded)
       (λ span u x there. let parts = keys span u x there in
       subst (λ (s : Span). Guarded s session u x (set_engine session k row e taken_e)) (sym parts.0)
@@ -464,11 +467,11 @@ insert_exists_keys t k row Whole u x keys = (refl, keys)
 insert_exists_keys t k row Statement u x keys = absurd keys
 
 pub own_insert : (session : ℕ) (mid new : Engine) (steps : List Exchange) (manner : Manner) (t : TableName)
-    (k row : List Value) (reply : Reply) (o : Option Entry) → Knows mid session steps
+    (k row : List Value) (reply : Reply) (o : Option Entry) → Accords mid session steps
     → is_open session mid ≡ true → entry_at mid.entries t k ≡ o
     → NoFoe session (insert_claim t o (place_at mid.entries t k)).on
     (insert_claim t o (place_at mid.entries t k)).pair mid → Inserts session t k row o mid reply new
-    → Knows new session (steps ++ record { op = Insert t k row; manner = manner; reply = reply } ∷ [])
+    → Accords new session (steps ++ record { op = Insert t k row; manner = manner; reply = reply } ∷ [])
 own_insert session mid new steps manner t k row reply None knows there found free does =
     rw (does.0, does.1) added
   where
@@ -497,10 +500,10 @@ own_insert session mid new steps manner t k row reply None knows there found fre
     no_row = sees mid knows.sane session (progress_of (without_waits steps)).own knows.tied.own t k
         ∙ ap (option_and_then (seen_by session)) found
 
-    added : Knows (with_entry session t k row (new_locks t k (inherits session t k mid)) mid) session
+    added : Accords (with_entry session t k row (new_locks t k (inherits session t k mid)) mid) session
         (steps ++ record { op = Insert t k row; manner = manner; reply = Done } ∷ [])
     added =
-        knows_more session mid (with_entry session t k row (new_locks t k (inherits session t k mid)) mid)
+        accords_more session mid (with_entry session t k row (new_locks t k (inherits session t k mid)) mid)
         steps (record { op = Insert t k row; manner = manner; reply = Done }) knows
         (sane_added session mid knows.sane there t k row found (inherits session t k mid)) refl refl refl tt tt
         no_row tt
@@ -542,12 +545,12 @@ own_insert session mid new steps manner t k row reply (Some e) knows there found
     shown = sees_e session mid steps manner knows there t k e found free
 
     by_row : (r : Option (List Value)) → seen_by session e ≡ r
-        → Knows (insert_at session t k row r (with_claim session (claim_of mid (Insert t k row)) mid)) session
+        → Accords (insert_at session t k row r (with_claim session (claim_of mid (Insert t k row)) mid)) session
         (steps ++ record { op = Insert t k row; manner = manner; reply = insert_reply r } ∷ [])
     by_row None is =
-        subst (λ (claim : Option Claim). Knows (insert_at session t k row None (with_claim session claim mid))
+        subst (λ (claim : Option Claim). Accords (insert_at session t k row None (with_claim session claim mid))
         session (steps ++ record { op = Insert t k row; manner = manner; reply = Done } ∷ [])) (sym claims)
-        (subst (λ (o : Option Entry). Knows
+        (subst (λ (o : Option Entry). Accords
         (record (with_locks session (x_on e ∷ []) mid) {
           entries = set_at (Some (record {
             owner = session;
@@ -564,7 +567,7 @@ own_insert session mid new steps manner t k row reply (Some e) knows there found
         (record { table = t; key = k; deed = InsertsRow row }) refl (ap is_none (sym is)) tt (shown
         ∙ is) refl (insert_done_keys t k row) refl))
     by_row (Some r) is =
-        subst (λ (claim : Option Claim). Knows
+        subst (λ (claim : Option Claim). Accords
         (insert_at session t k row (Some r) (with_claim session claim mid)) session
         (steps ++ record { op = Insert t k row; manner = manner; reply = Exists } ∷ [])) (sym claims)
         (own_taken session mid steps manner knows there t k e found free (Insert t k row) Exists refl refl refl
@@ -575,7 +578,7 @@ own_insert session mid new steps manner t k row reply (Some e) knows there found
 
 pub own_write : (session : ℕ) (mid new : Engine) (steps : List Exchange) (manner : Manner) (op : Op)
     (t : TableName) (k : List Value) (row : Option (List Value)) (planned : Planned) (reply : Reply)
-    (o : Option Entry) → Knows mid session steps → is_open session mid ≡ true → entry_at mid.entries t k ≡ o
+    (o : Option Entry) → Accords mid session steps → is_open session mid ≡ true → entry_at mid.entries t k ≡ o
     → Passes session (write_claim o) mid → (reply ≡ write_reply (row_at session mid.entries t k))
     → (new ≡ write_at session t k row (row_at session mid.entries t k)
     (with_claim session (write_claim o) mid))
@@ -584,7 +587,7 @@ pub own_write : (session : ℕ) (mid new : Engine) (steps : List Exchange) (mann
     → ((p : Progress) → progress_after p op Done ≡ record p { own = p.own ++ planned ∷ [] })
     → ((span : Span) (u : TableName) (x : List Value) → KeysOf op Done [] span u x
     → (span ≡ Whole) × SameKey t k u x) → (is_fetch op ≡ false)
-    → Knows new session (steps ++ record { op = op; manner = manner; reply = reply } ∷ [])
+    → Accords new session (steps ++ record { op = op; manner = manner; reply = reply } ∷ [])
 own_write session mid new steps manner op t k row planned reply None knows there found free replies is plans
     not_insert trivial progress keys not_fetch =
     rw (replies, is) (by_row (row_at session mid.entries t k) refl)
@@ -593,12 +596,12 @@ own_write session mid new steps manner op t k row planned reply None knows there
     none = ap (option_and_then (seen_by session)) found
 
     by_row : (r : Option (List Value)) → row_at session mid.entries t k ≡ r
-        → Knows (write_at session t k row r (with_locks session [] mid)) session (steps ++ record {
+        → Accords (write_at session t k row r (with_locks session [] mid)) session (steps ++ record {
           op = op;
           manner = manner;
           reply = write_reply r;
         } ∷ [])
-    by_row None seen_none = rw (granted_none session mid) (knows_plain session mid steps (record {
+    by_row None seen_none = rw (granted_none session mid) (accords_plain session mid steps (record {
       op = op;
       manner = manner;
       reply = Missing;
@@ -612,17 +615,17 @@ own_write session mid new steps manner op t k row planned reply (Some e) knows t
     sees_row = ap (option_and_then (seen_by session)) found
 
     by_row : (r : Option (List Value)) → row_at session mid.entries t k ≡ r
-        → Knows (write_at session t k row r (with_locks session (x_on e ∷ []) mid)) session
+        → Accords (write_at session t k row r (with_locks session (x_on e ∷ []) mid)) session
         (steps ++ record { op = op; manner = manner; reply = write_reply r } ∷ [])
-    by_row None seen_none = knows_plain session (with_locks session (x_on e ∷ []) mid) steps (record {
+    by_row None seen_none = accords_plain session (with_locks session (x_on e ∷ []) mid) steps (record {
       op = op;
       manner = manner;
       reply =
           Missing;
-    }) (knows_e session mid steps manner knows there t k e found free) refl tt
+    }) (accords_e session mid steps manner knows there t k e found free) refl tt
     by_row (Some r) seen_some =
         let db = With (State mid.log) (map change_of (progress_of (without_waits steps)).own) in
-        subst (λ (o : Option Entry). Knows
+        subst (λ (o : Option Entry). Accords
         (record (with_locks session (x_on e ∷ []) mid) {
           entries = set_at (Some (record {
             owner = session;
@@ -661,14 +664,14 @@ no_locks_there session mid not_open = by_case (transaction_in session mid.active
     by_case (Some t) is = cc
 
 pub own_begin : (session : ℕ) (mid : Engine) (steps : List Exchange) (manner : Manner)
-    → Knows mid session steps → is_open session mid ≡ false
-    → Knows (after_begin session mid) session (steps ++ record {
+    → Accords mid session steps → is_open session mid ≡ false
+    → Accords (after_begin session mid) session (steps ++ record {
       op = Begin;
       manner = manner;
       reply = Began;
     } ∷ [])
 own_begin session mid steps manner knows not_open =
-    knows_more session mid (after_begin session mid) steps (record {
+    accords_more session mid (after_begin session mid) steps (record {
       op = Begin;
       manner = manner;
       reply = Began;
@@ -695,14 +698,14 @@ zip_push R [] (b ∷ ys) x y zip last = absurd zip
 zip_push R (a ∷ xs) [] x y zip last = absurd zip
 zip_push R (a ∷ xs) (b ∷ ys) x y zip last = (zip.0, zip_push R xs ys x y zip.1 last)
 
-pub own_mark : (session : ℕ) (mid : Engine) (steps : List Exchange) (manner : Manner) → Knows mid session steps
-    → is_open session mid ≡ true → Knows (after_mark session mid) session (steps ++ record {
+pub own_mark : (session : ℕ) (mid : Engine) (steps : List Exchange) (manner : Manner) → Accords mid session steps
+    → is_open session mid ≡ true → Accords (after_mark session mid) session (steps ++ record {
       op = Mark;
       manner = manner;
       reply = Marked (made_by session mid + 1);
     } ∷ [])
 own_mark session mid steps manner knows there =
-    knows_more session mid (after_mark session mid) steps (record {
+    accords_more session mid (after_mark session mid) steps (record {
       op = Mark;
       manner = manner;
       reply = Marked (made_by session mid + 1);
@@ -737,13 +740,13 @@ own_mark session mid steps manner knows there =
         (record { mark = refl; own = knows.tied.own; first = knows.tied.first })
 
 pub own_back : (session m : ℕ) (mid : Engine) (steps : List Exchange) (manner : Manner)
-    → Knows mid session steps → Knows (after_back session m mid) session (steps ++ record {
+    → Accords mid session steps → Accords (after_back session m mid) session (steps ++ record {
       op = BackTo m;
       manner = manner;
       reply = Done;
     } ∷ [])
 own_back session m mid steps manner knows =
-    knows_more session mid (after_back session m mid) steps (record {
+    accords_more session mid (after_back session m mid) steps (record {
       op = BackTo m;
       manner = manner;
       reply = Done;
@@ -788,13 +791,13 @@ own_back session m mid steps manner knows =
 -- ---- the end of a statement
 
 pub own_relax : (session : ℕ) (mid : Engine) (steps : List Exchange) (manner : Manner)
-    → Knows mid session steps → Knows (after_relax session mid) session (steps ++ record {
+    → Accords mid session steps → Accords (after_relax session mid) session (steps ++ record {
       op = Relax;
       manner = manner;
       reply = Done;
     } ∷ [])
 own_relax session mid steps manner knows =
-    knows_more session mid (after_relax session mid) steps (record {
+    accords_more session mid (after_relax session mid) steps (record {
       op = Relax;
       manner = manner;
       reply = Done;
@@ -836,13 +839,13 @@ logged_last session log [] = tt
 logged_last session log (change ∷ changes) =
     (get_last log (record { session = session; changes = change ∷ changes }), tt)
 
-pub knows_ended : (session : ℕ) (mid new : Engine) (steps : List Exchange) (op : Op) (manner : Manner)
-    (changes : List Change) → Knows mid session steps → Sane new → is_open session new ≡ false
+pub accords_ended : (session : ℕ) (mid new : Engine) (steps : List Exchange) (op : Op) (manner : Manner)
+    (changes : List Change) → Accords mid session steps → Sane new → is_open session new ≡ false
     → saved_of session new ≡ [] → new.log ≡ mid.log ++ commit_added session changes
     → commit_of changes ≡ committed_by op (Ended (length mid.log)) (progress_of (without_waits steps))
     → (progress_after (progress_of (without_waits steps)) op (Ended (length mid.log)) ≡ none_open)
-    → Knows new session (steps ++ record { op = op; manner = manner; reply = Ended (length mid.log) } ∷ [])
-knows_ended session mid new steps op manner changes knows now closes saved log commit_is same = record {
+    → Accords new session (steps ++ record { op = op; manner = manner; reply = Ended (length mid.log) } ∷ [])
+accords_ended session mid new steps op manner changes knows now closes saved log commit_is same = record {
   sane = now;
   fits = rw (
     waits_more steps last refl,
@@ -872,13 +875,13 @@ knows_ended session mid new steps op manner changes knows now closes saved log c
     }
 
 pub own_commit : (session : ℕ) (mid : Engine) (steps : List Exchange) (manner : Manner)
-    → Knows mid session steps → Knows (after_commit session mid) session (steps ++ record {
+    → Accords mid session steps → Accords (after_commit session mid) session (steps ++ record {
       op = Commit;
       manner = manner;
       reply = Ended (length mid.log);
     } ∷ [])
 own_commit session mid steps manner knows =
-    knows_ended session mid (after_commit session mid) steps Commit manner (changes_by session mid.entries)
+    accords_ended session mid (after_commit session mid) steps Commit manner (changes_by session mid.entries)
     knows (sane_commit session mid knows.sane)
     (ap is_some (closed_own session mid.active)) (ap saved_in (closed_own session mid.active))
     (grown_log session mid.log (changes_by session mid.entries))
@@ -887,24 +890,36 @@ own_commit session mid steps manner knows =
     knows.tied.first)) refl
 
 pub own_rollback : (session : ℕ) (mid : Engine) (steps : List Exchange) (manner : Manner)
-    → Knows mid session steps → Knows (after_rollback session mid) session (steps ++ record {
+    → Accords mid session steps → Accords (after_rollback session mid) session (steps ++ record {
       op = Rollback;
       manner = manner;
       reply = Ended (length mid.log);
     } ∷ [])
 own_rollback session mid steps manner knows =
-    knows_ended session mid (after_rollback session mid) steps Rollback manner [] knows
+    accords_ended session mid (after_rollback session mid) steps Rollback manner [] knows
     (sane_rollback session mid knows.sane)
     (ap is_some (closed_own session mid.active)) (ap saved_in (closed_own session mid.active))
     (sym (append-nil mid.log)) refl refl
 
 -- ---- whatever is asked
 
+-- who is told that it fell was in the cycle
+begins_waits : (session : ℕ) (cycle : List Edge) → BeginsAt session cycle → IsTrue (is_waiter session cycle)
+begins_waits session [] begins = absurd begins
+begins_waits session (edge ∷ cycle) begins =
+    ap (λ (b : Bool). b || is_waiter session cycle) (eq-eqb session edge.waiter (sym begins))
+
+falls_caused : (session : ℕ) (claim : Option Claim) (mid new : Engine) (manner : Manner) (cycle : List Edge)
+    → FallsAt session claim mid manner cycle new → IsCycle cycle × IsTrue (is_waiter session cycle)
+falls_caused session None mid new manner cycle falls = absurd falls
+falls_caused session (Some claim) mid new manner cycle falls =
+    (falls.1.falls.closes.closed, begins_waits session cycle falls.1.falls.closes.begins)
+
 module _ (session : ℕ) (mid : Engine) (steps : List Exchange) (manner : Manner)
-    (knows : Knows mid session steps) where
+    (knows : Accords mid session steps) where
   own_does : (op : Op) (reply : Reply) (new : Engine) → MayAsk (standing_of session mid) op manner
       → Passes session (claim_of mid op) mid → Does mid session op reply new
-      → Knows new session (steps ++ record { op = op; manner = manner; reply = reply } ∷ [])
+      → Accords new session (steps ++ record { op = op; manner = manner; reply = reply } ∷ [])
   own_does Begin reply new may free does = rw (does.0, does.1) (own_begin session mid steps manner knows may.0)
   own_does (Fetch t start stop hold part) reply new may free does =
       rw (does.0, does.1) (own_fetch session mid steps manner t start stop hold part knows may.0.0 may.0.1 free)
@@ -939,12 +954,19 @@ module _ (session : ℕ) (mid : Engine) (steps : List Exchange) (manner : Manner
 
   own_from : (op : Op) (reply : Reply) (new : Engine) → MayAsk (standing_of session mid) op manner
       → StepFrom mid session op manner reply new
-      → Knows new session (steps ++ record { op = op; manner = manner; reply = reply } ∷ [])
-  own_from op Memory new may step = rw step.1 (knows_plain session mid steps _ knows refl tt)
+      → Accords new session (steps ++ record { op = op; manner = manner; reply = reply } ∷ [])
+  own_from op Memory new may step = rw step.1 (accords_plain session mid steps _ knows refl tt)
   own_from op (TimedOut holder holds_range asked on) new may step =
-      rw step.1 (knows_plain session mid steps _ knows refl
+      rw step.1 (accords_plain session mid steps _ knows refl
       (timed_out (claim_of mid op) holder holds_range asked on step.0))
-  own_from op (Wait holder) new may step = rw step.1 (knows_wait session mid steps _ knows refl)
+  own_from op (Wait holder) new may step =
+      accords_wait session new steps _
+      (accords_shifts session mid new steps
+      (wait_shifts session mid new (claim_of mid op) manner holder step) knows) refl
+  own_from op (Victim cycle) new may step =
+      accords_plain session new steps _
+      (accords_shifts session mid new steps (fall_shifts session mid new (claim_of mid op) manner cycle step) knows)
+      refl (falls_caused session (claim_of mid op) mid new manner cycle step)
   own_from op Began new may step = own_does op Began new may step.0 step.1
   own_from op (Row key row at) new may step = own_does op (Row key row at) new may step.0 step.1
   own_from op (Gone key at) new may step = own_does op (Gone key at) new may step.0 step.1
@@ -955,12 +977,26 @@ module _ (session : ℕ) (mid : Engine) (steps : List Exchange) (manner : Manner
   own_from op (Marked mark) new may step = own_does op (Marked mark) new may step.0 step.1
   own_from op (Ended place) new may step = own_does op (Ended place) new may step.0 step.1
 
--- a step of a session is known with its exchange
-pub law_own_step : (old new : Engine) (session : ℕ) (steps : List Exchange) (op : Op) (manner : Manner)
-    (reply : Reply) → Knows old session steps → MayStep old session op manner
+  -- whether it is told first that it fell, or its operation is answered
+  own_hears : (op : Op) (reply : Reply) (new : Engine) (told : Option (List Edge))
+      → ((cycle : List Edge) → told ≡ Some cycle → IsCycle cycle × IsTrue (is_waiter session cycle))
+      → MayAsk (standing_of session mid) op manner → Hears told mid session op manner reply new
+      → Accords new session (steps ++ record { op = op; manner = manner; reply = reply } ∷ [])
+  own_hears op reply new None marked may step = own_from op reply new may step
+  own_hears op reply new (Some cycle) marked may step =
+      rw step.0 (accords_plain session new steps (record { op = op; manner = manner; reply = Victim cycle })
+      (accords_shifts session mid new steps (told_shifts session mid new step.1) knows) refl (marked cycle refl))
+
+-- after a step of a session the state accords with its exchange too
+pub own_accords : (old new : Engine) (session : ℕ) (steps : List Exchange) (op : Op) (manner : Manner)
+    (reply : Reply) → Accords old session steps
+    → ((cycle : List Edge) → victim_of session old ≡ Some cycle
+    → IsCycle cycle × IsTrue (is_waiter session cycle)) → MayStep old session op manner
     → Step old session op manner reply new
-    → Knows new session (steps ++ record { op = op; manner = manner; reply = reply } ∷ [])
-law_own_step old new session steps op manner reply knows may step =
-    own_from session (without_wait session old) steps manner (knows_calm session old steps knows) op reply new
+    → Accords new session (steps ++ record { op = op; manner = manner; reply = reply } ∷ [])
+own_accords old new session steps op manner reply knows marked may step =
+    own_hears session (without_wait session old) steps manner (accords_calm session old steps knows) op reply new
+    (told_first op (victim_of session old))
+    (λ cycle is. marked cycle (told_is op (victim_of session old) cycle is))
     (subst (λ (standing : Standing). MayAsk standing op manner) (sym (calm_standing session old)) may.1)
     step

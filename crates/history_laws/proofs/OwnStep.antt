@@ -14,30 +14,30 @@ use Rattle.step_model.specs.Exchange.{Exchange}
 use Rattle.step_model.specs.Fits.{without_waits, at_of, NoneEnds, AnswersIn, FreshIn, IsCaused, numbers_of, is_ended, is_relax, is_wait, KeepsRow, WritesAt}
 use Rattle.step_model.specs.Locks.{Lock}
 use Rattle.step_model.specs.Log.{State}
-use Rattle.step_model.specs.Moves.{without_wait, drop_wait, with_locks, add_locks}
+use Rattle.step_model.specs.Moves.{without_wait, drop_wait, with_session, with_locks, add_locks}
 use Rattle.step_model.specs.Own.{Progress, progress_of, last_at, change_of, progress_after}
 use Rattle.step_model.specs.State.{Engine, locks_of, saved_of, has, is_open}
 use Rattle.history_laws.specs.Guarded.{Guarded}
-use Rattle.history_laws.specs.Knows.{Knows, Tied, FirstsFit, SameMark}
+use Rattle.history_laws.specs.Knows.{Accords, Tied, FirstsFit, SameMark}
 use Rattle.history_laws.specs.Relies.{Untouched, KeysOf, is_fetch}
 use Rattle.history_laws.specs.Sane.{Sane}
 use Rattle.history_laws.proofs.Sessions.{locks_granted}
-use Rattle.history_laws.proofs.SaneMoves.{all_locks, all_saved, MayKeep, sane_granted}
+use Rattle.history_laws.proofs.SaneMoves.{all_saved, MayKeep, sane_granted}
 use Rattle.history_laws.proofs.GuardMoves.{guarded_same}
 use Rattle.lock_modes.specs.declared.KeyPart.TheVariants.{U}
 use Rattle.step_model.specs.declared.op.Hold.TheVariants.{Row as RowAlone, Range}
 use Rattle.step_model.specs.declared.op.Op.{Op}
 use Rattle.step_model.specs.declared.op.Op.TheVariants.{Begin, Fetch, Insert, Replace, Erase}
 use Rattle.step_model.specs.declared.reply.Reply.{Reply}
-use Rattle.step_model.specs.declared.reply.Reply.TheVariants.{Row, Gone, End as Over, Done, Exists, Missing, TimedOut, Memory}
+use Rattle.step_model.specs.declared.reply.Reply.TheVariants.{Row, Gone, End as Over, Done, Exists, Missing, TimedOut, Victim, Memory}
 use Rattle.history_laws.proofs.Sessions.{open_changed}
-use Rattle.history_laws.proofs.OneMove.{sane_calm}
+use Rattle.history_laws.proofs.OneMove.{sane_shift, frame_shift}
 use Rattle.history_laws.proofs.EntryLists.{has_front}
 use Rattle.std.specs.Prelude.{length}
 use Rattle.history_laws.proofs.FitsGrows.{fits_more}
 use Rattle.history_laws.proofs.OneMove.{Frame, tied_frame, fits_frame}
 use Rattle.history_laws.proofs.OwnMore.{After, tied_more, keeps_rely}
-use Rattle.history_laws.proofs.StepMoves.{Taken, nothing, a_lock, calm_open}
+use Rattle.history_laws.proofs.StepMoves.{Taken, nothing, a_lock, wait_shift, AllShifts, unshifted, shifted}
 
 -- ---- more locks, and nothing else
 
@@ -58,28 +58,35 @@ frame_more session old new entries log opened saved more = record {
   untouched = λ span u x guarded. tt;
 }
 
-knows_frame : (session : ℕ) (old new : Engine) (steps : List Exchange) → Frame session old new → Sane new
-    → Knows old session steps → Knows new session steps
-knows_frame session old new steps frame sane knows = record {
+accords_frame : (session : ℕ) (old new : Engine) (steps : List Exchange) → Frame session old new → Sane new
+    → Accords old session steps → Accords new session steps
+accords_frame session old new steps frame sane knows = record {
   sane = sane;
   fits = fits_frame session old new knows.sane frame (without_waits steps) knows.tied knows.fits;
   tied = tied_frame session old new knows.sane frame (without_waits steps) knows.tied;
 }
 
-pub knows_calm : (session : ℕ) (old : Engine) (steps : List Exchange) → Knows old session steps
-    → Knows (without_wait session old) session steps
-knows_calm session old steps knows =
-    knows_frame session old (without_wait session old) steps
-    (frame_more session old (without_wait session old) refl refl (calm_open session old)
-    (all_saved session drop_wait (λ t. refl) (λ t. refl) old session)
-    (λ test on is. rw (all_locks session drop_wait (λ t. refl) (λ t. refl) old session) is))
-    (sane_calm session old knows.sane) knows
+pub accords_calm : (session : ℕ) (old : Engine) (steps : List Exchange) → Accords old session steps
+    → Accords (without_wait session old) session steps
+accords_calm session old steps knows =
+    accords_frame session old (without_wait session old) steps
+    (frame_shift session drop_wait wait_shift session old) (sane_shift session drop_wait wait_shift old knows.sane)
+    knows
 
-pub knows_granted : (session : ℕ) (mid : Engine) (steps : List Exchange) (lock : Lock)
+-- changes of waits and marks leave what accords with any session's exchanges
+pub accords_shifts : (session : ℕ) (old new : Engine) (steps : List Exchange) → AllShifts old new
+    → Accords old session steps → Accords new session steps
+accords_shifts session old new steps (unshifted is) knows = rw is knows
+accords_shifts session old new steps (shifted who f shift rest) knows =
+    accords_shifts session (with_session who f old) new steps rest
+    (accords_frame session old (with_session who f old) steps (frame_shift who f shift session old)
+    (sane_shift who f shift old knows.sane) knows)
+
+pub accords_granted : (session : ℕ) (mid : Engine) (steps : List Exchange) (lock : Lock)
     → is_open session mid ≡ true → NoFoe session lock.on lock.pair mid → MayKeep mid lock
-    → Knows mid session steps → Knows (with_locks session (lock ∷ []) mid) session steps
-knows_granted session mid steps lock there free may knows =
-    knows_frame session mid (with_locks session (lock ∷ []) mid) steps
+    → Accords mid session steps → Accords (with_locks session (lock ∷ []) mid) session steps
+accords_granted session mid steps lock there free may knows =
+    accords_frame session mid (with_locks session (lock ∷ []) mid) steps
     (frame_more session mid (with_locks session (lock ∷ []) mid) refl refl
     (open_changed session (add_locks (lock ∷ [])) (λ t. refl) mid)
     (all_saved session (add_locks (lock ∷ [])) (λ t. refl) (λ t. refl) mid session)
@@ -87,11 +94,11 @@ knows_granted session mid steps lock there free may knows =
     (has_front test on (locks_of session mid) (lock ∷ []) is)))
     (sane_granted session mid lock knows.sane there free may) knows
 
-pub knows_taken : (session : ℕ) (mid new : Engine) (steps : List Exchange) → is_open session mid ≡ true
-    → Taken session mid new → Knows mid session steps → Knows new session steps
-knows_taken session mid new steps there (nothing is) knows = rw is knows
-knows_taken session mid new steps there (a_lock lock free may is) knows =
-    rw is (knows_granted session mid steps lock there free may knows)
+pub accords_taken : (session : ℕ) (mid new : Engine) (steps : List Exchange) → is_open session mid ≡ true
+    → Taken session mid new → Accords mid session steps → Accords new session steps
+accords_taken session mid new steps there (nothing is) knows = rw is knows
+accords_taken session mid new steps there (a_lock lock free may is) knows =
+    rw is (accords_granted session mid steps lock there free may knows)
 
 -- ---- the list of exchanges, without waits
 
@@ -120,8 +127,8 @@ waits_same (e ∷ steps) last wait = by_test (is_wait e.reply) (waits_same steps
 -- ---- an exchange that ends no transaction
 
 module _ (session : ℕ) (mid new : Engine) (steps : List Exchange) (last : Exchange)
-    (knows : Knows mid session steps) (now : Sane new) where
-  pub knows_more : is_wait last.reply ≡ false → is_ended last.reply ≡ false → new.log ≡ mid.log
+    (knows : Accords mid session steps) (now : Sane new) where
+  pub accords_more : is_wait last.reply ≡ false → is_ended last.reply ≡ false → new.log ≡ mid.log
       → AllByRecursion (λ number. number ≡ length mid.log) (numbers_of last.reply)
       → AnswersIn (With (State mid.log) (map change_of (progress_of (without_waits steps)).own)) last.op
       last.reply
@@ -135,8 +142,8 @@ module _ (session : ℕ) (mid new : Engine) (steps : List Exchange) (last : Exch
       → Guarded span session t x new)
       → (IsTrue (is_fetch last.op) → (span : Span) (t : TableName) (x : List Value)
       → KeysOf last.op last.reply [] span t x → at_of last.reply ≡ length mid.log)
-      → Knows new session (steps ++ last ∷ [])
-  knows_more not_wait goes_on log numbered answered fresh caused after guarded relied at = record {
+      → Accords new session (steps ++ last ∷ [])
+  accords_more not_wait goes_on log numbered answered fresh caused after guarded relied at = record {
     sane = now;
     fits = rw (
       waits_more steps last not_wait,
@@ -160,6 +167,7 @@ module _ (session : ℕ) (mid new : Engine) (steps : List Exchange) (last : Exch
 abbrev pub is_plain : Reply → Bool
 is_plain Missing = true
 is_plain (TimedOut holder holds_range asked on) = true
+is_plain (Victim cycle) = true
 is_plain Memory = true
 is_plain reply = false
 
@@ -170,15 +178,18 @@ plain_progress : (p : Progress) (op : Op) (reply : Reply) → is_plain reply ≡
     → progress_after p op reply ≡ p
 plain_progress p Begin Missing is = kept_progress p
 plain_progress p Begin (TimedOut holder holds_range asked on) is = kept_progress p
+plain_progress p Begin (Victim cycle) is = kept_progress p
 plain_progress p Begin Memory is = kept_progress p
 plain_progress p op Missing is = kept_progress p
 plain_progress p op (TimedOut holder holds_range asked on) is = kept_progress p
+plain_progress p op (Victim cycle) is = kept_progress p
 plain_progress p op Memory is = kept_progress p
 plain_progress p op reply is = cc
 
 plain_answers : (db : Database) (op : Op) (reply : Reply) → is_plain reply ≡ true → AnswersIn db op reply
 plain_answers db (Fetch table start stop hold part) Missing is = tt
 plain_answers db (Fetch table start stop hold part) (TimedOut holder holds_range asked on) is = tt
+plain_answers db (Fetch table start stop hold part) (Victim cycle) is = tt
 plain_answers db (Fetch table start stop hold part) Memory is = tt
 plain_answers db (Fetch table start stop hold part) reply is = cc
 plain_answers db op reply is = tt
@@ -186,6 +197,7 @@ plain_answers db op reply is = tt
 plain_fresh : (db : Database) (op : Op) (reply : Reply) → is_plain reply ≡ true → FreshIn db op reply
 plain_fresh db (Insert table key row) Missing is = tt
 plain_fresh db (Insert table key row) (TimedOut holder holds_range asked on) is = tt
+plain_fresh db (Insert table key row) (Victim cycle) is = tt
 plain_fresh db (Insert table key row) Memory is = tt
 plain_fresh db (Insert table key row) reply is = cc
 plain_fresh db op reply is = tt
@@ -214,6 +226,7 @@ plain_parts : (n : ℕ) (reply : Reply) → is_plain reply ≡ true
     × AllByRecursion (λ number. number ≡ n) (numbers_of reply)
 plain_parts n Missing is = (refl, refl, tt)
 plain_parts n (TimedOut holder holds_range asked on) is = (refl, refl, tt)
+plain_parts n (Victim cycle) is = (refl, refl, tt)
 plain_parts n Memory is = (refl, refl, tt)
 plain_parts n reply is = cc
 
@@ -232,12 +245,12 @@ after_same session mid new mine last tied same entries opened saved = record {
       (rw (entries, saved) tied.marks);
 }
 
-pub knows_plain : (session : ℕ) (mid : Engine) (steps : List Exchange) (last : Exchange)
-    → Knows mid session steps → is_plain last.reply ≡ true → IsCaused session last.manner.patience last.reply
-    → Knows mid session (steps ++ last ∷ [])
-knows_plain session mid steps last knows plain caused =
+pub accords_plain : (session : ℕ) (mid : Engine) (steps : List Exchange) (last : Exchange)
+    → Accords mid session steps → is_plain last.reply ≡ true → IsCaused session last.manner.patience last.reply
+    → Accords mid session (steps ++ last ∷ [])
+accords_plain session mid steps last knows plain caused =
     let parts = plain_parts (length mid.log) last.reply plain in
-    knows_more session mid mid steps last knows knows.sane parts.0 parts.1 refl parts.2
+    accords_more session mid mid steps last knows knows.sane parts.0 parts.1 refl parts.2
     (plain_answers (With (State mid.log) (map change_of (progress_of (without_waits steps)).own)) last.op
     last.reply plain)
     (plain_fresh (With (State mid.log) (map change_of (progress_of (without_waits steps)).own)) last.op
@@ -248,9 +261,9 @@ knows_plain session mid steps last knows plain caused =
     (λ span t x keys. absurd (plain_keys last.op last.reply plain [] span t x keys))
     (λ fetches span t x keys. absurd (plain_keys last.op last.reply plain [] span t x keys))
 
-pub knows_wait : (session : ℕ) (mid : Engine) (steps : List Exchange) (last : Exchange)
-    → Knows mid session steps → is_wait last.reply ≡ true → Knows mid session (steps ++ last ∷ [])
-knows_wait session mid steps last knows wait = record {
+pub accords_wait : (session : ℕ) (mid : Engine) (steps : List Exchange) (last : Exchange)
+    → Accords mid session steps → is_wait last.reply ≡ true → Accords mid session (steps ++ last ∷ [])
+accords_wait session mid steps last knows wait = record {
   sane = knows.sane;
   fits = rw (waits_same steps last wait) knows.fits;
   tied = rw (waits_same steps last wait) knows.tied;

@@ -13,7 +13,7 @@ use Rattle.step_model.specs.Log.{Commit as Logged, State}
 use Rattle.step_model.specs.Own.{standing_at, Progress, MarkedAt, progress_after, progress_from, progress_of, none_open, change_of, last_at, or_else}
 use Rattle.step_model.specs.Runs.{MayStep, standing_of}
 use Rattle.step_model.specs.State.{Engine, Transaction, Saved, is_open, transaction_in, saved_in, saved_of}
-use Rattle.history_laws.specs.Knows.{Knows, SameMark}
+use Rattle.history_laws.specs.Knows.{Accords, SameMark}
 use Rattle.step_model.specs.declared.manner.Manner.{Manner}
 use Rattle.step_model.specs.declared.op.Op.{Op}
 use Rattle.history_laws.proofs.Changes.{at_itself}
@@ -133,7 +133,7 @@ no_own (p ∷ own) none =
         by_test true at (Some c) is = cc
         by_test false at o is = cc
 
-pub idle_outside : (engine : Engine) (session : ℕ) (steps : List Exchange) → Knows engine session steps
+pub idle_outside : (engine : Engine) (session : ℕ) (steps : List Exchange) → Accords engine session steps
     → is_open session engine ≡ false → progress_of (without_waits steps) ≡ none_open
 idle_outside engine session steps knows not_open =
     by_parts (progress_of (without_waits steps)) is_open own marks
@@ -174,7 +174,7 @@ marks_known engine [] (m ∷ marked) zip = absurd zip
 marks_known engine (s ∷ saved) [] zip = absurd zip
 marks_known engine (s ∷ saved) (m ∷ marked) zip = rw (zip.0.mark, marks_known engine saved marked zip.1) refl
 
-pub standing_known : (engine : Engine) (session : ℕ) (steps : List Exchange) → Knows engine session steps
+pub standing_known : (engine : Engine) (session : ℕ) (steps : List Exchange) → Accords engine session steps
     → standing_of session engine ≡ standing_at (progress_of (without_waits steps))
 standing_known engine session steps knows =
     λ i. record {
@@ -185,7 +185,7 @@ standing_known engine session steps knows =
 
 -- so a seat's own condition lets it step
 pub may_step : (engine : Engine) (session : ℕ) (steps : List Exchange) (op : Op) (manner : Manner)
-    → Knows engine session steps → IsSession session
+    → Accords engine session steps → IsSession session
     → MayAsk (standing_at (progress_of (without_waits steps))) op manner → MayStep engine session op manner
 may_step engine session steps op manner knows is may = (
   is,

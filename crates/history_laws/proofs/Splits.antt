@@ -4,7 +4,7 @@ use Rattle.std.specs.List.{AllByRecursion}
 use Rattle.std.proofs.lemmas.Grind.{flat_map-append}
 use Rattle.step_model.specs.declared.change.Change.{Change}
 use Rattle.step_model.specs.declared.reply.Reply.{Reply}
-use Rattle.step_model.specs.declared.reply.Reply.TheVariants.{Began, Row, Gone, End, Done, Exists, Missing, Marked, Ended, Wait, TimedOut, Memory}
+use Rattle.step_model.specs.declared.reply.Reply.TheVariants.{Began, Row, Gone, End, Done, Exists, Missing, Marked, Ended, Wait, TimedOut, Victim, Memory}
 use Rattle.step_model.specs.Exchange.{Exchange}
 use Rattle.step_model.specs.Fits.{Each, place_of, place_or, is_ended, NoneEnds, all_numbers, numbers_of, NeverFall, commits_from, committed_by}
 use Rattle.step_model.specs.Own.{Progress, progress_after, progress_from}
@@ -71,6 +71,7 @@ not_ended (Marked mark) behind is = refl
 not_ended (Ended place) behind is = cc
 not_ended (Wait holder) behind is = refl
 not_ended (TimedOut holder holds_range asked on) behind is = refl
+not_ended (Victim cycle) behind is = refl
 not_ended Memory behind is = refl
 
 pub place_same : (behind : ℕ) (later : List Exchange) (last : Exchange) → is_ended last.reply ≡ false
@@ -105,6 +106,7 @@ open_or_not (exchange ∷ later) = by_reply exchange.reply refl (open_or_not lat
     by_reply (Marked mark) is rest = both_ways (rw is refl) rest
     by_reply (Wait holder) is rest = both_ways (rw is refl) rest
     by_reply (TimedOut holder holds_range asked on) is rest = both_ways (rw is refl) rest
+    by_reply (Victim cycle) is rest = both_ways (rw is refl) rest
     by_reply Memory is rest = both_ways (rw is refl) rest
 
 pub open_place : (behind : ℕ) (later : List Exchange) → NoneEnds later → place_of behind later ≡ behind
@@ -174,6 +176,7 @@ place_below high behind (exchange ∷ later) le all =
     by_reply (Marked mark) is rest = rw is rest
     by_reply (Wait holder) is rest = rw is rest
     by_reply (TimedOut holder holds_range asked on) is rest = rw is rest
+    by_reply (Victim cycle) is rest = rw is rest
     by_reply Memory is rest = rw is rest
 
 -- ---- progress

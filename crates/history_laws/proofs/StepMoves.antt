@@ -13,11 +13,12 @@ use Rattle.step_model.specs.Database.{includes}
 use Rattle.step_model.specs.Entries.{Entry, entry_at, entry_on, place_at, seen_by, next_entry, resource_of, row_at}
 use Rattle.step_model.specs.Exchange.{Exchange, IsPartOfFetch, MayAsk}
 use Rattle.step_model.specs.Locks.{Lock, same_place, has_lock, is_x}
-use Rattle.step_model.specs.Moves.{without_wait, drop_wait, with_locks, add_locks, with_session_in, set_at, with_pending}
+use Rattle.step_model.specs.Moves.{without_wait, drop_wait, with_wait, set_wait, after_fall, mark_victim, without_victim, drop_victim, with_session, with_locks, add_locks, with_session_in, set_at, with_pending}
 use Rattle.step_model.specs.Runs.{MayStep, standing_of}
-use Rattle.step_model.specs.State.{Engine, Transaction, locks_of, has, is_open}
-use Rattle.step_model.specs.Step.{Does, Inserts, insert_at, write_at, StepFrom, Step}
-use Rattle.history_laws.specs.Knows.{Knows}
+use Rattle.step_model.specs.State.{Engine, StandingWait, Transaction, locks_of, has, is_open, victim_of}
+use Rattle.step_model.specs.Deadlocks.{Breaks, wait_for}
+use Rattle.step_model.specs.Step.{Does, Inserts, insert_at, write_at, Waits, FallsAt, StepFrom, told_first, Hears, Step}
+use Rattle.history_laws.specs.Knows.{Accords}
 use Rattle.history_laws.specs.Sane.{Sane, Stands}
 use Rattle.history_laws.proofs.EntryOrder.{key_cmp_total, table_cmp_total}
 use Rattle.history_laws.proofs.Sessions.{locks_granted}
@@ -26,6 +27,7 @@ use Rattle.history_laws.proofs.SaneMoves.{all_saved, MayKeep}
 use Rattle.lock_modes.specs.declared.KeyPart.{KeyPart}
 use Rattle.lock_modes.specs.declared.KeyPart.TheVariants.{N, S, U, X}
 use Rattle.lock_modes.specs.Modes.{exclusive, range_s_s}
+use Rattle.step_model.specs.declared.edge.Edge.{Edge}
 use Rattle.step_model.specs.declared.manner.Manner.{Manner}
 use Rattle.step_model.specs.declared.range.Start.{Start}
 use Rattle.step_model.specs.declared.range.Stop.{Stop}
@@ -34,10 +36,10 @@ use Rattle.step_model.specs.declared.op.Hold.TheVariants.{Row as RowAlone, Range
 use Rattle.step_model.specs.declared.op.Op.{Op}
 use Rattle.step_model.specs.declared.op.Op.TheVariants.{Begin, Fetch, Insert, Replace, Erase, Mark, BackTo, Relax, Commit, Rollback}
 use Rattle.step_model.specs.declared.reply.Reply.{Reply}
-use Rattle.step_model.specs.declared.reply.Reply.TheVariants.{Began, Row, Gone, End as Over, Done, Exists, Missing, Marked, Ended, Wait, TimedOut, Memory}
+use Rattle.step_model.specs.declared.reply.Reply.TheVariants.{Began, Row, Gone, End as Over, Done, Exists, Missing, Marked, Ended, Wait, TimedOut, Victim, Memory}
 use Rattle.history_laws.proofs.Firsts.{next_there}
 use Rattle.history_laws.proofs.Sessions.{open_changed}
-use Rattle.history_laws.proofs.OneMove.{Move, calms, begins, grants, sets, adds, marks, goes_back, relaxes, commits, rolls_back, sane_move, knows_other}
+use Rattle.history_laws.proofs.OneMove.{Move, Shifts, shifts, begins, grants, sets, adds, marks, goes_back, relaxes, commits, rolls_back, sane_move, accords_other}
 use Rattle.history_laws.proofs.EntryLists.{has_back}
 
 -- ---- the lock that is taken, if any
@@ -148,6 +150,65 @@ pub join : (session : ℕ) (old mid new : Engine) → Moves session old mid → 
     → Moves session old new
 join session old mid new (done is) more = rw (← is) more
 join session old mid new (next first move rest) more = next first move (join session first mid new rest more)
+
+-- ---- waits and marks
+
+pub wait_shift : Shifts drop_wait
+wait_shift = record { session = λ t. refl; locks = λ t. refl; marks = λ t. refl }
+
+set_shift : (wait : StandingWait) → Shifts (set_wait wait)
+set_shift wait = record { session = λ t. refl; locks = λ t. refl; marks = λ t. refl }
+
+victim_shift : (cycle : List Edge) → Shifts (mark_victim cycle)
+victim_shift cycle = record { session = λ t. refl; locks = λ t. refl; marks = λ t. refl }
+
+victim_gone : Shifts drop_victim
+victim_gone = record { session = λ t. refl; locks = λ t. refl; marks = λ t. refl }
+
+-- changes of waits and marks, one after another
+pub data AllShifts : Engine → Engine → Type 0 where
+  unshifted : {old new : Engine} → new ≡ old → AllShifts old new
+  shifted : {old new : Engine} (who : ℕ) (f : Transaction → Transaction) → Shifts f
+      → AllShifts (with_session who f old) new → AllShifts old new
+
+shift_moves : (session : ℕ) (old new : Engine) → AllShifts old new → Moves session old new
+shift_moves session old new (unshifted is) = done is
+shift_moves session old new (shifted who f shift rest) =
+    next (with_session who f old) (shifts who f shift refl)
+    (shift_moves session (with_session who f old) new rest)
+
+break_shifts : (session : ℕ) (old new : Engine) (broken : List (List Edge)) → Breaks session old broken new
+    → AllShifts old new
+break_shifts session old new [] is = unshifted is
+break_shifts session old new (cycle ∷ more) breaks =
+    shifted breaks.0 (mark_victim cycle) (victim_shift cycle)
+    (break_shifts session (after_fall breaks.0 cycle old) new more breaks.3)
+
+shifts_end : (old mid new : Engine) → AllShifts old mid → AllShifts mid new → AllShifts old new
+shifts_end old mid new (unshifted is) more = rw (← is) more
+shifts_end old mid new (shifted who f shift rest) more =
+    shifted who f shift (shifts_end (with_session who f old) mid new rest more)
+
+pub wait_shifts : (session : ℕ) (mid new : Engine) (claim : Option Claim) (manner : Manner) (holder : ℕ)
+    → Waits session claim mid manner holder new → AllShifts mid new
+wait_shifts session mid new None manner holder waits = absurd waits
+wait_shifts session mid new (Some claim) manner holder waits =
+    shifted session (set_wait (wait_for claim manner.priority)) (set_shift (wait_for claim manner.priority))
+    (break_shifts session (with_wait session (wait_for claim manner.priority) mid) new waits.2.broken
+    waits.2.breaks)
+
+pub fall_shifts : (session : ℕ) (mid new : Engine) (claim : Option Claim) (manner : Manner) (cycle : List Edge)
+    → FallsAt session claim mid manner cycle new → AllShifts mid new
+fall_shifts session mid new None manner cycle falls = absurd falls
+fall_shifts session mid new (Some claim) manner cycle falls =
+    shifted session (set_wait (wait_for claim manner.priority)) (set_shift (wait_for claim manner.priority))
+    (shifts_end (with_wait session (wait_for claim manner.priority) mid) falls.1.last new
+    (break_shifts session (with_wait session (wait_for claim manner.priority) mid) falls.1.last falls.1.broken
+    falls.1.breaks) (shifted session drop_wait wait_shift (unshifted falls.1.left)))
+
+-- a mark that is told
+pub told_shifts : (session : ℕ) (mid new : Engine) → new ≡ without_victim session mid → AllShifts mid new
+told_shifts session mid new is = shifted session drop_victim victim_gone (unshifted is)
 
 taken_moves : (session : ℕ) (mid new : Engine) → is_open session mid ≡ true → Taken session mid new
     → Moves session mid new
@@ -271,7 +332,10 @@ module _ (session : ℕ) (mid : Engine) where
       → Moves session mid new
   from_moves op manner Memory new may step = done step.1
   from_moves op manner (TimedOut holder holds_range asked on) new may step = done step.1
-  from_moves op manner (Wait holder) new may step = done step.1
+  from_moves op manner (Wait holder) new may step =
+      shift_moves session mid new (wait_shifts session mid new (claim_of mid op) manner holder step)
+  from_moves op manner (Victim cycle) new may step =
+      shift_moves session mid new (fall_shifts session mid new (claim_of mid op) manner cycle step)
   from_moves op manner Began new may step = does_moves op manner Began new may step.0 step.1
   from_moves op manner (Row key row at) new may step =
       does_moves op manner (Row key row at) new may step.0 step.1
@@ -295,12 +359,19 @@ calm_standing session old = rw (
   all_saved session drop_wait (λ t. refl) (λ t. refl) old session,
 ) refl
 
+hears_moves : (session : ℕ) (mid new : Engine) (op : Op) (manner : Manner) (reply : Reply)
+    → (told : Option (List Edge)) → MayAsk (standing_of session mid) op manner
+    → Hears told mid session op manner reply new → Moves session mid new
+hears_moves session mid new op manner reply None may step = from_moves session mid op manner reply new may step
+hears_moves session mid new op manner reply (Some cycle) may step =
+    shift_moves session mid new (told_shifts session mid new step.1)
+
 pub step_moves : (session : ℕ) (old new : Engine) (op : Op) (manner : Manner) (reply : Reply)
     → MayAsk (standing_of session old) op manner → Step old session op manner reply new → Moves session old new
 step_moves session old new op manner reply may step =
-    next (without_wait session old) (calms refl)
-    (from_moves session (without_wait session old) op manner reply new (rw (calm_standing session old) may)
-    step)
+    next (without_wait session old) (shifts session drop_wait wait_shift refl)
+    (hears_moves session (without_wait session old) new op manner reply (told_first op (victim_of session old))
+    (rw (calm_standing session old) may) step)
 
 pub sane_moves : (session : ℕ) (old new : Engine) → Moves session old new → Sane old → Sane new
 sane_moves session old new (done is) sane = rw is sane
@@ -313,15 +384,15 @@ pub step_sane : (session : ℕ) (old new : Engine) (op : Op) (manner : Manner) (
 step_sane session old new op manner reply may sane step =
     sane_moves session old new (step_moves session old new op manner reply may step) sane
 
-knows_moves : (session t : ℕ) → t ≢ session → (old new : Engine) (steps : List Exchange)
-    → Moves session old new → Knows old t steps → Knows new t steps
-knows_moves session t differ old new steps (done is) knows = rw is knows
-knows_moves session t differ old new steps (next mid move rest) knows =
-    knows_moves session t differ mid new steps rest (knows_other session t differ old mid steps move knows)
+accords_moves : (session t : ℕ) → t ≢ session → (old new : Engine) (steps : List Exchange)
+    → Moves session old new → Accords old t steps → Accords new t steps
+accords_moves session t differ old new steps (done is) knows = rw is knows
+accords_moves session t differ old new steps (next mid move rest) knows =
+    accords_moves session t differ mid new steps rest (accords_other session t differ old mid steps move knows)
 
 -- a step of one session keeps what is known of every other
-pub law_other_step : (old new : Engine) (session t : ℕ) (steps : List Exchange) (op : Op) (manner : Manner)
-    (reply : Reply) → Knows old t steps → t ≢ session → MayStep old session op manner
-    → Step old session op manner reply new → Knows new t steps
-law_other_step old new session t steps op manner reply knows differ may step =
-    knows_moves session t differ old new steps (step_moves session old new op manner reply may.1 step) knows
+pub other_accords : (old new : Engine) (session t : ℕ) (steps : List Exchange) (op : Op) (manner : Manner)
+    (reply : Reply) → Accords old t steps → t ≢ session → MayStep old session op manner
+    → Step old session op manner reply new → Accords new t steps
+other_accords old new session t steps op manner reply knows differ may step =
+    accords_moves session t differ old new steps (step_moves session old new op manner reply may.1 step) knows

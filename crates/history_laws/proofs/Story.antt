@@ -11,9 +11,11 @@ use Rattle.step_model.specs.declared.reply.Reply.TheVariants as reply
 use Rattle.step_model.specs.Claims.{claim_of, write_claim, with_claim}
 use Rattle.step_model.specs.Entries.{Entry, changes_by, entry_at, row_at, seen_by}
 use Rattle.step_model.specs.Log.{Commit as Logged}
-use Rattle.step_model.specs.Moves.{log_with}
-use Rattle.step_model.specs.State.{Engine}
-use Rattle.step_model.specs.Step.{Step, StepFrom, Does, Inserts, Writes, insert_at, write_at}
+use Rattle.step_model.specs.Moves.{log_with, with_session, without_wait}
+use Rattle.history_laws.proofs.StepMoves.{AllShifts, unshifted, shifted, wait_shifts, fall_shifts}
+use Rattle.step_model.specs.State.{Engine, victim_of}
+use Rattle.step_model.specs.declared.edge.Edge.{Edge}
+use Rattle.step_model.specs.Step.{Step, StepFrom, Hears, told_first, Does, Inserts, Writes, insert_at, write_at}
 
 -- the log of an engine begins with another one
 abbrev Grows : Engine → Engine → Type 0
@@ -63,9 +65,22 @@ does_grow session mid new op.Commit answer did =
     let grown = log_grows mid.log session (changes_by session mid.entries) in (grown.0, log_of did.1 ∙ grown.1)
 does_grow session mid new op.Rollback answer did = grows_by_none mid new (log_of did.1)
 
+-- waits and marks leave the log
+shifts_log : (old new : Engine) → AllShifts old new → new.log ≡ old.log
+shifts_log old new (unshifted is) = log_of is
+shifts_log old new (shifted who f shift rest) = shifts_log (with_session who f old) new rest
+
+from_grows : (session : ℕ) (mid new : Engine) (asked : Op) (manner : Manner) (answer : Reply) → StepFrom mid session asked manner answer new → Grows mid new
+from_grows session mid new asked manner reply.Memory step = grows_by_none mid new (log_of step.1)
+from_grows session mid new asked manner (reply.TimedOut holder held wanted on) step = grows_by_none mid new (log_of step.1)
+from_grows session mid new asked manner (reply.Wait holder) step = grows_by_none mid new (shifts_log mid new (wait_shifts session mid new (claim_of mid asked) manner holder step))
+from_grows session mid new asked manner (reply.Victim cycle) step = grows_by_none mid new (shifts_log mid new (fall_shifts session mid new (claim_of mid asked) manner cycle step))
+from_grows session mid new asked manner answer step = does_grow session mid new asked answer step.1
+
+hears_grow : (session : ℕ) (mid new : Engine) (asked : Op) (manner : Manner) (answer : Reply) (told : Option (List Edge)) → Hears told mid session asked manner answer new → Grows mid new
+hears_grow session mid new asked manner answer None step = from_grows session mid new asked manner answer step
+hears_grow session mid new asked manner answer (Some cycle) step = grows_by_none mid new (log_of step.1)
+
 pub law_story_grows : (old new : Engine) (session : ℕ) (asked : Op) (manner : Manner) (answer : Reply)
     → Step old session asked manner answer new → Grows old new
-law_story_grows old new session asked manner reply.Memory step = grows_by_none old new (log_of step.1)
-law_story_grows old new session asked manner (reply.TimedOut holder held wanted on) step = grows_by_none old new (log_of step.1)
-law_story_grows old new session asked manner (reply.Wait holder) step = grows_by_none old new (log_of step.1)
-law_story_grows old new session asked manner answer step = does_grow session _ new asked answer step.1
+law_story_grows old new session asked manner answer step = hears_grow session (without_wait session old) new asked manner answer (told_first asked (victim_of session old)) step

@@ -14,6 +14,7 @@ use Rattle.step_model.specs.Own.{MarkedAt, progress_of, standing_at, last_at, fi
 use Rattle.step_model.specs.State.{Engine, Saved, is_open, saved_of}
 use Rattle.history_laws.specs.Guarded.{Guarded}
 use Rattle.history_laws.specs.Relies.{Relies, Steady}
+use Rattle.history_laws.specs.Quiet.{Quiet, IsHalted, EndsInWait}
 use Rattle.history_laws.specs.Sane.{Sane}
 
 -- the first write of a key is an insertion just where no row is committed there
@@ -37,10 +38,16 @@ pub record Tied (engine : Engine) (session : ℕ) (mine : List Exchange) : Type 
   pub steady : Steady engine.log mine
 
 -- the state is sane, the session's exchanges fit its log, and they are tied to it
-pub record Knows (engine : Engine) (session : ℕ) (steps : List Exchange) : Type 0 where
+pub record Accords (engine : Engine) (session : ℕ) (steps : List Exchange) : Type 0 where
   pub sane : Sane engine
   pub fits : Fits session [] engine.log (without_waits steps)
   pub tied : Tied engine session (without_waits steps)
+
+-- beside that no waits are a cycle; and only who was told to wait waits, or is marked as a victim
+pub record Knows (engine : Engine) (session : ℕ) (steps : List Exchange) : Type 0 where
+  pub accords : Accords engine session steps
+  pub quiet : Quiet engine
+  pub halted : IsHalted session engine → EndsInWait steps
 
 -- a session may ask an operation, as far as it can tell by its number and its own exchanges
 abbrev pub Ready : ℕ → List Exchange → Op → Manner → Type 0

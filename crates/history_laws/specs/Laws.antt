@@ -1,22 +1,26 @@
 -- Own: the laws of the engine's steps, for all states and all sessions. Each public function of this crate says
 -- one of them.
-use Rattle.std.specs.Prelude.{false, ◌≡◌, ◌≢◌, ◌≤◌, ℕ, List, [], ◌∷◌, ◌++◌, length}
+use Rattle.std.specs.Prelude.{false, ◌≡◌, ◌≢◌, ◌⊎◌, ◌≤◌, ℕ, List, [], ◌∷◌, ◌++◌, length, None, Some}
 use Rattle.std.specs.List.{AllByRecursion}
 use Rattle.value_types.specs.declared.table_name.TableName.{TableName}
 use Rattle.value_types.specs.declared.value.Value.{Value}
+use Rattle.step_model.specs.declared.edge.Edge.{Edge}
 use Rattle.step_model.specs.declared.manner.Manner.{Manner}
 use Rattle.step_model.specs.declared.op.Op.{Op}
 use Rattle.step_model.specs.declared.reply.Reply.{Reply}
-use Rattle.step_model.specs.declared.reply.Reply.TheVariants.{Missing}
+use Rattle.step_model.specs.declared.reply.Reply.TheVariants.{Missing, Victim}
 use Rattle.step_model.specs.declared.resource.Span.{Span}
 use Rattle.step_model.specs.Log.{Commit as Logged}
-use Rattle.step_model.specs.Exchange.{Exchange, CanReply}
+use Rattle.step_model.specs.Exchange.{Exchange, AsksLock, CanReply}
 use Rattle.step_model.specs.Own.{progress_of, none_open}
 use Rattle.step_model.specs.Fits.{Fits, all_numbers, is_wait, without_waits}
-use Rattle.step_model.specs.State.{Engine}
+use Rattle.step_model.specs.State.{Engine, StandingWait, victim_of}
+use Rattle.step_model.specs.Moves.{with_wait, without_wait}
+use Rattle.step_model.specs.Deadlocks.{IsEdge}
 use Rattle.step_model.specs.Step.{Step}
 use Rattle.step_model.specs.Runs.{MayStep, Asked, Run, opening, mine_of}
 use Rattle.history_laws.specs.Knows.{Knows, Ready}
+use Rattle.history_laws.specs.Quiet.{Quiet}
 use Rattle.history_laws.specs.Sure.{Sure, WritesTo}
 
 -- a step that the session may make
@@ -49,15 +53,30 @@ OtherStep = (old new : Engine) (session other : ℕ) (steps : List Exchange) (ex
 abbrev pub RunsFit : Type 0
 RunsFit = (asked : List Asked) (engine : Engine) → Run opening asked engine → (session : ℕ) → Fits session [] engine.log (without_waits (mine_of session asked))
 
+-- after every run no edges of standing waits are a cycle, and who is marked as a victim was in its cycle
+abbrev pub RunsQuiet : Type 0
+RunsQuiet = (asked : List Asked) (engine : Engine) → Run opening asked engine → Quiet engine
+
+-- a session was about to wait, and each of these edges stood
+abbrev pub Stood : ℕ → Engine → List Edge → Type 0
+Stood session old cycle = (wait : StandingWait) × AllByRecursion (IsEdge (with_wait session wait (without_wait session old))) cycle
+
+-- who is marked as a victim by a step is marked with a cycle whose edges stood, and so is the cycle that is told
+abbrev pub MarksStand : Type 0
+MarksStand = (old new : Engine) (session : ℕ) (exchange : Exchange) → Step old session exchange.op exchange.manner exchange.reply new
+    → ((who : ℕ) (cycle : List Edge) → victim_of who new ≡ Some cycle → (victim_of who old ≡ Some cycle) ⊎ Stood session old cycle)
+    × ((cycle : List Edge) → exchange.reply ≡ Victim cycle → (victim_of session old ≡ Some cycle) ⊎ Stood session old cycle)
+
 -- from a moment on at which the session had no transaction open, its exchanges fit what the log has grown by
 abbrev pub SinceFits : Type 0
 SinceFits = (begin log : List Logged) (session : ℕ) (before mine : List Exchange) → (later : List Logged) × (log ≡ begin ++ later)
     → Fits session [] begin before → Fits session [] log (before ++ mine) → progress_of before ≡ none_open
     → AllByRecursion (λ number. length begin ≤ number) (all_numbers mine) → Fits session begin log mine
 
--- a step that does not tell to wait gives a reply that may come to its operation through a port
+-- A step that does not tell to wait gives a reply that may come to its operation through a port, where no mark as
+-- a victim meets an operation that asks for no lock: at a port, which asks again what has to wait, none does.
 abbrev pub StepReplies : Type 0
-StepReplies = (old new : Engine) (session : ℕ) (exchange : Exchange) → Step old session exchange.op exchange.manner exchange.reply new
+StepReplies = (old new : Engine) (session : ℕ) (exchange : Exchange) → (victim_of session old ≡ None) ⊎ AsksLock exchange.op → Step old session exchange.op exchange.manner exchange.reply new
     → is_wait exchange.reply ≡ false → CanReply exchange.op exchange.reply
 
 -- where a row is sure, a write of it is not answered by Missing

@@ -6,7 +6,7 @@
 //! ask nothing of their caller; only the definitions that they cite say what they mean.
 #![tactic(auto)]
 
-ghost use Rattle.history_laws.specs.Laws.{OpeningKnows, StoryGrows, OwnStep, OtherStep, RunsFit, SinceFits, StepReplies, SureStays};
+ghost use Rattle.history_laws.specs.Laws.{OpeningKnows, StoryGrows, OwnStep, OtherStep, RunsFit, RunsQuiet, MarksStand, SinceFits, StepReplies, SureStays};
 
 /// Before any step, every session is known with no exchanges.
 pub fn law_opening()
@@ -32,6 +32,16 @@ pub fn law_other_step()
 /// In every run of any sessions, each session's exchanges fit the one log.
 pub fn law_runs()
     ensures { RunsFit }
+{}
+
+/// After every run no edges of standing waits are a cycle, and who is marked as a victim was in its cycle.
+pub fn law_waits()
+    ensures { RunsQuiet }
+{}
+
+/// Who is marked as a victim by a step is marked with a cycle whose edges stood, and so is the cycle that is told.
+pub fn law_marks()
+    ensures { MarksStand }
 {}
 
 /// From a moment on at which the session had no transaction open, its exchanges fit what the log has grown by.

@@ -1,12 +1,12 @@
 -- Worked rows: scripts of two sessions, with the replies that the definitions give to them.
-use Rattle.std.proofs.Common.{ℕ, List, [], ◌∷◌, None, refl, arith, pos}
+use Rattle.std.proofs.Common.{ℕ, List, [], ◌∷◌, None, Some, refl, arith, pos}
 use Rattle.lock_modes.specs.declared.KeyPart.TheVariants.{S}
-use Rattle.lock_modes.specs.Modes.{exclusive, shared}
+use Rattle.lock_modes.specs.Modes.{exclusive, shared, range_i_n}
 use Rattle.value_types.specs.declared.table_name.TableName.{TableName}
 use Rattle.value_types.specs.declared.value.Value.{Value}
 use Rattle.value_types.specs.declared.value.Value.TheVariants.{Whole}
 use Rattle.step_model.specs.declared.manner.Manner.{Manner}
-use Rattle.step_model.specs.declared.manner.Patience.TheVariants.{Refuse, Forever}
+use Rattle.step_model.specs.declared.manner.Patience.TheVariants.{Refuse}
 use Rattle.step_model.specs.declared.range.Start.TheVariants.{First, Past}
 use Rattle.step_model.specs.declared.range.Stop.TheVariants.{Last}
 use Rattle.step_model.specs.declared.op.Hold.TheVariants.{Row as RowAlone, Range}
@@ -14,29 +14,27 @@ use Rattle.step_model.specs.declared.op.Op.{Op}
 use Rattle.step_model.specs.declared.op.Op.TheVariants.{Begin, Fetch, Insert, Mark, BackTo, Commit}
 use Rattle.step_model.specs.declared.reply.Reply.{Reply}
 use Rattle.step_model.specs.declared.reply.Reply.TheVariants.{Began, Row, End, Done, Marked, Ended, Wait, TimedOut}
-use Rattle.step_model.specs.declared.resource.Place.TheVariants.{At}
-use Rattle.step_model.specs.Claims.{claim_of}
+use Rattle.step_model.specs.declared.resource.Place.TheVariants.{At, End as EndOfTable}
+use Rattle.step_model.specs.declared.resource.Span.TheVariants.{Transaction as ToEnd}
+use Rattle.step_model.specs.Claims.{Claim, claim_of}
 use Rattle.step_model.specs.Exchange.{IsSession, IsPriority}
 use Rattle.step_model.specs.Moves.{without_wait}
 use Rattle.step_model.specs.Runs.{Run, Asked, opening}
 use Rattle.step_model.specs.State.{Engine}
-use Rattle.step_model.proofs.Scripts.{passes, waits, times_out, then_does}
+use Rattle.step_model.proofs.Scripts.{passes, waits, times_out, then_does, then_waits, patient}
 
 -- ---- range lock: a range keeps a new key out, but not its own session's
 
-abbrev t : TableName
+abbrev pub t : TableName
 t = record { object = 116 ∷ []; part = 0 }
 
-abbrev k : ℕ → List Value
+abbrev pub k : ℕ → List Value
 k n = Whole (pos n) ∷ []
 
-abbrev row : ℕ → ℕ → List Value
+abbrev pub row : ℕ → ℕ → List Value
 row n m = Whole (pos n) ∷ Whole (pos m) ∷ []
 
-abbrev patient : Manner
-patient = record { patience = Forever; priority = pos 0 }
-
-abbrev does : ℕ → Op → Reply → Asked
+abbrev pub does : ℕ → Op → Reply → Asked
 does session op reply = record { session = session; exchange = record { op = op; manner = patient; reply = reply } }
 
 abbrev range_lock : List Asked
@@ -51,13 +49,13 @@ range_lock =
     ∷ does 2 Commit (Ended 1)
     ∷ []
 
-first_session : IsSession 1
+pub first_session : IsSession 1
 first_session = (omega arith, omega arith)
 
-second_session : IsSession 2
+pub second_session : IsSession 2
 second_session = (omega arith, omega arith)
 
-priority : IsPriority (pos 0)
+pub priority : IsPriority (pos 0)
 priority = (omega arith, omega arith)
 
 abbrev e1 : Engine
@@ -69,8 +67,12 @@ e2 = then_does 2 Begin e1
 abbrev e3 : Engine
 e3 = then_does 1 (Fetch t First Last Range S) e2
 
+-- what the second session asks there
+abbrev e3_claim : Claim
+e3_claim = record { on = record { table = t; place = EndOfTable }; pair = range_i_n; kept = None }
+
 abbrev e4 : Engine
-e4 = without_wait 2 e3
+e4 = then_waits 2 (Insert t (k 5) (row 5 50)) e3
 
 abbrev e5 : Engine
 e5 = then_does 1 (Insert t (k 3) (row 3 30)) e4
@@ -100,7 +102,7 @@ range_lock_runs = (
       (
         e4,
         (second_session, (refl, priority)),
-        (waits 2 1 (claim_of (without_wait 2 e3) (Insert t (k 5) (row 5 50))) (without_wait 2 e3) refl, refl),
+        (waits 2 1 e3_claim (pos 0) (without_wait 2 e3) refl refl refl),
         (
           e5,
           (first_session, (refl, priority)),
@@ -159,8 +161,11 @@ m6 = then_does 1 Mark m5
 abbrev m7 : Engine
 m7 = then_does 1 (BackTo 1) m6
 
+abbrev m7_claim : Claim
+m7_claim = record { on = record { table = t; place = At (k 2) }; pair = exclusive; kept = Some ToEnd }
+
 abbrev m8 : Engine
-m8 = without_wait 2 m7
+m8 = then_waits 2 (Insert t (k 2) (row 2 21)) m7
 
 abbrev m9 : Engine
 m9 = then_does 1 Commit m8
@@ -203,7 +208,7 @@ savepoints_runs = (
               (
                 m8,
                 (second_session, (refl, priority)),
-                (waits 2 1 (claim_of (without_wait 2 m7) (Insert t (k 2) (row 2 21))) (without_wait 2 m7) refl, refl),
+                (waits 2 1 m7_claim (pos 0) (without_wait 2 m7) refl refl refl),
                 (
                   m9,
                   (first_session, (refl, priority)),

@@ -8,7 +8,7 @@ use Rattle.step_model.specs.declared.manner.Manner.{Manner}
 use Rattle.step_model.specs.declared.op.Op.{Op}
 use Rattle.step_model.specs.declared.op.Op.TheVariants.{Begin, Fetch, Insert, Replace, Erase, Mark, BackTo, Relax, Commit, Rollback}
 use Rattle.step_model.specs.declared.reply.Reply.{Reply}
-use Rattle.step_model.specs.declared.reply.Reply.TheVariants.{Began, Row, Gone, End, Done, Exists, Missing, Marked, Ended, TimedOut, Memory}
+use Rattle.step_model.specs.declared.reply.Reply.TheVariants.{Began, Row, Gone, End, Done, Exists, Missing, Marked, Ended, TimedOut, Victim, Memory}
 use Rattle.step_model.specs.Database.{is_within}
 
 -- an operation, the manner in which it was asked, and the reply
@@ -74,6 +74,7 @@ AsksLock op = ⊥
 abbrev pub CanReply : Op → Reply → Type 0
 CanReply op Memory = MayLackMemory op
 CanReply op (TimedOut holder held asked on) = AsksLock op
+CanReply op (Victim cycle) = AsksLock op
 CanReply Begin Began = Unit {0}
 CanReply (Fetch table start stop hold part) (Row key row at) = IsTrue (is_within start stop key)
 CanReply (Fetch table start stop hold part) (Gone key at) = IsTrue (is_within start stop key)

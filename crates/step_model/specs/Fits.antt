@@ -17,13 +17,14 @@ use Rattle.step_model.specs.declared.op.Hold.TheVariants.{Range, Row as RowAlone
 use Rattle.step_model.specs.declared.op.Op.{Op}
 use Rattle.step_model.specs.declared.op.Op.TheVariants.{Fetch, Insert, Replace, Erase, Relax, Commit}
 use Rattle.step_model.specs.declared.reply.Reply.{Reply}
-use Rattle.step_model.specs.declared.reply.Reply.TheVariants.{Row, Gone, End, Done, Exists, Ended, Wait, TimedOut}
+use Rattle.step_model.specs.declared.reply.Reply.TheVariants.{Row, Gone, End, Done, Exists, Ended, Wait, TimedOut, Victim}
 use Rattle.step_model.specs.Database.{Database, First, allows}
 use Rattle.step_model.specs.Log.{Commit as Logged, State, state_at}
 use Rattle.step_model.specs.Exchange.{Exchange}
 use Rattle.step_model.specs.Own.{Progress, progress_of, progress_after, none_open, change_of}
 use Rattle.step_model.specs.Net.{Net}
 use Rattle.step_model.specs.Sure.{SameKey}
+use Rattle.step_model.specs.Cycles.{IsCycle, is_waiter}
 
 -- ---- a step among a session's exchanges
 
@@ -185,9 +186,11 @@ commits_once session begin log mine =
 
 -- ---- refusals
 
--- who was timed out would not wait, and another session had there what does not agree with what was asked
+-- who was timed out would not wait, and another session had there what does not agree with what was asked; who was
+-- a victim is told a cycle in which it waits
 abbrev pub IsCaused : ℕ → Patience → Reply → Type 0
 IsCaused session patience (TimedOut holder held asked on) = (holder ≢ session) × (pairs_agree held asked ≡ false) × (patience ≡ Refuse)
+IsCaused session patience (Victim cycle) = IsCycle cycle × IsTrue (is_waiter session cycle)
 IsCaused session patience reply = Unit {0}
 
 -- each refusal has its cause

@@ -4,6 +4,7 @@
 pub mod Database  -- keys, rows, changes, and the first row of a range
 pub mod Log  -- commits, and the database after them
 pub mod Exchange  -- an operation with its reply, and which may come
+pub mod Cycles  -- IsCycle: edges of sessions that wait for one another in a circle
 pub mod Own  -- what a transaction has changed, and where its session stands
 pub mod Net  -- what a transaction's changes come to
 pub mod Sure  -- where a row is sure
@@ -17,5 +18,7 @@ pub mod Entries  -- what is kept of the keys
 pub mod State  -- the engine's state
 pub mod Moves  -- what a step is made of
 pub mod Claims  -- what an operation asks to lock, and who stands in the way
+pub mod Victims  -- IsVictim: who of a cycle falls
+pub mod Deadlocks  -- the edges of standing waits, and how victims are chosen
 pub mod Step  -- one step
 pub mod Runs  -- steps one after another

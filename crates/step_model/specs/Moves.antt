@@ -4,10 +4,11 @@ use Rattle.std.specs.List.{list_any}
 use Rattle.value_types.specs.declared.table_name.TableName.{TableName}
 use Rattle.value_types.specs.declared.value.Value.{Value}
 use Rattle.step_model.specs.declared.change.Change.{Change}
+use Rattle.step_model.specs.declared.edge.Edge.{Edge}
 use Rattle.step_model.specs.Log.{Commit as LogEntry}
 use Rattle.step_model.specs.Locks.{Lock, is_x, is_whole}
 use Rattle.step_model.specs.Entries.{Entry, Pending, entry_at, put_entry, entry_on, pending_of, changes_by, change_at, seen_by}
-use Rattle.step_model.specs.State.{Engine, Saved, Transaction, has, saved_of, made_by}
+use Rattle.step_model.specs.State.{Engine, Saved, StandingWait, Transaction, has, saved_of, made_by}
 
 -- ---- transactions
 
@@ -24,6 +25,27 @@ drop_wait transaction = record transaction { wait = None }
 -- without the session's standing wait
 abbrev pub without_wait : ℕ → Engine → Engine
 without_wait session engine = with_session session drop_wait engine
+
+abbrev pub set_wait : StandingWait → Transaction → Transaction
+set_wait wait transaction = record transaction { wait = Some wait }
+
+-- where the session waits for this
+abbrev pub with_wait : ℕ → StandingWait → Engine → Engine
+with_wait session wait engine = with_session session (set_wait wait) engine
+
+abbrev pub mark_victim : List Edge → Transaction → Transaction
+mark_victim cycle transaction = record transaction { wait = None; victim = Some cycle }
+
+-- where the session waits no more, and is marked as the victim of a cycle
+abbrev pub after_fall : ℕ → List Edge → Engine → Engine
+after_fall session cycle engine = with_session session (mark_victim cycle) engine
+
+abbrev pub drop_victim : Transaction → Transaction
+drop_victim transaction = record transaction { victim = None }
+
+-- where the session is not marked as a victim
+abbrev pub without_victim : ℕ → Engine → Engine
+without_victim session engine = with_session session drop_victim engine
 
 -- with a new transaction of the session
 abbrev pub after_begin : ℕ → Engine → Engine

@@ -35,6 +35,10 @@ range_full = 49003
 abbrev pub lock_timeout : ℕ
 lock_timeout = 1222
 
+-- the error of the victim of sessions that wait for one another
+abbrev pub deadlock : ℕ
+deadlock = 1205
+
 -- how many keys of one range are looked at, at most
 abbrev pub range_limit : ℕ
 range_limit = 10000000
@@ -45,13 +49,14 @@ with_row keeps rows key row = if keeps (key, row) then rows ++ row ∷ [] else r
 
 -- What a fetch's reply makes of a range behind these rows, where `next` goes on past a key: Row adds its
 -- row, for which memory may be wanting; Gone adds none; End ends the range; a lock that stands in the way ends
--- it in an error.
+-- it in an error, and so does the fall as a victim.
 abbrev pub read_on : Keeps → (List Value → Rows → Dialog (Result Rows ℕ)) → Rows → Reply → Dialog (Result Rows ℕ)
 read_on keeps next rows (replies.Row key row at) = room λ enough. if enough then next key (with_row keeps rows key row) else over (Err no_memory)
 read_on keeps next rows (replies.Gone key at) = next key rows
 read_on keeps next rows (replies.End at) = over (Ok rows)
 read_on keeps next rows replies.Memory = over (Err no_memory)
 read_on keeps next rows (replies.TimedOut holder held asked on) = over (Err lock_timeout)
+read_on keeps next rows (replies.Victim cycle) = over (Err deadlock)
 read_on keeps next rows reply = never
 
 -- the fetch of a range to its table's end

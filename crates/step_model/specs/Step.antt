@@ -1,11 +1,12 @@
 -- Own: one step of the engine, as a relation by cases on plain lists, one case for each operation. A session asks
--- an operation; another session's lock stands in its way, and it is refused or told to wait; or it passes, and
--- what is asked is done. No wait is kept and no victim chosen. The code does in place what is said here of whole
--- lists.
+-- an operation; it is told first that it fell as a victim, if it did; another session's lock stands in its way, and
+-- it is refused, or told to wait, or falls; or it passes, and what is asked is done. The code does in place what is
+-- said here of whole lists.
 use Rattle.std.specs.Prelude.{◌≡◌, ℕ, ◌+◌, List, length, Option, None, Some, if◌then◌else◌}
 use Rattle.lock_modes.specs.declared.Pair.{Pair}
 use Rattle.value_types.specs.declared.table_name.TableName.{TableName}
 use Rattle.value_types.specs.declared.value.Value.{Value}
+use Rattle.step_model.specs.declared.edge.Edge.{Edge}
 use Rattle.step_model.specs.declared.manner.Manner.{Manner}
 use Rattle.step_model.specs.declared.manner.Patience.{Patience}
 use Rattle.step_model.specs.declared.manner.Patience.TheVariants.{Refuse, Forever}
@@ -13,14 +14,15 @@ use Rattle.step_model.specs.declared.range.Stop.{Stop}
 use Rattle.step_model.specs.declared.op.Op.{Op}
 use Rattle.step_model.specs.declared.op.Op.TheVariants.{Begin, Fetch, Insert, Replace, Erase, Mark, BackTo, Relax, Commit, Rollback}
 use Rattle.step_model.specs.declared.reply.Reply.{Reply}
-use Rattle.step_model.specs.declared.reply.Reply.TheVariants.{Began, Row, Gone, End, Done, Exists, Missing, Marked, Ended, Wait, TimedOut, Memory}
+use Rattle.step_model.specs.declared.reply.Reply.TheVariants.{Began, Row, Gone, End, Done, Exists, Missing, Marked, Ended, Wait, TimedOut, Victim, Memory}
 use Rattle.step_model.specs.declared.resource.Resource.{Resource}
 use Rattle.step_model.specs.Database.{includes}
 use Rattle.step_model.specs.Exchange.{MayLackMemory}
 use Rattle.step_model.specs.Entries.{Entry, entry_at, next_entry, seen_by, row_at}
-use Rattle.step_model.specs.State.{Engine, made_by}
-use Rattle.step_model.specs.Moves.{without_wait, after_begin, with_pending, with_entry, after_mark, after_back, after_relax, after_commit, after_rollback}
+use Rattle.step_model.specs.State.{Engine, made_by, victim_of}
+use Rattle.step_model.specs.Moves.{without_wait, without_victim, after_begin, with_pending, with_entry, after_mark, after_back, after_relax, after_commit, after_rollback}
 use Rattle.step_model.specs.Claims.{Claim, claim_of, write_claim, IsFoe, Passes, with_claim, new_locks, inherits}
+use Rattle.step_model.specs.Deadlocks.{wait_for, Queues, Falls}
 
 -- ---- fetches
 
@@ -87,27 +89,47 @@ Does mid session Rollback reply new = (reply ≡ Ended (length mid.log)) × (new
 
 -- ---- an operation that does not
 
--- who is patient is told the lowest session that stands in the way
-abbrev pub Waits : ℕ → Option Claim → Engine → Patience → ℕ → Type 0
-Waits session None mid patience holder = ⊥
-Waits session (Some claim) mid patience holder = (patience ≡ Forever) × ((held : Pair) × IsFoe session claim.on claim.pair mid holder held)
+-- who is patient waits, and is told the lowest session that stands in the way
+abbrev pub Waits : ℕ → Option Claim → Engine → Manner → ℕ → Engine → Type 0
+Waits session None mid manner holder new = ⊥
+Waits session (Some claim) mid manner holder new = (manner.patience ≡ Forever) × ((held : Pair) × IsFoe session claim.on claim.pair mid holder held)
+    × Queues session (wait_for claim manner.priority) mid new
+
+-- or falls at once, as the victim of a cycle that its wait would close
+abbrev pub FallsAt : ℕ → Option Claim → Engine → Manner → List Edge → Engine → Type 0
+FallsAt session None mid manner cycle new = ⊥
+FallsAt session (Some claim) mid manner cycle new = (manner.patience ≡ Forever) × Falls session (wait_for claim manner.priority) mid cycle new
 
 -- who isn't is told also what that has there, and what was asked
 abbrev pub TimesOut : ℕ → Option Claim → Engine → Patience → ℕ → Pair → Pair → Resource → Type 0
 TimesOut session None mid patience holder held asked on = ⊥
 TimesOut session (Some claim) mid patience holder held asked on = (patience ≡ Refuse) × (asked ≡ claim.pair) × (on ≡ claim.on) × IsFoe session claim.on claim.pair mid holder held
 
--- ---- a step
+-- ---- an operation
 
--- A step of a session that waits no more: want of memory and both refusals leave everything as it is; every
--- other reply is that of an operation that passes.
+-- An operation of a session that waits no more: want of memory and a time-out leave everything as it is; who waits
+-- or falls may have others fall; every other reply is that of an operation that passes.
 abbrev pub StepFrom : Engine → ℕ → Op → Manner → Reply → Engine → Type 0
 StepFrom mid session op manner Memory new = MayLackMemory op × (new ≡ mid)
 StepFrom mid session op manner (TimedOut holder held asked on) new = TimesOut session (claim_of mid op) mid manner.patience holder held asked on × (new ≡ mid)
-StepFrom mid session op manner (Wait holder) new = Waits session (claim_of mid op) mid manner.patience holder × (new ≡ mid)
+StepFrom mid session op manner (Wait holder) new = Waits session (claim_of mid op) mid manner holder new
+StepFrom mid session op manner (Victim cycle) new = FallsAt session (claim_of mid op) mid manner cycle new
 StepFrom mid session op manner reply new = Passes session (claim_of mid op) mid × Does mid session op reply new
+
+-- ---- a step
+
+-- the cycle of which a session that is marked as a victim has to be told first, whatever it asks; who rolls back is
+-- told nothing, and its mark goes with its transaction
+abbrev pub told_first : Op → Option (List Edge) → Option (List Edge)
+told_first Rollback victim = None
+told_first op victim = victim
+
+-- it hears that alone, and is marked no more; else its operation is answered
+abbrev pub Hears : Option (List Edge) → Engine → ℕ → Op → Manner → Reply → Engine → Type 0
+Hears (Some cycle) mid session op manner reply new = (reply ≡ Victim cycle) × (new ≡ without_victim session mid)
+Hears None mid session op manner reply new = StepFrom mid session op manner reply new
 
 -- From `old`, the engine may give this reply to the operation of a session, and go on to `new`. First the
 -- session's standing wait ends.
 abbrev pub Step : Engine → ℕ → Op → Manner → Reply → Engine → Type 0
-Step old session op manner reply new = StepFrom (without_wait session old) session op manner reply new
+Step old session op manner reply new = Hears (told_first op (victim_of session old)) (without_wait session old) session op manner reply new

@@ -2,6 +2,7 @@
 
 ghost use Rattle.std.specs.Prelude.{◌≡◌, IfOk};
 
+use crate::edge::Cycle;
 use crate::resource::Resource;
 use lock_modes::Pair;
 use std::alloc::Global;
@@ -51,7 +52,8 @@ pub enum Reply {
         /// The lowest session of which one stands in the way.
         holder: u32,
     },
-    /// A lock of another session stands in the way of one that does not wait.
+    /// A lock of another session stands in the way of one that does not wait. Nothing has changed but that a wait
+    /// of before has ended.
     TimedOut {
         /// The lowest session of which one stands in the way.
         holder: u32,
@@ -62,7 +64,12 @@ pub enum Reply {
         /// Where.
         on: Resource,
     },
-    /// Memory was wanting, and nothing has changed.
+    /// The session was the victim of a cycle of sessions that wait for one another, and waits no more.
+    Victim {
+        /// The cycle.
+        cycle: Cycle,
+    },
+    /// Memory was wanting, and nothing has changed but that the session waits no more.
     Memory,
 }
 
@@ -99,6 +106,9 @@ impl Reply {
                 held: *held,
                 asked: *asked,
                 on: on.copy(alloc)?,
+            },
+            Reply::Victim { cycle } => Reply::Victim {
+                cycle: cycle.copy(alloc)?,
             },
             Reply::Memory => Reply::Memory,
         })
