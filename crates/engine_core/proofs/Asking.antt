@@ -1,5 +1,5 @@
 -- What each asking does to a port over an engine of its own: where its session stands then, and where rows are sure.
-use Rattle.std.proofs.Common.{◌≡◌, inl, inr, ℕ, Bool, true, false, if◌then◌else◌, List, [], ◌∷◌, ◌++◌, map, Option, refl, sym, ap, ◌∙◌, subst}
+use Rattle.std.proofs.Common.{◌≡◌, inl, inr, ℕ, Bool, true, false, if◌then◌else◌, List, [], ◌∷◌, ◌++◌, map, Option, None, refl, sym, ap, ◌∙◌, subst}
 use Rattle.std.specs.Prelude.{nat_le}
 use Rattle.std.specs.List.{filter}
 use Rattle.std.proofs.lemmas.List.{map-append}
@@ -15,7 +15,7 @@ use Rattle.step_model.specs.Exchange.{Exchange, Standing, MayAsk, CanReply}
 use Rattle.step_model.specs.Own.{Progress, MarkedAt, progress_after, progress_of, standing_at, none_open}
 use Rattle.step_model.specs.Port.{TellsAll, GoesOn, AnswersSure, standing_after}
 use Rattle.step_model.specs.Runs.{MayStep, Run, opening, standing_of}
-use Rattle.step_model.specs.State.{Engine}
+use Rattle.step_model.specs.State.{Engine, victim_of}
 use Rattle.step_model.specs.Step.{Step}
 use Rattle.step_model.specs.Sure.{sure_after}
 use Rattle.history_laws.proofs.Replies.{step_can_reply}
@@ -23,7 +23,7 @@ use Rattle.history_laws.proofs.Splits.{progress_more}
 use Rattle.history_laws.proofs.SureRows.{keeps_sure}
 use Rattle.engine_core.specs.Solo.{Solo, IsSolo, asked_by, sure_in, is_refusal, solo_standing, solo_past}
 use Rattle.engine_core.proofs.Alone.{passes_alone}
-use Rattle.engine_core.proofs.Fitting.{longer, told_more, some_run, no_wait, run_alone, run_standing, run_missing}
+use Rattle.engine_core.proofs.Fitting.{longer, told_more, KnowsAlone, unmarked, some_run, no_wait, run_known, run_standing, run_missing}
 
 -- ---- where the session stands after a step
 
@@ -70,12 +70,18 @@ module _ (solo port : Solo) (exchange : Exchange) (is : solo ≡ port) (keeps : 
   one_longer : (exchanges : List Exchange) → Run opening (asked_by solo.session exchanges) solo.engine → Run opening (asked_by solo.session (exchanges ++ exchange ∷ [])) new
   one_longer exchanges run = longer solo.session exchanges solo.engine new exchange run may step
 
+  known : KnowsAlone solo.session solo.engine some.0
+  known = run_known solo.session some.0 solo.engine some.1
+
+  clear : victim_of solo.session solo.engine ≡ None
+  clear = unmarked solo.session solo.engine some.0 known
+
   -- nobody stands in its way
   pub step_passes : is_refusal exchange.reply ≡ false
-  step_passes = passes_alone solo.engine new solo.session exchange.op exchange.manner exchange.reply (run_alone solo.session some.0 solo.engine some.1) step
+  step_passes = passes_alone solo.engine new solo.session exchange.op exchange.manner exchange.reply known.alone clear step
 
   pub step_replies : CanReply exchange.op exchange.reply
-  step_replies = step_can_reply solo.engine new solo.session exchange.op exchange.manner exchange.reply step (no_wait exchange.reply step_passes)
+  step_replies = step_can_reply solo.engine new solo.session exchange.op exchange.manner exchange.reply (inl clear) step (no_wait exchange.reply step_passes)
 
   pub step_answers : AnswersSure (sure_in port.session port.engine) exchange.op exchange.reply
   step_answers =

@@ -12,7 +12,7 @@ use Rattle.engine_core.specs.WellFormed.{IsIdle, IsReached}
 use Rattle.engine_core.proofs.Sessions.{active_found}
 
 abbrev pub fresh : ℕ → Opened
-fresh session = record { session = session; made = 0; marks = [] }
+fresh session = record { session = session; made = 0; marks = []; wait = None; victim = None }
 
 module _ (rows : Rows) (locks : List SessionLock) (ts : List Opened) (session : ℕ) (closed : is_active session ts ≡ false) where
   pub idle_begun : IsIdle locks ts → IsIdle locks (fresh session ∷ ts)

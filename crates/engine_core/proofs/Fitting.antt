@@ -1,9 +1,11 @@
 -- Runs of one session alone: one step more, and what the exchanges say of the log that they lead to.
-use Rattle.std.proofs.Common.{◌≡◌, ℕ, false, List, [], ◌∷◌, ◌++◌, All, Option, None, Some, IfSome, refl, sym, ap, ◌∙◌, subst, append-nil, append_assoc}
+use Rattle.std.proofs.Common.{◌≡◌, inr, ℕ, true, false, List, [], ◌∷◌, ◌++◌, All, Option, None, Some, IfSome, refl, sym, ap, ◌∙◌, subst, append-nil, append_assoc}
+use Rattle.std.specs.List.{AllByRecursion}
 use Rattle.std.proofs.lemmas.List.Elements.{All-from_recursion}
 use Rattle.value_types.specs.declared.table_name.TableName.{TableName}
 use Rattle.value_types.specs.declared.value.Value.{Value}
 use Rattle.step_model.specs.declared.manner.Manner.{Manner}
+use Rattle.step_model.specs.declared.edge.Edge.{Edge}
 use Rattle.step_model.specs.declared.op.Op.{Op}
 use Rattle.step_model.specs.declared.reply.Reply.{Reply}
 use Rattle.step_model.specs.declared.reply.Reply.TheVariants.{Missing, Wait}
@@ -14,12 +16,11 @@ use Rattle.step_model.specs.Log.{Commit}
 use Rattle.step_model.specs.Own.{progress_of, standing_at}
 use Rattle.step_model.specs.Port.{TellsAll}
 use Rattle.step_model.specs.Runs.{Asked, MayStep, Run, opening, standing_of}
-use Rattle.step_model.specs.State.{Engine}
+use Rattle.step_model.specs.State.{Engine, victim_of}
 use Rattle.step_model.specs.Step.{Step}
 use Rattle.history_laws.specs.Knows.{Knows}
 use Rattle.history_laws.specs.Sure.{Sure, WritesTo}
-use Rattle.history_laws.proofs.Laws.{law_opening}
-use Rattle.history_laws.proofs.OwnOps.{law_own_step}
+use Rattle.history_laws.proofs.Laws.{knows_opening, knows_own}
 use Rattle.history_laws.proofs.Since.{standing_known}
 use Rattle.history_laws.proofs.SureRows.{sure_not_missing}
 use Rattle.engine_core.specs.Solo.{IsRunOf, asked_by, is_refusal}
@@ -68,52 +69,75 @@ pub no_wait : (reply : Reply) → is_refusal reply ≡ false → is_wait reply �
 no_wait (Wait holder) passes = cc
 no_wait reply passes = refl
 
+-- no exchange was told to wait
+abbrev NoneWaits : List Exchange → Type 0
+NoneWaits steps = AllByRecursion (λ exchange. is_wait exchange.reply ≡ false) steps
+
+none_last : (before : List Exchange) (last : Exchange) → NoneWaits (before ++ last ∷ []) → is_wait last.reply ≡ false
+none_last [] last none = none.0
+none_last (x ∷ before) last none = none_last before last none.1
+
+none_more : (before : List Exchange) (last : Exchange) → NoneWaits before → is_wait last.reply ≡ false → NoneWaits (before ++ last ∷ [])
+none_more [] last none passes = (passes, tt)
+none_more (x ∷ before) last none passes = (none.0, none_more before last none.1 passes)
+
+without_none : (steps : List Exchange) → NoneWaits steps → without_waits steps ≡ steps
+without_none [] none = refl
+without_none (x ∷ xs) none = rw none.0 (ap (λ (later : List Exchange). x ∷ later) (without_none xs none.1))
+
+-- what is known of an engine in which one session alone has stepped, and was never told to wait
+pub record KnowsAlone (session : ℕ) (engine : Engine) (steps : List Exchange) : Type 0 where
+  pub knows : Knows engine session steps
+  pub alone : IsAlone session engine
+  pub none : NoneWaits steps
+
+-- so it is not marked as a victim
+pub unmarked : (session : ℕ) (engine : Engine) (steps : List Exchange) → KnowsAlone session engine steps → victim_of session engine ≡ None
+unmarked session engine steps known = by_mark (victim_of session engine) refl
+  where
+    by_mark : (o : Option (List Edge)) → victim_of session engine ≡ o → o ≡ None
+    by_mark None is = refl
+    by_mark (Some cycle) is =
+        let ends = known.knows.halted (inr (rw is refl)) in
+        absurd (let h : true ≡ false = sym ends.told ∙ none_last ends.before ends.last (subst NoneWaits ends.split known.none) in cc)
+
 module _ (session : ℕ) where
-  alone_run : (old new : Engine) (exchanges : List Exchange) → Run old (asked_by session exchanges) new → IsAlone session old → IsAlone session new
-  alone_run old new [] run alone = rw run alone
-  alone_run old new (x ∷ xs) run alone = alone_run run.0 new xs run.3 (alone_step session old run.0 x.op x.manner x.reply run.1.1 run.2 alone)
-
-  none_waits : (old new : Engine) (exchanges : List Exchange) → Run old (asked_by session exchanges) new → IsAlone session old → without_waits exchanges ≡ exchanges
-  none_waits old new [] run alone = refl
-  none_waits old new (x ∷ xs) run alone =
-      rw (no_wait x.reply (passes_alone old run.0 session x.op x.manner x.reply alone run.2))
-      (ap (λ (later : List Exchange). x ∷ later) (none_waits run.0 new xs run.3 (alone_step session old run.0 x.op x.manner x.reply run.1.1 run.2 alone)))
-
-  knows_more : (old new : Engine) (before exchanges : List Exchange) → Knows old session before → Run old (asked_by session exchanges) new → Knows new session (before ++ exchanges)
-  knows_more old new before [] knows run = rw (run, append-nil before) knows
-  knows_more old new before (x ∷ xs) knows run =
-      subst (Knows new session) (append_assoc before (x ∷ []) xs)
-      (knows_more run.0 new (before ++ x ∷ []) xs (law_own_step old run.0 session before x.op x.manner x.reply knows run.1 run.2) run.3)
+  knows_more : (old new : Engine) (before exchanges : List Exchange) → KnowsAlone session old before → Run old (asked_by session exchanges) new → KnowsAlone session new (before ++ exchanges)
+  knows_more old new before [] known run = rw (run, append-nil before) known
+  knows_more old new before (x ∷ xs) known run =
+      subst (KnowsAlone session new) (append_assoc before (x ∷ []) xs)
+      (knows_more run.0 new (before ++ x ∷ []) xs (record {
+        knows = knows_own old run.0 session before x.op x.manner x.reply known.knows run.1 run.2;
+        alone = alone_step session old run.0 x.op x.manner x.reply run.1.1 run.2 known.alone;
+        none = none_more before x known.none (no_wait x.reply (passes_alone old run.0 session x.op x.manner x.reply known.alone (unmarked session old before known) run.2));
+      }) run.3)
 
 -- ---- what the exchanges of a run say of its log
 
 module _ (session : ℕ) (exchanges : List Exchange) (engine : Engine) (run : Run opening (asked_by session exchanges) engine) where
-  run_knows : Knows engine session exchanges
-  run_knows = knows_more session opening engine [] exchanges (law_opening session) run
-
-  pub run_alone : IsAlone session engine
-  run_alone = alone_run session opening engine exchanges run (alone_opening session)
+  pub run_known : KnowsAlone session engine exchanges
+  run_known = knows_more session opening engine [] exchanges (record { knows = knows_opening session; alone = alone_opening session; none = tt }) run
 
   run_waits : without_waits exchanges ≡ exchanges
-  run_waits = none_waits session opening engine exchanges run (alone_opening session)
+  run_waits = without_none exchanges run_known.none
 
   -- they fit it
   pub run_fits : Fits session [] engine.log exchanges
-  run_fits = subst (Fits session [] engine.log) run_waits run_knows.fits
+  run_fits = subst (Fits session [] engine.log) run_waits run_known.knows.accords.fits
 
   -- each commit of the log is the session's
   pub run_own : All (λ (commit : Commit). commit.session ≡ session) engine.log
-  run_own = All-from_recursion (λ (commit : Commit). commit.session ≡ session) engine.log run_alone.log
+  run_own = All-from_recursion (λ (commit : Commit). commit.session ≡ session) engine.log run_known.alone.log
 
   -- where the session stands can be read off them
   pub run_standing : standing_of session engine ≡ standing_at (progress_of exchanges)
-  run_standing = standing_known engine session exchanges run_knows ∙ ap (λ (xs : List Exchange). standing_at (progress_of xs)) run_waits
+  run_standing = standing_known engine session exchanges run_known.knows.accords ∙ ap (λ (xs : List Exchange). standing_at (progress_of xs)) run_waits
 
   -- a row that they have made sure is not missing
   pub run_missing : (new : Engine) (op : Op) (manner : Manner) → Step engine session op manner Missing new → (span : Span) (t : TableName) (x : List Value)
       → WritesTo op t x → Sure exchanges span t x → ⊥
   run_missing new op manner step span t x writes sure =
-      sure_not_missing engine new session exchanges op manner run_knows step span t x writes (subst (λ (xs : List Exchange). Sure xs span t x) (sym run_waits) sure)
+      sure_not_missing engine new session exchanges op manner run_known.knows.accords step span t x writes (subst (λ (xs : List Exchange). Sure xs span t x) (sym run_waits) sure)
 
 -- so it is with what a port tells; where it tells nothing, there is still a run of its session
 pub told_fits : (session : ℕ) (told : Option (List Exchange)) (engine : Engine) → IsRunOf session told engine → IfSome told (λ exchanges. Fits session [] engine.log exchanges)

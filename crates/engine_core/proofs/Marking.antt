@@ -93,7 +93,7 @@ module _ (rows : Rows) (locks : List SessionLock) (session mark : ℕ) (pending 
       by_test true here rest =
           let same : session ≡ x.session = sym (eqb-true x.session session here) in
           let more = subst (λ (n : ℕ). map (saved_at n rows) (x.marks ++ mark ∷ []) ≡ map (saved_at n rows) x.marks ++ record { mark = mark; pending = pending } ∷ []) same (saved_more x.marks) in
-          λ i. record { session = x.session; made = mark; marks = more i; locks = of_session x.session locks; wait = None; victim = None } ∷ rest i
+          λ i. record { session = x.session; made = mark; marks = more i; locks = of_session x.session locks; wait = x.wait; victim = x.victim } ∷ rest i
       by_test false here rest = ap (λ (us : List Transaction). shown_transaction rows locks x ∷ us) rest
 
 -- the model's next mark

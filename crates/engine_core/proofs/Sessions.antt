@@ -1,11 +1,11 @@
 -- The open transactions: the one of a session, a change of it, and its end.
-use Rattle.std.proofs.Common.{◌≡◌, ℕ, zero, suc, ◌+◌, ◌<◌, ◌≤◌, ◌==◌, ◌||◌, not, Bool, true, false, if◌then◌else◌, List, [], ◌∷◌, Option, None, Some, is_some, take, length, get_or, set, filter, refl, sym, ap, ◌∙◌, eqb-true, eq-eqb, arith}
+use Rattle.std.proofs.Common.{◌≡◌, ℕ, zero, suc, ◌+◌, ◌<◌, ◌≤◌, ◌==◌, ◌||◌, not, Bool, true, false, if◌then◌else◌, List, [], ◌∷◌, Option, None, Some, is_some, take, length, get_or, set, filter, refl, sym, ap, subst, ◌∙◌, eqb-true, eq-eqb, arith}
 use Rattle.std.specs.List.{AllByRecursion}
 use Rattle.std.specs.Prelude.{Vec}
 use Rattle.std.specs.Vec.{with_items}
 use Rattle.std.proofs.lemmas.List.{get_or_default, with_items_is, length-map}
 use Rattle.history_laws.proofs.Basics.{neither}
-use Rattle.engine_core.specs.Transactions.{Opened, opened_in, is_active, made_of, made_in, marks_of, marks_in, with_opened, without_opened, AreDistinct, AreNumbered}
+use Rattle.engine_core.specs.Transactions.{Opened, opened_in, is_active, made_of, made_in, marks_of, marks_in, mark_of, mark_in, with_opened, drop_victim, without_opened, AreDistinct, AreNumbered}
 
 -- ---- the transaction of a session
 
@@ -71,11 +71,36 @@ module _ (session : ℕ) (now ts : List Opened) (i : ℕ) (d : Opened) (same : n
   pub made_reached : (get_or now i d).made ≡ made_in session ts
   made_reached = made_at session ts i (get_or now i d) within read here (rw same at none)
 
+  pub mark_reached : (get_or now i d).victim ≡ mark_in session ts
+  mark_reached = ap mark_of (sym (opened_at session ts i (get_or now i d) within read (eq-eqb _ _ here) (rw same at none)))
+
   pub changed_reached : (f : Opened → Opened) (t : Opened) → AreDistinct ts → t ≡ f (get_or now i d) → set now i t ≡ with_opened session f ts
   changed_reached f t distinct is =
       ap (λ (us : List Opened). set us i t) same
       ∙ ap (set ts i) is
       ∙ changed_at session f ts i (get_or now i d) distinct within read (eq-eqb _ _ here) (rw same at none)
+
+-- a walk that reaches no transaction of the session leaves all as it is
+none_opened : (session : ℕ) (ts : List Opened) (i : ℕ) → length ts ≤ i → is_active session (take i ts) ≡ false → is_active session ts ≡ false
+none_opened session ts i past none = sym (active_found session ts) ∙ ap is_some (opened_none session ts i past none)
+
+pub changed_none : (session : ℕ) (f : Opened → Opened) (now ts : List Opened) (i : ℕ) → now ≡ ts → length ts ≤ i → is_active session (take i now) ≡ false → now ≡ with_opened session f ts
+changed_none session f now ts i same past none =
+    same ∙ sym (unchanged session f ts (none_opened session ts i past (subst (λ (us : List Opened). is_active session (take i us) ≡ false) same none)))
+
+pub mark_none : (session : ℕ) (ts : List Opened) (i : ℕ) → length ts ≤ i → is_active session (take i ts) ≡ false → None ≡ mark_in session ts
+mark_none session ts i past none = ap mark_of (sym (opened_none session ts i past none))
+
+-- without a mark there is none to take
+pub unmarked_same : (session : ℕ) (ts : List Opened) → AreDistinct ts → mark_in session ts ≡ None → with_opened session drop_victim ts ≡ ts
+unmarked_same session [] distinct none = refl
+unmarked_same session (x ∷ ts) distinct none = by_test (x.session == session) refl none (unmarked_same session ts distinct.1)
+  where
+    by_test : (b : Bool) → (x.session == session) ≡ b → mark_of (if b then Some x else opened_in session ts) ≡ None → (mark_in session ts ≡ None → with_opened session drop_victim ts ≡ ts) → (if b then drop_victim x else x) ∷ with_opened session drop_victim ts ≡ x ∷ ts
+    by_test true is unmarked rest =
+        let rest : with_opened session drop_victim ts ≡ ts = unchanged session drop_victim ts (rw (eqb-true x.session session is) at distinct.0) in
+        λ i. record x { victim = sym unmarked i } ∷ rest i
+    by_test false is unmarked rest = ap (λ (us : List Opened). x ∷ us) (rest unmarked)
 
 -- ---- what is open after a change
 

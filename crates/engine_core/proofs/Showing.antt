@@ -5,13 +5,13 @@ use Rattle.lock_modes.specs.declared.Pair.{Pair}
 use Rattle.step_model.specs.declared.resource.Resource.{Resource}
 use Rattle.step_model.specs.Log.{Commit as LogEntry}
 use Rattle.step_model.specs.Locks.{Lock, pair_on}
-use Rattle.step_model.specs.State.{Engine, Saved, Transaction, transaction_in, locks_in, locks_of, saved_in, saved_of, made_in as made_inside, made_by, is_open}
-use Rattle.step_model.specs.Moves.{with_session_in, with_session, without_wait, drop_wait, with_locks}
+use Rattle.step_model.specs.State.{Engine, Saved, Transaction, transaction_in, locks_in, locks_of, saved_in, saved_of, made_in as made_inside, made_by, victim_in, victim_of, is_open}
+use Rattle.step_model.specs.Moves.{with_session_in, with_session, with_locks}
 use Rattle.step_model.specs.Claims.{NoFoe, IsFoe}
 use Rattle.history_laws.proofs.Basics.{find_passes}
 use Rattle.row_store.specs.Rows.{Rows, entries_of}
 use Rattle.lock_table.specs.Table.{SessionLock, of_session, ChangesLocks, KeepsLocks, NoFoeIn, IsFoeIn}
-use Rattle.engine_core.specs.Transactions.{Opened, opened_in, is_active, made_of, made_in, marks_of, marks_in}
+use Rattle.engine_core.specs.Transactions.{Opened, opened_in, is_active, made_of, made_in, marks_of, marks_in, mark_of, mark_in}
 use Rattle.engine_core.specs.Shown.{shown, shown_transaction, saved_at}
 use Rattle.engine_core.specs.WellFormed.{IsIdle}
 use Rattle.engine_core.proofs.Sessions.{active_found}
@@ -62,24 +62,19 @@ module _ (rows : Rows) (locks : List SessionLock) where
       by_found None is = refl
       by_found (Some t) is = ap (λ (n : ℕ). map (saved_at n rows) t.marks) (session_found who ts t is)
 
+  pub victim_shown : (ts : List Opened) (log : List LogEntry) (who : ℕ) → victim_of who (shown rows locks ts log) ≡ mark_in who ts
+  victim_shown ts log who = ap victim_in (found_shown who ts) ∙ by_found (opened_in who ts)
+    where
+      by_found : (o : Option Opened) → victim_in (option_map (shown_transaction rows locks) o) ≡ mark_of o
+      by_found None = refl
+      by_found (Some t) = refl
+
   numbers_all : (who : ℕ) (marks : List ℕ) → map (λ (s : Saved). s.mark) (map (saved_at who rows) marks) ≡ marks
   numbers_all who [] = refl
   numbers_all who (m ∷ marks) = ap (λ (ms : List ℕ). m ∷ ms) (numbers_all who marks)
 
   pub numbers_shown : (ts : List Opened) (log : List LogEntry) (who : ℕ) → map (λ (s : Saved). s.mark) (saved_of who (shown rows locks ts log)) ≡ marks_in who ts
   numbers_shown ts log who = ap (map (λ (s : Saved). s.mark)) (saved_shown ts log who) ∙ numbers_all who (marks_in who ts)
-
-  no_waits : (session : ℕ) (ts : List Opened) → with_session_in session drop_wait (map (shown_transaction rows locks) ts) ≡ map (shown_transaction rows locks) ts
-  no_waits session [] = refl
-  no_waits session (x ∷ ts) = rw (no_waits session ts) (by_test (x.session == session))
-    where
-      by_test : (b : Bool) → (if b then drop_wait (shown_transaction rows locks x) else shown_transaction rows locks x) ∷ map (shown_transaction rows locks) ts ≡ shown_transaction rows locks x ∷ map (shown_transaction rows locks) ts
-      by_test true = refl
-      by_test false = refl
-
-  -- no wait stands
-  pub no_wait_shown : (session : ℕ) (ts : List Opened) (log : List LogEntry) → without_wait session (shown rows locks ts log) ≡ shown rows locks ts log
-  no_wait_shown session ts log = ap (λ (a : List Transaction). record { entries = entries_of rows; active = a; log = log }) (no_waits session ts)
 
   pub no_foe_shown : (ts : List Opened) (log : List LogEntry) → IsIdle locks ts → (session : ℕ) (on : Resource) (asked : Pair) → NoFoeIn session on asked locks → NoFoe session on asked (shown rows locks ts log)
   no_foe_shown ts log idle session on asked free other differ = rw (locks_shown ts log idle other) (free other differ)

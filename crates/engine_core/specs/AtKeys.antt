@@ -2,19 +2,16 @@
 -- no more than a key.
 use Rattle.std.specs.Prelude.{◌≡◌, ℕ, List, Option, None, Some, if◌then◌else◌}
 use Rattle.lock_modes.specs.declared.KeyPart.{KeyPart}
-use Rattle.lock_modes.specs.declared.Pair.{Pair}
 use Rattle.lock_modes.specs.Modes.{exclusive, range_i_n}
 use Rattle.value_types.specs.declared.table_name.TableName.{TableName}
 use Rattle.value_types.specs.declared.value.Value.{Value}
 use Rattle.step_model.specs.declared.manner.Manner.{Manner}
-use Rattle.step_model.specs.declared.manner.Patience.{Patience}
-use Rattle.step_model.specs.declared.manner.Patience.TheVariants.{Refuse, Forever}
 use Rattle.step_model.specs.declared.op.Hold.{Hold}
 use Rattle.step_model.specs.declared.op.Op.{Op}
 use Rattle.step_model.specs.declared.op.Op.TheVariants.{Replace, Erase}
 use Rattle.step_model.specs.declared.range.Stop.{Stop}
 use Rattle.step_model.specs.declared.reply.Reply.{Reply}
-use Rattle.step_model.specs.declared.reply.Reply.TheVariants.{End, Wait, TimedOut}
+use Rattle.step_model.specs.declared.reply.Reply.TheVariants.{End}
 use Rattle.step_model.specs.declared.resource.Place.TheVariants.{At, End as Behind}
 use Rattle.step_model.specs.declared.resource.Resource.{Resource}
 use Rattle.step_model.specs.declared.resource.Span.TheVariants.{Transaction as Whole}
@@ -47,21 +44,11 @@ claim_x on = record { on = on; pair = exclusive; kept = Some Whole }
 abbrev pub claim_insertion : Resource → Claim
 claim_insertion on = record { on = on; pair = range_i_n; kept = None }
 
--- the answer where another session's pair stands in the way
-abbrev pub refusal : Claim → ℕ → Pair → Patience → Reply
-refusal claim holder held Forever = Wait holder
-refusal claim holder held Refuse = TimedOut holder held claim.pair claim.on
-
 -- the operation that sets a row where one is seen, or takes it away
 abbrev pub write_op : TableName → List Value → Option (List Value) → Op
 write_op table key None = Erase table key
 write_op table key (Some row) = Replace table key row
 
--- with this patience, and whatever the priority, the operation may be answered so
-abbrev pub StepsWith : Patience → Engine → ℕ → Op → Reply → Engine → Type 0
-StepsWith patience old session op reply new = (manner : Manner) → manner.patience ≡ patience → StepFrom old session op manner reply new
-
--- a reply that refuses whatever operation asks X on the key's entry, and leaves all as it is
-abbrev pub IsRefusedX : Engine → ℕ → TableName → List Value → Patience → Reply → Engine → Type 0
-IsRefusedX old session table key patience reply new = (new ≡ old)
-    × ((op : Op) → claim_of old op ≡ write_claim (entry_at old.entries table key) → StepsWith patience old session op reply new)
+-- a reply that does not let pass whatever operation asks X on the key's entry
+abbrev pub IsRefusedX : Engine → ℕ → TableName → List Value → Manner → Reply → Engine → Type 0
+IsRefusedX old session table key manner reply new = (op : Op) → claim_of old op ≡ write_claim (entry_at old.entries table key) → StepFrom old session op manner reply new

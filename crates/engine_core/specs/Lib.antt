@@ -6,3 +6,4 @@ pub mod Transactions  -- the open transactions as the code keeps them
 pub mod Shown  -- the parts of the engine as the state of the model
 pub mod WellFormed  -- what the parts keep
 pub mod Told  -- the list that a port tells, as its clauses speak of it
+pub mod Breaking  -- how cycles are broken, and the edges of the waits that stand

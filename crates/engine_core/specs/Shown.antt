@@ -1,6 +1,6 @@
 -- Own: the parts of the engine as the state of the model. What a session has open the model has in one place; the
 -- code has its locks in the lock table, and what its marks have saved in the store of rows.
-use Rattle.std.specs.Prelude.{ℕ, List, map, None}
+use Rattle.std.specs.Prelude.{ℕ, List, map}
 use Rattle.step_model.specs.Log.{Commit as LogEntry}
 use Rattle.step_model.specs.State.{Engine, Saved, Transaction}
 use Rattle.row_store.specs.Rows.{Rows, entries_of, pending_before}
@@ -18,8 +18,8 @@ shown_transaction rows locks opened = record {
   made = opened.made;
   marks = map (saved_at opened.session rows) opened.marks;
   locks = of_session opened.session locks;
-  wait = None;
-  victim = None;
+  wait = opened.wait;
+  victim = opened.victim;
 }
 
 -- the whole

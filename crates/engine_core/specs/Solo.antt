@@ -2,7 +2,7 @@
 -- the code keeps them in a list beside its engine, until there is no memory for one more.
 use Rattle.std.specs.Prelude.{ℕ, Bool, true, false, List, map, Option, None, Some}
 use Rattle.step_model.specs.declared.reply.Reply.{Reply}
-use Rattle.step_model.specs.declared.reply.Reply.TheVariants.{Wait, TimedOut}
+use Rattle.step_model.specs.declared.reply.Reply.TheVariants.{Wait, TimedOut, Victim}
 use Rattle.step_model.specs.Exchange.{Exchange, Standing, IsSession}
 use Rattle.step_model.specs.Sure.{SureKeys}
 use Rattle.step_model.specs.Port.{PortPast}
@@ -30,6 +30,7 @@ sure_in session engine span t x = (exchanges : List Exchange) × Run opening (as
 abbrev pub is_refusal : Reply → Bool
 is_refusal (Wait holder) = true
 is_refusal (TimedOut holder held asked on) = true
+is_refusal (Victim cycle) = true
 is_refusal reply = false
 
 -- ---- the port

@@ -1,12 +1,16 @@
--- Own: the open transactions as the code keeps them: each with the numbers of its live marks, and without its
--- locks and what its marks have saved, which stand elsewhere.
+-- Own: the open transactions as the code keeps them: each with the numbers of its live marks, what it waits for and
+-- whether it is marked as a victim, and without its locks and what its marks have saved, which stand elsewhere.
 use Rattle.std.specs.Prelude.{◌≡◌, ℕ, ◌+◌, ◌≤◌, ◌==◌, not, nat_le, Bool, false, List, [], ◌∷◌, ◌++◌, map, filter, Option, None, Some, if◌then◌else◌}
 use Rattle.std.specs.List.{AllByRecursion, find, list_any}
+use Rattle.step_model.specs.declared.edge.Edge.{Edge}
+use Rattle.step_model.specs.State.{StandingWait}
 
 pub record Opened : Type 0 where
   pub session : ℕ
   pub made : ℕ
   pub marks : List ℕ
+  pub wait : Option StandingWait
+  pub victim : Option (List Edge)
 
 abbrev pub opened_in : ℕ → List Opened → Option Opened
 opened_in session active = find (λ opened. opened.session == session) active
@@ -50,6 +54,30 @@ add_mark mark opened = record opened { made = mark; marks = opened.marks ++ mark
 -- the marks whose number isn't above this one
 abbrev pub cut_marks : ℕ → Opened → Opened
 cut_marks mark opened = record opened { marks = filter (λ live. nat_le live mark) opened.marks }
+
+-- waiting for this
+abbrev pub set_wait : StandingWait → Opened → Opened
+set_wait wait opened = record opened { wait = Some wait }
+
+-- waiting no more
+abbrev pub drop_wait : Opened → Opened
+drop_wait opened = record opened { wait = None }
+
+-- waiting no more, and marked as the victim of a cycle
+abbrev pub mark_victim : List Edge → Opened → Opened
+mark_victim cycle opened = record opened { wait = None; victim = Some cycle }
+
+-- marked no more
+abbrev pub drop_victim : Opened → Opened
+drop_victim opened = record opened { victim = None }
+
+abbrev pub mark_of : Option Opened → Option (List Edge)
+mark_of None = None
+mark_of (Some opened) = opened.victim
+
+-- the cycle as whose victim the session is marked, if it is
+abbrev pub mark_in : ℕ → List Opened → Option (List Edge)
+mark_in session active = mark_of (opened_in session active)
 
 abbrev pub without_opened : ℕ → List Opened → List Opened
 without_opened session active = filter (λ opened. not (opened.session == session)) active

@@ -5,14 +5,16 @@ ghost use Rattle.std.specs.Option.{option_copied};
 ghost use Rattle.step_model.specs.Exchange.{IsSession};
 ghost use Rattle.step_model.specs.Database.{includes};
 ghost use Rattle.step_model.specs.Claims.{locks_for, row_kept};
+ghost use Rattle.step_model.specs.Deadlocks.{wait_for};
 ghost use Rattle.lock_table.specs.Table.{ChangesLocks, KeepsLocks};
-ghost use Rattle.engine_core.specs.AtKeys.{resource_at, fetch_claim_at, claim_x, claim_insertion, refusal};
+ghost use Rattle.engine_core.specs.AtKeys.{resource_at, fetch_claim_at, claim_x, claim_insertion};
 
+use crate::wait::StandingWait;
 use lock_modes::{KeyPart, Pair, RangePart};
 use lock_table::LockTable;
 use std::alloc::Global;
 use std::marker::Model;
-use step_model::{Hold, Patience, Place, Reply, Resource, Span, Stop};
+use step_model::{Hold, Place, Resource, Span, Stop};
 use value_types::{Key, Memory, TableName, prefix_order};
 
 /// A mode that is asked on a resource, and how long the lock is kept, if it is kept.
@@ -68,18 +70,14 @@ impl Claim {
         self.pair
     }
 
-    /// The answer where another session's pair stands in the way.
-    pub(crate) fn refusal(self, holder: u32, held: Pair, patience: Patience) -> Reply
-        ensures { result ≡ refusal self holder held patience }
+    /// The wait for it.
+    pub(crate) fn wait(self, priority: i8) -> StandingWait
+        ensures { result ≡ wait_for self priority }
     {
-        match patience {
-            Patience::Forever => Reply::Wait { holder },
-            Patience::Refuse => Reply::TimedOut {
-                holder,
-                held,
-                asked: self.pair,
-                on: self.on,
-            },
+        StandingWait {
+            on: self.on,
+            asked: self.pair,
+            priority,
         }
     }
 
@@ -94,6 +92,14 @@ impl Claim {
         }
         Ok(())
     }
+}
+
+/// A claim in whose way another session's pair stands.
+#[derive(Debug, Drop)]
+pub(crate) struct Foe {
+    pub(crate) claim: Claim,
+    pub(crate) holder: u32,
+    pub(crate) held: Pair,
 }
 
 /// The resource of a found key, or the end of its table.

@@ -1,10 +1,11 @@
 //! The engine.
 
-ghost use Rattle.std.specs.Prelude.{◌≡◌, ◌==◌, length, IfOk, OnErr};
+ghost use Rattle.std.specs.Prelude.{◌≡◌, ◌==◌, length, None, IfSome, IfOk, OnErr};
 ghost use Rattle.std.specs.List.{list_any};
 ghost use Rattle.step_model.specs.Exchange.{MayLackMemory};
-ghost use Rattle.step_model.specs.State.{is_open};
-ghost use Rattle.step_model.specs.Step.{Step, StepFrom};
+ghost use Rattle.step_model.specs.State.{is_open, victim_of};
+ghost use Rattle.step_model.specs.Moves.{without_wait, without_victim};
+ghost use Rattle.step_model.specs.Step.{Step, StepFrom, told_first};
 ghost use Rattle.step_model.specs.Runs.{MayStep, opening, standing_of};
 ghost use Rattle.history_laws.specs.Sane.{Sane};
 
@@ -12,7 +13,7 @@ use crate::parts::Parts;
 use crate::transaction::{is_active, marks_in};
 use std::alloc::Global;
 use std::marker::Model;
-use step_model::{Manner, Op, Reply};
+use step_model::{Cycle, Manner, Op, Reply};
 use value_types::Memory;
 
 /// The engine of all sessions.
@@ -75,11 +76,7 @@ impl Engine {
         requires { MayStep self.old session op.now manner }
         ensures { Step self.old session op.now manner result self.new }
     {
-        self.parts.law_no_wait();
-        match self.parts.step(session, op, manner) {
-            Ok(reply) => reply,
-            Err(Memory) => Reply::Memory,
-        }
+        self.parts.answer(session, op, manner)
     }
 }
 
@@ -105,15 +102,43 @@ impl Parts {
         self.log.len() as u64
     }
 
-    // One step, unless memory is wanting.
+    // One step.
+    fn answer(&mut self, session: u32, op: &Op, manner: Manner) -> Reply
+        requires may { MayStep self.old session op.now manner }
+        requires sane { Sane self.old }
+        ensures { Step self.old session op.now manner result self.new }
+    {
+        self.end_wait(session);
+        match self.hears(session, op) {
+            Some(cycle) => Reply::Victim { cycle },
+            None => match self.step(session, op, manner) {
+                Ok(reply) => reply,
+                Err(Memory) => Reply::Memory,
+            },
+        }
+    }
+
+    // The cycle of which a session that fell has to be told before its operation; it is marked no more then.
+    fn hears(&mut self, session: u32, op: &Op) -> Option<Cycle>
+        ensures told { result ≡ told_first op.now (victim_of session self.old) }
+        ensures kept { result ≡ None → self.new ≡ self.old }
+        ensures taken { IfSome result (λ cycle. self.new ≡ without_victim session self.old) }
+    {
+        match op {
+            Op::Rollback => None,
+            _ => self.take_victim(session),
+        }
+    }
+
+    // One step of a session that waits no more, unless memory is wanting.
     fn step(&mut self, session: u32, op: &Op, manner: Manner) -> Result<Reply, Memory>
         requires may { MayStep self.old session op.now manner }
         requires sane { Sane self.old }
+        requires calm { without_wait session self.old ≡ self.old }
         ensures step { IfOk result (λ reply. StepFrom self.old session op.now manner reply self.new) }
         ensures free { OnErr result (MayLackMemory op.now) }
         ensures err { OnErr result (self.new ≡ self.old) }
     {
-        let patience = manner.patience;
         match op {
             Op::Begin => self.begin(session),
             Op::Fetch {
@@ -122,12 +147,12 @@ impl Parts {
                 stop,
                 hold,
                 part,
-            } => self.fetch(session, table, start, stop, *hold, *part, patience),
-            Op::Insert { table, key, row } => self.insert(session, table, key, row, patience),
+            } => self.fetch(session, table, start, stop, *hold, *part, manner),
+            Op::Insert { table, key, row } => self.insert(session, table, key, row, manner),
             Op::Replace { table, key, row } => {
-                self.write(session, table, key, Some(row), patience)
+                self.write(session, table, key, Some(row), manner)
             }
-            Op::Erase { table, key } => self.write(session, table, key, None, patience),
+            Op::Erase { table, key } => self.write(session, table, key, None, manner),
             Op::Mark => self.mark(session),
             Op::BackTo { mark } => Ok(self.back_to(session, *mark)),
             Op::Relax => Ok(self.relax(session)),

@@ -4,13 +4,15 @@ ghost use Rattle.std.specs.Prelude.{◌≡◌, true, length, IfOk, OnErr};
 ghost use Rattle.std.specs.Option.{option_copied};
 ghost use Rattle.step_model.specs.Exchange.{IsSession};
 ghost use Rattle.step_model.specs.State.{is_open};
+ghost use Rattle.step_model.specs.Moves.{without_wait};
+ghost use Rattle.step_model.specs.Step.{StepFrom};
 ghost use Rattle.history_laws.specs.Sane.{Sane};
-ghost use Rattle.engine_core.specs.AtKeys.{StepsWith, fetch_reply_at};
+ghost use Rattle.engine_core.specs.AtKeys.{fetch_reply_at};
 
 use crate::claim::{fetch_claim_at, includes};
 use crate::parts::Parts;
 use lock_modes::KeyPart;
-use step_model::{Hold, Op, Patience, Reply, Start, Stop};
+use step_model::{Hold, Manner, Op, Reply, Start, Stop};
 use value_types::{Key, Memory, TableName};
 
 impl Parts {
@@ -23,13 +25,14 @@ impl Parts {
         stop: &Stop,
         hold: Hold,
         part: KeyPart,
-        patience: Patience,
+        manner: Manner,
     ) -> Result<Reply, Memory>
         requires session { IsSession session }
         requires begun { is_open session self.old ≡ true }
         requires sane { Sane self.old }
+        requires calm { without_wait session self.old ≡ self.old }
         ensures step { let op = Op.Fetch table.now start.now stop.now hold part in
-            IfOk result (λ reply. StepsWith patience self.old session op reply self.new) }
+            IfOk result (λ reply. StepFrom self.old session op manner reply self.new) }
         ensures err { OnErr result (self.new ≡ self.old) }
     {
         let found = self.rows.next_entry(table, start);
@@ -37,8 +40,8 @@ impl Parts {
         let Some(claim) = fetch_claim_at(self.alloc, hold, part, table, stop, found)? else {
             return Ok(reply);
         };
-        match self.passed(session, claim, patience) {
-            Err(refusal) => Ok(refusal),
+        match self.passed(session, claim) {
+            Err(foe) => self.refuse(session, foe, manner),
             Ok(claim) => {
                 self.keep(session, &claim)?;
                 Ok(reply)

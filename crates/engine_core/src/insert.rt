@@ -5,9 +5,9 @@ ghost use Rattle.step_model.specs.Exchange.{IsSession};
 ghost use Rattle.step_model.specs.Locks.{is_range_s, pair_on};
 ghost use Rattle.step_model.specs.Entries.{entry_at, place_on, put_entry};
 ghost use Rattle.step_model.specs.State.{is_open};
-ghost use Rattle.step_model.specs.Moves.{new_entry, with_entry};
+ghost use Rattle.step_model.specs.Step.{StepFrom};
+ghost use Rattle.step_model.specs.Moves.{new_entry, with_entry, without_wait};
 ghost use Rattle.step_model.specs.Claims.{new_locks, inherits};
-ghost use Rattle.engine_core.specs.AtKeys.{StepsWith};
 ghost use Rattle.history_laws.specs.Sane.{Sane};
 ghost use Rattle.row_store.specs.Rows.{entries_of, AddsMaker, KeepsPast, KeepsBelow};
 ghost use Rattle.lock_table.specs.Table.{ChangesLocks, KeepsLocks, of_session, all_but_last};
@@ -19,7 +19,7 @@ use lock_modes::Pair;
 use lock_table::LockTable;
 use row_store::RowStore;
 use std::alloc::Global;
-use step_model::{Op, Patience, Reply, Resource, Span};
+use step_model::{Manner, Op, Reply, Resource, Span};
 use value_types::{Key, Memory, Row, TableName};
 
 impl Parts {
@@ -30,19 +30,20 @@ impl Parts {
         table: &TableName,
         key: &Key,
         row: &Row,
-        patience: Patience,
+        manner: Manner,
     ) -> Result<Reply, Memory>
         requires session { IsSession session }
         requires begun { is_open session self.old ≡ true }
         requires sane { Sane self.old }
+        requires calm { without_wait session self.old ≡ self.old }
         ensures step { let op = Op.Insert table.now key.now row.now in
-            IfOk result (λ reply. StepsWith patience self.old session op reply self.new) }
+            IfOk result (λ reply. StepFrom self.old session op manner reply self.new) }
         ensures err { OnErr result (self.new ≡ self.old) }
     {
         if self.rows.has_entry(table, key) {
-            self.insert_at(session, table, key, row, patience)
+            self.insert_at(session, table, key, row, manner)
         } else {
-            self.insert_new(session, table, key, row, patience)
+            self.insert_new(session, table, key, row, manner)
         }
     }
 
@@ -53,18 +54,19 @@ impl Parts {
         table: &TableName,
         key: &Key,
         row: &Row,
-        patience: Patience,
+        manner: Manner,
     ) -> Result<Reply, Memory>
         requires session { IsSession session }
         requires begun { is_open session self.old ≡ true }
         requires sane { Sane self.old }
+        requires calm { without_wait session self.old ≡ self.old }
         requires there { IsSome (entry_at self.old.entries table.now key.now) }
         ensures step { let op = Op.Insert table.now key.now row.now in
-            IfOk result (λ reply. StepsWith patience self.old session op reply self.new) }
+            IfOk result (λ reply. StepFrom self.old session op manner reply self.new) }
         ensures err { OnErr result (self.new ≡ self.old) }
     {
         let free = self.rows.visible(session, table, key).is_none();
-        match self.ask_x(session, table, key, Some(row), free, patience)? {
+        match self.ask_x(session, table, key, Some(row), free, manner)? {
             Some(refusal) => Ok(refusal),
             None if free => Ok(Reply::Done),
             None => Ok(Reply::Exists),
@@ -78,19 +80,20 @@ impl Parts {
         table: &TableName,
         key: &Key,
         row: &Row,
-        patience: Patience,
+        manner: Manner,
     ) -> Result<Reply, Memory>
         requires session { IsSession session }
         requires begun { is_open session self.old ≡ true }
         requires sane { Sane self.old }
+        requires calm { without_wait session self.old ≡ self.old }
         requires absent { entry_at self.old.entries table.now key.now ≡ None }
         ensures step { let op = Op.Insert table.now key.now row.now in
-            IfOk result (λ reply. StepsWith patience self.old session op reply self.new) }
+            IfOk result (λ reply. StepFrom self.old session op manner reply self.new) }
         ensures err { OnErr result (self.new ≡ self.old) }
     {
         let claim = Claim::insertion(self.place_on(table, key)?);
-        match self.passed(session, claim, patience) {
-            Err(refusal) => Ok(refusal),
+        match self.passed(session, claim) {
+            Err(foe) => self.refuse(session, foe, manner),
             Ok(claim) => {
                 self.add(session, claim.on(), table, key, row)?;
                 Ok(Reply::Done)

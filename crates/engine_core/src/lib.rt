@@ -8,6 +8,7 @@
 #![tactic(auto)]
 
 mod begin;
+mod breaks;
 mod claim;
 mod commit;
 mod ends;
@@ -16,8 +17,11 @@ mod fetch;
 mod insert;
 mod marks;
 mod parts;
+mod refuse;
 mod solo;
 mod transaction;
+mod wait;
+mod waiting;
 mod write;
 
 pub use engine::Engine;

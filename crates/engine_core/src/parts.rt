@@ -1,24 +1,21 @@
 //! The parts of the engine, what passes, and what is kept.
 
 ghost use Rattle.std.specs.Prelude.{◌≡◌, ℕ, true, Some, IfOk, IfErr, OnOk, OnErr};
-ghost use Rattle.step_model.specs.declared.op.Op.{Op as AnyOp};
 ghost use Rattle.step_model.specs.Exchange.{IsSession};
 ghost use Rattle.step_model.specs.Entries.{place_on};
 ghost use Rattle.step_model.specs.State.{is_open};
-ghost use Rattle.step_model.specs.Moves.{without_wait};
-ghost use Rattle.step_model.specs.Claims.{Passes, claim_of, with_claim};
-ghost use Rattle.engine_core.specs.AtKeys.{StepsWith};
+ghost use Rattle.step_model.specs.Claims.{Passes, IsFoe, with_claim};
 ghost use Rattle.step_model.specs.Runs.{opening};
 ghost use Rattle.history_laws.specs.Sane.{Sane};
 
-use crate::claim::{Claim, resource_at};
+use crate::claim::{Claim, Foe, resource_at};
 use crate::commit::Commit;
 use crate::transaction::Transaction;
 use lock_table::LockTable;
 use row_store::RowStore;
 use std::alloc::Global;
 use std::marker::Model;
-use step_model::{Patience, Reply, Resource, Start};
+use step_model::{Resource, Start};
 use value_types::{Key, Memory, TableName};
 
 /// The entries, the locks, the open transactions and the log.
@@ -57,13 +54,6 @@ impl Parts {
         }
     }
 
-    /// The code knows no standing waits.
-    pub(crate) fn law_no_wait(&self)
-        ensures { (session : ℕ) → without_wait session self.now ≡ self.now }
-    {
-        let _count = self.active.len();
-    }
-
     /// The resource of a key's place.
     pub(crate) fn place_on(&self, table: &TableName, key: &Key) -> Result<Resource, Memory>
         ensures { IfOk result (λ on. on ≡ place_on self.now.entries table.now key.now) }
@@ -72,21 +62,20 @@ impl Parts {
         resource_at(self.alloc, table, self.rows.next_entry(table, &start))
     }
 
-    /// Gives back a claim that passes. Where another session's pair stands in the way, its answer.
-    pub(crate) fn passed(
-        &self,
-        session: u32,
-        claim: Claim,
-        patience: Patience,
-    ) -> Result<Claim, Reply>
+    /// Gives back a claim that passes, or else the lowest session that stands in its way.
+    pub(crate) fn passed(&self, session: u32, claim: Claim) -> Result<Claim, Foe>
         ensures same { IfOk result (λ passed. passed ≡ claim) }
         ensures passes { IfOk result (λ passed. Passes session (Some claim) self.now) }
-        ensures refused { IfErr result (λ reply. (op : AnyOp) → claim_of self.now op ≡ Some claim
-            → StepsWith patience self.now session op reply self.now) }
+        ensures asked { IfErr result (λ foe. foe.claim ≡ claim) }
+        ensures foe { IfErr result (λ foe. IsFoe session claim.on claim.pair self.now foe.holder foe.held) }
     {
         match self.locks.foe(session, claim.on(), claim.pair()) {
             None => Ok(claim),
-            Some((holder, held)) => Err(claim.refusal(holder, held, patience)),
+            Some((holder, held)) => Err(Foe {
+                claim,
+                holder,
+                held,
+            }),
         }
     }
 

@@ -1,18 +1,24 @@
 //! The open transactions.
 
-ghost use Rattle.std.specs.Prelude.{◌≡◌, ◌+◌, ◌≤◌, true, [], ◌∷◌, ◌++◌, vec_len, IfOk, OnErr};
-ghost use Rattle.engine_core.specs.Transactions.{is_active, made_in, marks_in, with_opened, add_mark, cut_marks, without_opened, AreDistinct};
+ghost use Rattle.std.specs.Prelude.{◌≡◌, ◌+◌, ◌≤◌, true, [], ◌∷◌, ◌++◌, None, vec_len, IfOk, OnErr};
+ghost use Rattle.std.specs.Option.{option_copied};
+ghost use Rattle.engine_core.specs.Transactions.{is_active, made_in, marks_in, with_opened, add_mark, cut_marks, set_wait, drop_wait, mark_victim, drop_victim, mark_in, without_opened, AreDistinct};
 
+use crate::wait::StandingWait;
 use std::alloc::Global;
 use std::marker::Model;
+use step_model::Cycle;
 use value_types::Memory;
 
-/// A session that has a transaction open, with how many marks that has made, and those that are live.
+/// A session that has a transaction open, with how many marks that has made, and those that are live; what it waits
+/// for, and the cycle as whose victim it is marked.
 #[derive(Debug, Drop)]
 pub(crate) struct Transaction {
     session: u32,
     made: u64,
     marks: Vec<u64>,
+    wait: Option<StandingWait>,
+    victim: Option<Cycle>,
 }
 
 impl Model for Transaction {
@@ -20,23 +26,25 @@ impl Model for Transaction {
 
     ghost Value = { Opened };
 
-    ghost view = { λ transaction. record { session = transaction.session; made = transaction.made; marks = transaction.marks.items } };
+    ghost view = { λ transaction. record { session = transaction.session; made = transaction.made; marks = transaction.marks.items; wait = transaction.wait; victim = transaction.victim } };
 }
 
 impl Transaction {
     /// The transaction that a session begins.
     pub(crate) fn new(alloc: Global, session: u32) -> Transaction
-        ensures { result ≡ record { session = session; made = 0; marks = [] } }
+        ensures { result ≡ record { session = session; made = 0; marks = []; wait = None; victim = None } }
     {
         Transaction {
             session,
             made: 0,
             marks: Vec::new(alloc),
+            wait: None,
+            victim: None,
         }
     }
 
     /// The session.
-    fn session(&self) -> u32
+    pub(crate) fn session(&self) -> u32
         ensures { result ≡ self.now.session }
     {
         self.session
@@ -54,6 +62,13 @@ impl Transaction {
         ensures { result.now ≡ self.now.marks }
     {
         &self.marks
+    }
+
+    /// What it waits for, if it waits.
+    pub(crate) fn wait(&self) -> Option<&StandingWait>
+        ensures { option_copied result ≡ self.now.wait }
+    {
+        self.wait.as_ref()
     }
 
     /// Makes the next mark. Where there is no number for one more, memory is wanting.
@@ -76,6 +91,36 @@ impl Transaction {
         ensures { self.new ≡ cut_marks mark self.old }
     {
         self.marks.retain(|live| *live <= mark);
+    }
+
+    /// Ends its wait.
+    fn end_wait(&mut self)
+        ensures { self.new ≡ drop_wait self.old }
+    {
+        self.wait = None;
+    }
+
+    /// Lets it wait.
+    fn begin_wait(&mut self, wait: StandingWait)
+        ensures { self.new ≡ set_wait wait self.old }
+    {
+        self.wait = Some(wait);
+    }
+
+    /// Ends its wait, and marks it as the victim of a cycle.
+    fn fall(&mut self, cycle: Cycle)
+        ensures { self.new ≡ mark_victim cycle self.old }
+    {
+        self.wait = None;
+        self.victim = Some(cycle);
+    }
+
+    /// Takes its mark as a victim.
+    fn take_victim(&mut self) -> Option<Cycle>
+        ensures mark { result ≡ self.old.victim }
+        ensures taken { self.new ≡ drop_victim self.old }
+    {
+        self.victim.take()
     }
 }
 
@@ -140,6 +185,59 @@ pub(crate) fn cut(active: &mut [Transaction], session: u32, mark: u64)
         }
     }
     unreachable!()
+}
+
+/// Ends a session's wait, if it has a transaction that waits.
+pub(crate) fn end_wait(active: &mut [Transaction], session: u32)
+    requires distinct { AreDistinct active.old }
+    ensures { active.new ≡ with_opened session drop_wait active.old }
+{
+    for open in active.iter_mut() {
+        if open.session() == session {
+            open.end_wait();
+            return;
+        }
+    }
+}
+
+/// Lets a session wait, if it has a transaction.
+pub(crate) fn begin_wait(active: &mut [Transaction], session: u32, wait: StandingWait)
+    requires distinct { AreDistinct active.old }
+    ensures { active.new ≡ with_opened session (set_wait wait) active.old }
+{
+    for open in active.iter_mut() {
+        if open.session() == session {
+            open.begin_wait(wait);
+            return;
+        }
+    }
+}
+
+/// Ends a session's wait, and marks it as the victim of a cycle, if it has a transaction.
+pub(crate) fn fall(active: &mut [Transaction], session: u32, cycle: Cycle)
+    requires distinct { AreDistinct active.old }
+    ensures { active.new ≡ with_opened session (mark_victim cycle) active.old }
+{
+    for open in active.iter_mut() {
+        if open.session() == session {
+            open.fall(cycle);
+            return;
+        }
+    }
+}
+
+/// Takes a session's mark as a victim, if it has one.
+pub(crate) fn take_victim(active: &mut [Transaction], session: u32) -> Option<Cycle>
+    requires distinct { AreDistinct active.old }
+    ensures mark { result ≡ mark_in session active.old }
+    ensures taken { active.new ≡ with_opened session drop_victim active.old }
+{
+    for open in active.iter_mut() {
+        if open.session() == session {
+            return open.take_victim();
+        }
+    }
+    None
 }
 
 /// Ends a session's transaction.

@@ -5,12 +5,13 @@ ghost use Rattle.std.specs.Option.{option_copied};
 ghost use Rattle.step_model.specs.Exchange.{IsSession};
 ghost use Rattle.step_model.specs.Entries.{entry_at, place_on};
 ghost use Rattle.step_model.specs.State.{is_open};
-ghost use Rattle.step_model.specs.Moves.{with_pending, set_at};
+ghost use Rattle.step_model.specs.Step.{StepFrom};
+ghost use Rattle.step_model.specs.Moves.{with_pending, set_at, without_wait};
 ghost use Rattle.step_model.specs.Claims.{Passes, with_claim, locks_for, write_claim};
 ghost use Rattle.history_laws.specs.Sane.{Sane};
 ghost use Rattle.row_store.specs.Rows.{entries_of, pending_state, KeepsMakers, KeepsPast, KeepsBelow, MayWrite};
 ghost use Rattle.lock_table.specs.Table.{ChangesLocks, KeepsLocks};
-ghost use Rattle.engine_core.specs.AtKeys.{StepsWith, IsRefusedX, claim_x, write_op};
+ghost use Rattle.engine_core.specs.AtKeys.{IsRefusedX, claim_x, write_op};
 
 use crate::claim::Claim;
 use crate::parts::Parts;
@@ -18,7 +19,7 @@ use crate::transaction::made_in;
 use lock_modes::Pair;
 use lock_table::LockTable;
 use row_store::RowStore;
-use step_model::{Patience, Reply, Resource, Span};
+use step_model::{Manner, Reply, Resource, Span};
 use value_types::{Key, Memory, Row, TableName};
 
 impl Parts {
@@ -29,20 +30,21 @@ impl Parts {
         table: &TableName,
         key: &Key,
         row: Option<&Row>,
-        patience: Patience,
+        manner: Manner,
     ) -> Result<Reply, Memory>
         requires session { IsSession session }
         requires begun { is_open session self.old ≡ true }
         requires sane { Sane self.old }
+        requires calm { without_wait session self.old ≡ self.old }
         ensures step { let op = write_op table.now key.now (option_copied row.entry) in
-            IfOk result (λ reply. StepsWith patience self.old session op reply self.new) }
+            IfOk result (λ reply. StepFrom self.old session op manner reply self.new) }
         ensures err { OnErr result (self.new ≡ self.old) }
     {
         if !self.rows.has_entry(table, key) {
             return Ok(Reply::Missing);
         }
         let seen = self.rows.visible(session, table, key).is_some();
-        match self.ask_x(session, table, key, row, seen, patience)? {
+        match self.ask_x(session, table, key, row, seen, manner)? {
             Some(refusal) => Ok(refusal),
             None if seen => Ok(Reply::Done),
             None => Ok(Reply::Missing),
@@ -58,13 +60,14 @@ impl Parts {
         key: &Key,
         row: Option<&Row>,
         sets: bool,
-        patience: Patience,
+        manner: Manner,
     ) -> Result<Option<Reply>, Memory>
         requires session { IsSession session }
         requires begun { is_open session self.old ≡ true }
         requires sane { Sane self.old }
+        requires calm { without_wait session self.old ≡ self.old }
         requires there { IsSome (entry_at self.old.entries table.now key.now) }
-        ensures refused { IfOk result (λ refusal. IfSome refusal (λ reply. IsRefusedX self.old session table.now key.now patience reply self.new)) }
+        ensures refused { IfOk result (λ refusal. IfSome refusal (λ reply. IsRefusedX self.old session table.now key.now manner reply self.new)) }
         ensures passes { result ≡ Ok None → Passes session (write_claim (entry_at self.old.entries table.now key.now)) self.old }
         ensures done { let kept = with_claim session (write_claim (entry_at self.old.entries table.now key.now)) self.old in
             let set = with_pending session table.now key.now (option_copied row.entry) kept in
@@ -72,8 +75,11 @@ impl Parts {
         ensures err { OnErr result (self.new ≡ self.old) }
     {
         let on = self.place_on(table, key)?;
-        match self.passed(session, Claim::x(on), patience) {
-            Err(refusal) => Ok(Some(refusal)),
+        match self.passed(session, Claim::x(on)) {
+            Err(foe) => {
+                let refusal = self.refuse(session, foe, manner)?;
+                Ok(Some(refusal))
+            }
             Ok(claim) => {
                 if sets {
                     self.set(session, claim.on(), table, key, row)?;

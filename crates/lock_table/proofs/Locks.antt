@@ -1,8 +1,8 @@
 -- The locks of each session in the list of all: after one more, after a sweep, and without the latest; the
 -- join of their pairs; and the numbers that are no session's.
-use Rattle.std.proofs.Common.{◌≡◌, ◌≢◌, ℕ, suc, ◌==◌, ◌≤◌, ◌<◌, Bool, true, false, not, ◌||◌, ◌&&◌, if◌then◌else◌, List, [], ◌∷◌, ◌++◌, filter, drop, length, get_or, ◌+◌, refl, sym, ap, ◌∙◌, subst, take, append-nil, eqb-true, eq-eqb, ltb, ltb-true, ltb-false, arith}
+use Rattle.std.proofs.Common.{◌≡◌, ◌≢◌, ℕ, suc, ◌==◌, ◌≤◌, ◌<◌, Bool, true, false, not, ◌||◌, ◌&&◌, if◌then◌else◌, List, [], ◌∷◌, ◌++◌, filter, drop, length, get_or, ◌+◌, refl, sym, ap, ◌∙◌, subst, take, append-nil, replicate, eqb-true, eq-eqb, ltb, ltb-true, ltb-false, arith}
 use Rattle.std.proofs.lemmas.Bool.{true≢false}
-use Rattle.std.proofs.lemmas.List.{drop_more, take-append-drop}
+use Rattle.std.proofs.lemmas.List.{drop_more, take-append-drop, get_or-replicate, get_or_past, length-replicate}
 use Rattle.std.specs.List.{list_any, remove}
 use Rattle.lock_modes.specs.declared.Pair.{Pair}
 use Rattle.lock_modes.specs.Agreement.{pairs_agree}
@@ -12,7 +12,7 @@ use Rattle.lock_modes.proofs.JoinedParts.{join_ranges_assoc, join_keys_assoc}
 use Rattle.step_model.specs.declared.resource.Resource.{Resource}
 use Rattle.step_model.specs.Exchange.{IsSession}
 use Rattle.step_model.specs.Locks.{Lock, pair_on, same_resource, is_whole}
-use Rattle.lock_table.specs.Table.{SessionLock, of_session, AreOfSessions, ChangesLocks, all_but_last}
+use Rattle.lock_table.specs.Table.{SessionLock, of_session, pair_at, AreOfSessions, ChangesLocks, all_but_last}
 
 -- numbers are compared from either side
 pub eqb_turned : (a b : ℕ) → (a == b) ≡ (b == a)
@@ -233,3 +233,9 @@ one_more P n all here k below = by_test (k == n) refl
     by_test : (b : Bool) → (k == n) ≡ b → P k
     by_test true is = let same : k ≡ n = eqb-true k n is in rw same here
     by_test false is = all k (grind (arith, below, is))
+
+-- no lock at any number
+pub none_of : (session : ℕ) (n : ℕ) → pair_at session (replicate n none) ≡ none
+none_of session n = below_or_past (pair_at session (replicate n none) ≡ none) session n
+    (λ below. get_or-replicate n session none none below)
+    (λ past. get_or_past (replicate n none) session none (rw length-replicate past))

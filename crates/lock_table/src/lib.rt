@@ -14,9 +14,12 @@ ghost use Rattle.lock_modes.specs.declared.RangePart.TheVariants.{S as RangeS};
 ghost use Rattle.step_model.specs.declared.resource.Span.TheVariants.{Transaction as Whole};
 ghost use Rattle.step_model.specs.Exchange.{IsSession};
 ghost use Rattle.step_model.specs.Locks.{pair_on, same_resource as is_same, is_whole, is_range_s};
-ghost use Rattle.lock_table.specs.Table.{ChangesLocks, KeepsLocks, NoFoeIn, IsFoeIn, of_session, all_but_last};
+ghost use Rattle.lock_table.specs.Table.{ChangesLocks, KeepsLocks, NoFoeIn, IsFoeIn, ArePairsOn, pair_at, of_session, all_but_last};
+
+mod pairs;
 
 use lock_modes::{KeyPart, Pair, RangePart, agree, join};
+pub use pairs::Pairs;
 use std::alloc::Global;
 use std::marker::Model;
 use step_model::{LAST_SESSION, Resource, Span, same_resource};
@@ -60,6 +63,17 @@ impl LockTable {
             pair = lock.added_to(pair, session, on);
         }
         pair
+    }
+
+    /// The pairs of all sessions on a resource, by one look at each lock.
+    pub fn pairs(&self, on: &Resource) -> Pairs
+        ensures { ArePairsOn on.now self.now result }
+    {
+        let mut pairs = Pairs::none();
+        for lock in &self.locks {
+            lock.add_to(&mut pairs, on);
+        }
+        pairs
     }
 
     /// The lowest other session whose pair does not agree with what is asked, with that pair.
@@ -217,6 +231,16 @@ impl SessionLock {
         ensures { result ≡ (not (self.now.session == session) || is_whole self.now.lock.span) }
     {
         self.session != session || matches!(self.span, Span::Transaction)
+    }
+
+    /// Joins this lock's pair to its session's, where it is on the resource.
+    fn add_to(&self, pairs: &mut Pairs, on: &Resource)
+        requires { IsSession self.now.session }
+        ensures { (who : ℕ) → pair_at who pairs.new ≡ (if self.now.session == who && is_same self.now.lock.on on.now then join_pairs (pair_at who pairs.old) self.now.lock.pair else pair_at who pairs.old) }
+    {
+        if same_resource(&self.on, on) {
+            pairs.add(self.session, self.pair);
+        }
     }
 
     /// A pair with this lock's, where it is one of the session on the resource.

@@ -12,6 +12,7 @@ pub mod Writings
 pub mod Ends
 pub mod Sets
 pub mod Sweeps
+pub mod Counts
 pub mod Walks
 pub mod Pending
 pub mod Owners  -- for the layers above

@@ -7,7 +7,7 @@
 //! a look-up takes only measurements show.
 #![tactic(auto)]
 
-ghost use Rattle.std.specs.Prelude.{◌≡◌, ◌≢◌, ℕ, [], None, Some, map, is_some, IfOk, IfErr, OnOk, OnErr};
+ghost use Rattle.std.specs.Prelude.{◌≡◌, ◌≢◌, ℕ, [], None, Some, map, length, is_some, IfOk, IfErr, OnOk, OnErr};
 ghost use Rattle.std.specs.List.{slice_get};
 ghost use Rattle.std.specs.Option.{option_copied, option_map};
 ghost use Rattle.step_model.specs.Entries.{next_entry, entry_at, row_at, put_entry, pending_of, changes_by};
@@ -169,6 +169,13 @@ impl RowStore {
         self.stored.retain(|stored| stored.is_kept());
     }
 
+    /// How many states the session has pending.
+    pub fn changes(&self, session: u32) -> u64
+        ensures { result ≡ length (pending_of session (entries_of self.now)) }
+    {
+        changes_in(&self.stored, session)
+    }
+
     /// What was pending before a mark that is above all of a session's states is what is pending now.
     pub fn law_pending_now(&self)
         ensures { (session : ℕ) (limit : ℕ) → AreBelow session limit self.now
@@ -177,6 +184,19 @@ impl RowStore {
         // Looking at the list opens the store: a state there is of its entry's table.
         let _count = self.stored.len();
     }
+}
+
+/// At how many entries a session has a state pending.
+fn changes_in(stored: &[Stored], session: u32) -> u64
+    ensures { result ≡ length (pending_of session (entries_of stored.now)) }
+{
+    let mut count = 0;
+    for one in stored {
+        if one.is_changed_by(session) {
+            count += 1;
+        }
+    }
+    count
 }
 
 /// The first entry of a table at which a range may begin.

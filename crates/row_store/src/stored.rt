@@ -1,12 +1,12 @@
 //! An entry as the store keeps it, and what the open transaction that has written there has done.
 
-ghost use Rattle.std.specs.Prelude.{◌≡◌, ◌==◌, ◌+◌, ◌<◌, ◌^◌, ◌∷◌, ◌++◌, [], Some, nat_lt, IfOk, OnOk, OnErr};
+ghost use Rattle.std.specs.Prelude.{◌≡◌, ◌==◌, ◌+◌, ◌<◌, ◌^◌, ◌∷◌, ◌++◌, [], Some, nat_lt, is_some, IfOk, OnOk, OnErr};
 ghost use Rattle.std.specs.List.{slice_get};
 ghost use Rattle.std.specs.LinkedList.{linked_list_len};
 ghost use Rattle.std.specs.Option.{option_copied, option_to_list};
 ghost use Rattle.std.specs.Ordering.{is_eq};
 ghost use Rattle.value_types.specs.Order.{table_cmp};
-ghost use Rattle.step_model.specs.Entries.{place_cmp, seen_by};
+ghost use Rattle.step_model.specs.Entries.{place_cmp, pending_by, seen_by};
 ghost use Rattle.row_store.specs.Rows.{entry_of};
 ghost use Rattle.row_store.specs.Writes.{state_at, new_stored, written, put_state, is_past, before_mark, back_stored, settled, dropped, is_kept, kept_row, kept_change, change_in};
 
@@ -316,6 +316,16 @@ impl Stored {
         ensures { result ≡ place_cmp table.now key.now (entry_of self.now) }
     {
         table.cmp(&self.table).then_with(|| key.cmp(&self.key))
+    }
+
+    /// Whether a session has a state pending here.
+    pub(crate) fn is_changed_by(&self, session: u32) -> bool
+        ensures { result ≡ is_some (pending_by session (entry_of self.now) (entry_of self.now).pending) }
+    {
+        match &self.work {
+            Some(work) if work.is_of(session) => work.latest().is_some(),
+            _ => false,
+        }
     }
 
     /// The row that a session sees here.

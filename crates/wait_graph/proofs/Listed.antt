@@ -4,7 +4,7 @@ use Rattle.std.specs.List.{AllByRecursion, Contains}
 use Rattle.std.proofs.lemmas.List.{get_or-replicate, length-replicate, map-append, map-set, get_or-map, length-map, take_more, replicate-append-replicate}
 use Rattle.std.proofs.lemmas.List.Elements.{Contains-append_left, Contains-push, Contains-push_cases}
 use Rattle.step_model.specs.declared.edge.Edge.{Edge}
-use Rattle.wait_graph.specs.Cycles.{Conflicts}
+use Rattle.step_model.specs.Cycles.{Conflicts}
 use Rattle.wait_graph.specs.Lists.{AreListed, lists, at_list, shown}
 use Rattle.std.specs.Borrow.{Bor}
 use Rattle.std.specs.Global.{Vec}

@@ -3,9 +3,9 @@ use Rattle.std.proofs.Common.{arith, ◌≡◌, ◌≢◌, ◌⊎◌, inl, inr, 
 use Rattle.std.proofs.lemmas.List.{get_or_default}
 use Rattle.std.proofs.lemmas.List.Folds.{Any-from_list_any, list_any_at}
 use Rattle.step_model.specs.declared.edge.Edge.{Edge}
-use Rattle.wait_graph.specs.declared.rank.Rank.{Rank}
-use Rattle.wait_graph.specs.Cycles.{waits_in}
-use Rattle.wait_graph.specs.Victims.{rank_of, FallsBefore, IsVictim}
+use Rattle.step_model.specs.declared.rank.Rank.{Rank}
+use Rattle.step_model.specs.Cycles.{is_waiter}
+use Rattle.step_model.specs.Victims.{rank_of, FallsBefore, IsVictim}
 
 -- a rank that is found is the session's
 pub rank_session : (session : ℕ) (ranks : List Rank) (rank : Rank) → rank_of session ranks ≡ Some rank → rank.session ≡ session
@@ -51,11 +51,11 @@ after_itself ranks first rank edge known none = by_test (edge.waiter == first.se
 -- a rank that is its session's, of a session that waits; and none of the edges before the place falls before it
 pub record First (edges : List Edge) (ranks : List Rank) (first : Rank) (place : ℕ) : Type 0 where
   pub known : rank_of first.session ranks ≡ Some first
-  pub waits : IsTrue (waits_in first.session edges)
+  pub waits : IsTrue (is_waiter first.session edges)
   pub before : (k : ℕ) (d : Edge) → k < place → IsAfter ranks first (get_or edges k d)
 
 -- the session of an edge's rank waits
-waits_at : (edges : List Edge) (ranks : List Rank) (k : ℕ) (edge : Edge) (rank : Rank) → k < length edges → edge ≡ get_or edges k edge → rank_of edge.waiter ranks ≡ Some rank → IsTrue (waits_in rank.session edges)
+waits_at : (edges : List Edge) (ranks : List Rank) (k : ℕ) (edge : Edge) (rank : Rank) → k < length edges → edge ≡ get_or edges k edge → rank_of edge.waiter ranks ≡ Some rank → IsTrue (is_waiter rank.session edges)
 waits_at edges ranks k edge rank below at known =
     list_any_at (λ other. rank.session == other.waiter) edges k edge below (subst (λ (e : Edge). (rank.session == e.waiter) ≡ true) at (eq-eqb rank.session edge.waiter (rank_session edge.waiter ranks rank known)))
 

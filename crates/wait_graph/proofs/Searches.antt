@@ -1,12 +1,13 @@
 -- The search: what was followed so far, and what it says in the end.
 use Rattle.std.proofs.Common.{arith, ◌≡◌, ◌≢◌, inl, inr, ℕ, ◌+◌, ◌<◌, ◌≤◌, ◌==◌, ◌||◌, Bool, true, false, List, [], ◌∷◌, ◌++◌, length, map, reverse, get_or, refl, sym, ap, ◌∙◌, subst, eqb-true, eq-eqb, below_more, length-append}
 use Rattle.std.specs.Global.{Vec}
-use Rattle.std.specs.Prelude.{Option, None, Some, IfSome}
+use Rattle.std.specs.Prelude.{Contains, Option, None, Some, IfSome}
 use Rattle.std.proofs.lemmas.List.{length-map, length-reverse, map-append, reverse-append}
 use Rattle.std.proofs.Math.ListN.{get_or-append}
 use Rattle.std.proofs.Math.Seq.{get_or-append_seam}
 use Rattle.step_model.specs.declared.edge.Edge.{Edge}
-use Rattle.wait_graph.specs.Cycles.{waits_in, AreAmong, IsCycleAt, HasNoCycle}
+use Rattle.step_model.specs.Cycles.{is_waiter, IsCycleAt, HasNoCycle}
+use Rattle.wait_graph.specs.Lists.{AreAmong}
 use Rattle.wait_graph.specs.Trails.{Trail, Known, IsTrail, Grows, HasWaiters, waiter_at, back_from}
 use Rattle.wait_graph.proofs.Trails.{back_cycle, back_none, back_some, trail_few}
 use Rattle.wait_graph.proofs.Backward.{none_through}
@@ -63,21 +64,21 @@ last_at : (ns : List ℕ) (n place : ℕ) → length ns ≡ place → get_or (ns
 last_at ns n place is = subst (λ (k : ℕ). get_or (ns ++ n ∷ []) k 0 ≡ n) is (get_or-append_seam ns n [] 0)
 
 -- who waits was found at a place
-found_at : (who : ℕ) (edges : List Edge) → waits_in who edges ≡ true → (k : ℕ) × (k < length edges) × (waiter_at k edges ≡ who)
+found_at : (who : ℕ) (edges : List Edge) → is_waiter who edges ≡ true → (k : ℕ) × (k < length edges) × (waiter_at k edges ≡ who)
 found_at who [] waits = absurd (let h : false ≡ true = waits in cc)
 found_at who (edge ∷ edges) waits = by_test (who == edge.waiter) refl waits (found_at who edges)
   where
     split : map (λ (edge : Edge). edge.waiter) (reverse (edge ∷ edges)) ≡ map (λ (edge : Edge). edge.waiter) (reverse edges) ++ edge.waiter ∷ []
     split = waiters_split (edge ∷ []) edges
 
-    by_test : (b : Bool) → (who == edge.waiter) ≡ b → (b || waits_in who edges) ≡ true → (waits_in who edges ≡ true → (k : ℕ) × (k < length edges) × (waiter_at k edges ≡ who)) → (k : ℕ) × (k < length (edge ∷ edges)) × (waiter_at k (edge ∷ edges) ≡ who)
+    by_test : (b : Bool) → (who == edge.waiter) ≡ b → (b || is_waiter who edges) ≡ true → (is_waiter who edges ≡ true → (k : ℕ) × (k < length edges) × (waiter_at k edges ≡ who)) → (k : ℕ) × (k < length (edge ∷ edges)) × (waiter_at k (edge ∷ edges) ≡ who)
     by_test true is there rest = (length edges, omega arith, ap (λ (ns : List ℕ). get_or ns (length edges) 0) split ∙ last_at (map (λ (edge : Edge). edge.waiter) (reverse edges)) edge.waiter (length edges) (waiters_count edges) ∙ sym (eqb-true who edge.waiter is))
     by_test false is there rest =
         let found = rest there in
         (found.0, (let less : found.0 < length edges = found.1 in omega arith), ap (λ (ns : List ℕ). get_or ns found.0 0) split ∙ get_or-append (map (λ (edge : Edge). edge.waiter) (reverse edges)) (edge.waiter ∷ []) 0 found.0 (rw waiters_count found.1) ∙ found.2)
 
 -- who was found at a place waits
-pub waiter_waits : (place : ℕ) (edges : List Edge) → place < length edges → waits_in (waiter_at place edges) edges ≡ true
+pub waiter_waits : (place : ℕ) (edges : List Edge) → place < length edges → is_waiter (waiter_at place edges) edges ≡ true
 waiter_waits place [] below = absurd (omega (arith, below))
 waiter_waits place (edge ∷ edges) below = by_test (place == length edges) refl (waiter_waits place edges)
   where
@@ -88,14 +89,14 @@ waiter_waits place (edge ∷ edges) below = by_test (place == length edges) refl
     or_behind true b is = refl
     or_behind false b is = is
 
-    by_test : (b : Bool) → (place == length edges) ≡ b → (place < length edges → waits_in (waiter_at place edges) edges ≡ true) → waits_in (waiter_at place (edge ∷ edges)) (edge ∷ edges) ≡ true
+    by_test : (b : Bool) → (place == length edges) ≡ b → (place < length edges → is_waiter (waiter_at place edges) edges ≡ true) → is_waiter (waiter_at place (edge ∷ edges)) (edge ∷ edges) ≡ true
     by_test true is rest =
         let here : waiter_at place (edge ∷ edges) ≡ edge.waiter = (ap (λ (ns : List ℕ). get_or ns place 0) split ∙ last_at (map (λ (edge : Edge). edge.waiter) (reverse edges)) edge.waiter place (waiters_count edges ∙ sym (eqb-true place (length edges) is))) in
-        ap (λ (b : Bool). b || waits_in (waiter_at place (edge ∷ edges)) edges) (eq-eqb (waiter_at place (edge ∷ edges)) edge.waiter here)
+        ap (λ (b : Bool). b || is_waiter (waiter_at place (edge ∷ edges)) edges) (eq-eqb (waiter_at place (edge ∷ edges)) edge.waiter here)
     by_test false is rest =
         let less : place < length edges = grind (arith, below, is) in
         let there : waiter_at place (edge ∷ edges) ≡ waiter_at place edges = (ap (λ (ns : List ℕ). get_or ns place 0) split ∙ get_or-append (map (λ (edge : Edge). edge.waiter) (reverse edges)) (edge.waiter ∷ []) 0 place (rw waiters_count less)) in
-        or_behind (waiter_at place (edge ∷ edges) == edge.waiter) (waits_in (waiter_at place (edge ∷ edges)) edges) (subst (λ (n : ℕ). waits_in n edges ≡ true) (sym there) (rest less))
+        or_behind (waiter_at place (edge ∷ edges) == edge.waiter) (is_waiter (waiter_at place (edge ∷ edges)) edges) (subst (λ (n : ℕ). is_waiter n edges ≡ true) (sym there) (rest less))
 
 closed : (all : List Edge) (session place : ℕ) (trail : Trail) → length trail.edges ≤ place → Searches all session place trail → (who : ℕ) → Known who session trail.edges → HasWaiters all who trail.edges
 closed all session place trail past so_far who (inl same) = subst (λ (n : ℕ). HasWaiters all n trail.edges) (sym same) so_far.first
@@ -104,27 +105,27 @@ closed all session place trail past so_far who (inr waits) =
     subst (λ (n : ℕ). HasWaiters all n trail.edges) found.2 (so_far.done found.0 (omega (arith, found.1, past)))
 
 -- at the end nothing that is not on the trail waits for what is
-pub nothing_back : (all : List Edge) (session place : ℕ) (trail : Trail) → length trail.edges ≤ place → Searches all session place trail → back_from trail.session trail.edges ≡ [] → HasNoCycle all session
-nothing_back all session place trail past so_far none = none_through all session trail.edges (closed all session place trail past so_far) (by_test (waits_in session trail.edges) refl)
+pub nothing_back : (all : List Edge) (session place : ℕ) (trail : Trail) → length trail.edges ≤ place → Searches all session place trail → back_from trail.session trail.edges ≡ [] → HasNoCycle (Contains all) session
+nothing_back all session place trail past so_far none = none_through all session trail.edges (closed all session place trail past so_far) (by_test (is_waiter session trail.edges) refl)
   where
-    by_test : (b : Bool) → waits_in session trail.edges ≡ b → b ≡ false
+    by_test : (b : Bool) → is_waiter session trail.edges ≡ b → b ≡ false
     by_test true waits = absurd (back_some session trail.edges waits (ap (λ (n : ℕ). back_from n trail.edges) (sym so_far.of_session) ∙ none))
     by_test false waits = refl
 
 -- what comes back is a cycle
-something_back : (all : List Edge) (session place : ℕ) (trail : Trail) → IsTrail trail.session trail.edges → Searches all session place trail → back_from trail.session trail.edges ≢ [] → IsCycleAt all session (back_from trail.session trail.edges)
-something_back all session place trail is so_far some = by_test (waits_in trail.session trail.edges) refl
+something_back : (all : List Edge) (session place : ℕ) (trail : Trail) → IsTrail trail.session trail.edges → Searches all session place trail → back_from trail.session trail.edges ≢ [] → IsCycleAt (Contains all) session (back_from trail.session trail.edges)
+something_back all session place trail is so_far some = by_test (is_waiter trail.session trail.edges) refl
   where
-    by_test : (b : Bool) → waits_in trail.session trail.edges ≡ b → IsCycleAt all session (back_from trail.session trail.edges)
-    by_test true waits = subst (λ (n : ℕ). IsCycleAt all n (back_from trail.session trail.edges)) so_far.of_session (back_cycle all trail.session trail.edges is so_far.among waits)
+    by_test : (b : Bool) → is_waiter trail.session trail.edges ≡ b → IsCycleAt (Contains all) session (back_from trail.session trail.edges)
+    by_test true waits = subst (λ (n : ℕ). IsCycleAt (Contains all) n (back_from trail.session trail.edges)) so_far.of_session (back_cycle all trail.session trail.edges is so_far.among waits)
     by_test false none = absurd (some (back_none trail.session trail.edges none))
 
 -- said of the edges that are handed out, if there are any
 pub cycle_handed : (all : List Edge) (session place : ℕ) (trail : Trail) (back : List Edge) (handed : Option (Vec Edge)) → IsTrail trail.session trail.edges → Searches all session place trail → back ≡ back_from trail.session trail.edges
-    → IfSome handed (λ kept. (kept.items ≡ back) × (back ≢ [])) → IfSome handed (λ cycle. IsCycleAt all session cycle.items)
+    → IfSome handed (λ kept. (kept.items ≡ back) × (back ≢ [])) → IfSome handed (λ cycle. IsCycleAt (Contains all) session cycle.items)
 cycle_handed all session place trail back None is so_far same some = some
 cycle_handed all session place trail back (Some kept) is so_far same some =
-    subst (IsCycleAt all session) (sym (some.0 ∙ same)) (something_back all session place trail is so_far (λ none. some.1 (same ∙ none)))
+    subst (IsCycleAt (Contains all) session) (sym (some.0 ∙ same)) (something_back all session place trail is so_far (λ none. some.1 (same ∙ none)))
 
 -- a trail is no longer than the edges
 pub few : (all : List Edge) (session place : ℕ) (trail : Trail) → IsTrail trail.session trail.edges → Searches all session place trail → length trail.edges ≤ length all

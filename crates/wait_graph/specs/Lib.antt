@@ -1,6 +1,5 @@
--- Read in this order; the comment behind a name says what the file is for.
-pub mod Cycles  -- IsCycle: edges of sessions that wait for one another in a circle
-pub mod Victims  -- IsVictim: who of a cycle falls
+-- What the public clauses cite stands in step_model: its files Cycles and Victims.
+
 -- For private contracts alone
+pub mod Lists  -- given edges, and those edges by the session that stands in the way
 pub mod Trails  -- edges that lead to a session, as the search gathers them
-pub mod Lists  -- edges by the session that stands in the way

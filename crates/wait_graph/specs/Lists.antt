@@ -1,12 +1,17 @@
--- Own, for private contracts alone: edges in lists by their holders. A session's list is found by its number,
+-- Own, for private contracts alone: given edges, and those that conflict in lists by their holders. A session's list is found by its number,
 -- and may have other sessions' edges too.
 use Rattle.std.specs.Prelude.{◌≡◌, ◌<◌, ◌%◌, ℕ, List, [], length, map, slice_index_or}
 use Rattle.std.specs.List.{AllByRecursion, Contains}
 use Rattle.std.specs.Borrow.{Bor}
 use Rattle.std.specs.Global.{Vec}
 use Rattle.step_model.specs.declared.edge.Edge.{Edge}
-use Rattle.wait_graph.specs.Cycles.{Conflicts}
+use Rattle.step_model.specs.Cycles.{Conflicts}
 
+-- these edges are all among those
+abbrev pub AreAmong : List Edge → List Edge → Type 0
+AreAmong some all = AllByRecursion (Contains all) some
+
+-- how many lists there are
 abbrev pub lists : ℕ
 lists = 64
 

@@ -1,7 +1,7 @@
 //! Cycles through a session.
 
-ghost use Rattle.std.specs.Prelude.{◌≡◌, ◌≢◌, [], Ok, None, IfOk, IfSome};
-ghost use Rattle.wait_graph.specs.Cycles.{IsCycleAt, HasNoCycle};
+ghost use Rattle.std.specs.Prelude.{◌≡◌, ◌≢◌, [], Contains, Ok, None, IfOk, IfSome};
+ghost use Rattle.step_model.specs.Cycles.{IsCycleAt, HasNoCycle};
 
 use crate::holders::by_holder;
 use crate::trail::Trail;
@@ -16,8 +16,8 @@ pub fn cycle_through(
     edges: &[Edge],
     session: u32,
 ) -> Result<Option<Vec<Edge>>, Memory>
-    ensures found { IfOk result (λ found. IfSome found (λ cycle. IsCycleAt edges.now session cycle.items)) }
-    ensures none { result ≡ Ok None → HasNoCycle edges.now session }
+    ensures found { IfOk result (λ found. IfSome found (λ cycle. IsCycleAt (Contains edges.now) session cycle.items)) }
+    ensures none { result ≡ Ok None → HasNoCycle (Contains edges.now) session }
 {
     let waiting = by_holder(alloc, edges)?;
     let mut trail = Trail::new(alloc, session);

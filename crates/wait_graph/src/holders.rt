@@ -1,7 +1,7 @@
 //! Edges in lists by the session that stands in the way.
 
 ghost use Rattle.std.specs.Prelude.{◌≡◌, ◌↔◌, ◌%◌, ◌<◌, ℕ, [], length, replicate, IsTrue, IfOk};
-ghost use Rattle.wait_graph.specs.Cycles.{Conflicts};
+ghost use Rattle.step_model.specs.Cycles.{Conflicts};
 ghost use Rattle.wait_graph.specs.Lists.{AreListed, shown, lists};
 
 use lock_modes::agree;

@@ -1,7 +1,8 @@
 //! The edges by which sessions wait for one session, directly or behind others.
 
 ghost use Rattle.std.specs.Prelude.{◌≡◌, ◌<◌, List, [], length, OnOk, IfOk};
-ghost use Rattle.wait_graph.specs.Cycles.{Conflicts, AreAmong};
+ghost use Rattle.step_model.specs.Cycles.{Conflicts};
+ghost use Rattle.wait_graph.specs.Lists.{AreAmong};
 ghost use Rattle.wait_graph.specs.Trails.{IsBehind, IsTrail, Grows, HasWaiters, with_step, waiter_at, back_from};
 ghost use Rattle.wait_graph.specs.Lists.{AreListed, shown};
 ghost use Rattle.step_model.specs.declared.edge.Edge.{Edge};
@@ -26,14 +27,14 @@ impl<'a> Model for Trail<'a> {
     ghost use Rattle.std.specs.Prelude.{◌≡◌, ℕ, map, reverse};
     ghost use Rattle.std.specs.Ordering.{nat_cmp};
     ghost use Rattle.std.specs.BTreeSet as tree;
-    ghost use Rattle.wait_graph.specs.Cycles.{waits_in};
+    ghost use Rattle.step_model.specs.Cycles.{is_waiter};
     ghost use Rattle.wait_graph.specs.Trails.{Trail as OfSession, IsTrail};
 
     ghost Value = { OfSession };
 
     ghost view = { λ trail. record { session = trail.session; edges = reverse (map (λ step. step.now) trail.steps.items) } };
 
-    ghost invariant = { λ trail. IsTrail trail.session (reverse (map (λ step. step.now) trail.steps.items)) × ((who : ℕ) → tree.contains nat_cmp trail.waiters who ≡ waits_in who (reverse (map (λ step. step.now) trail.steps.items))) };
+    ghost invariant = { λ trail. IsTrail trail.session (reverse (map (λ step. step.now) trail.steps.items)) × ((who : ℕ) → tree.contains nat_cmp trail.waiters who ≡ is_waiter who (reverse (map (λ step. step.now) trail.steps.items))) };
 }
 
 impl<'a> Trail<'a> {
@@ -105,22 +106,9 @@ impl<'a> Trail<'a> {
         for step in self.steps.iter().rev() {
             if step.waiter == wanted {
                 wanted = step.holder;
-                edges.push(copy_of(self.alloc, step)?)?;
+                edges.push(step.copy(self.alloc)?)?;
             }
         }
         Ok(edges)
     }
-}
-
-/// The same edge.
-fn copy_of(alloc: Global, edge: &Edge) -> Result<Edge, Memory>
-    ensures { IfOk result (λ copy. copy ≡ edge.now) }
-{
-    Ok(Edge {
-        waiter: edge.waiter,
-        asked: edge.asked,
-        on: edge.on.copy(alloc)?,
-        holder: edge.holder,
-        held: edge.held,
-    })
 }

@@ -2,7 +2,8 @@ use Rattle.std.proofs.Common.{arith, ◌≡◌, ◌∙◌, ◌<◌, ℕ, None, t
 use Rattle.std.specs.Borrow.{Bor}
 use Rattle.std.specs.Global.{Vec}
 use Rattle.step_model.specs.declared.edge.Edge.{Edge}
-use Rattle.wait_graph.specs.Cycles.{AreAmong, waits_in}
+use Rattle.step_model.specs.Cycles.{is_waiter}
+use Rattle.wait_graph.specs.Lists.{AreAmong}
 use Rattle.wait_graph.specs.Lists.{AreListed, shown}
 use Rattle.wait_graph.proofs.Searches.{searches_first, searches_more, nothing_back, cycle_handed, few, waiter_waits}
 use Rattle.wait_graph.proofs.cycle.cycle_through.Goals as goal
@@ -15,7 +16,7 @@ loop-next-init c =
 
 pub follow-requires-in-loop-next-clause-behind : goal.follow-requires-in-loop-next-clause-behind
 follow-requires-in-loop-next-clause-behind c =
-    inr (subst (λ (n : ℕ). waits_in n c.loop-next.trail.edges ≡ true) (sym c.waiter-holder.ensures) (waiter_waits c.loop-next.next c.loop-next.trail.edges (subst (λ (n : ℕ). c.loop-next.next < n) c.len.ensures.count c.loop-next-test.true)))
+    inr (subst (λ (n : ℕ). is_waiter n c.loop-next.trail.edges ≡ true) (sym c.waiter-holder.ensures) (waiter_waits c.loop-next.next c.loop-next.trail.edges (subst (λ (n : ℕ). c.loop-next.next < n) c.len.ensures.count c.loop-next-test.true)))
 
 pub loop-next-smaller : goal.loop-next-smaller
 loop-next-smaller c =

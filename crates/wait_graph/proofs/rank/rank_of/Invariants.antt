@@ -1,5 +1,5 @@
 use Rattle.std.proofs.Common.{◌≡◌, drop}
-use Rattle.wait_graph.specs.Victims.{rank_of}
+use Rattle.step_model.specs.Victims.{rank_of}
 use Rattle.wait_graph.proofs.rank.rank_of.Given as goal
 
 abbrev pub invariant-loop-rank : goal.invariant-loop-rank

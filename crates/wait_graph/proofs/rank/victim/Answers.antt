@@ -1,6 +1,6 @@
 use Rattle.std.proofs.Common.{◌≡◌, true, false, sym, ap, ◌∙◌}
 use Rattle.step_model.specs.declared.edge.Edge.{Edge}
-use Rattle.wait_graph.specs.Victims.{rank_of}
+use Rattle.step_model.specs.Victims.{rank_of}
 use Rattle.wait_graph.proofs.Ranks.{some_below, first_any, first_sooner, first_stays, victim_found}
 use Rattle.wait_graph.proofs.rank.victim.Goals as goal
 use Rattle.wait_graph.proofs.rank.victim.Goals.{then-falls_before, else-falls_before}

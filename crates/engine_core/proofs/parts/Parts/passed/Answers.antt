@@ -1,12 +1,11 @@
 use Rattle.engine_core.proofs.Showing.{no_foe_shown, foe_shown}
-use Rattle.engine_core.proofs.Refused.{refusal_steps}
 use Rattle.engine_core.proofs.parts.Parts.passed.Goals as goal
 
 pub returns-in-None-clause-passes : goal.returns-in-None-clause-passes
 returns-in-None-clause-passes c = rw (← c.self.view_is, ← c.on.ensures, ← c.pair.ensures)
     (no_foe_shown c.self.inside.rows c.self.inside.locks c.self.inside.active.items c.self.inside.log.items c.self.invariant.idle c.args.session _ _ (c.foe.ensures.free c.in-None.is))
 
-pub returns-in-Some-clause-refused : goal.returns-in-Some-clause-refused
-returns-in-Some-clause-refused c op is manner patient =
+pub returns-in-Some-clause-foe : goal.returns-in-Some-clause-foe
+returns-in-Some-clause-foe c =
     let foe = foe_shown c.self.inside.rows c.self.inside.locks c.self.inside.active.items c.self.inside.log.items c.self.invariant.idle c.args.session c.args.claim.on c.args.claim.pair _ _ (rw (← c.on.ensures, ← c.pair.ensures) c.in-Some.ensures.foe) in
-    rw c.refusal.ensures (refusal_steps c.args.self.now c.args.session c.args.claim c.in-Some.holder c.in-Some.held c.args.patience (rw (← c.self.view_is) foe) op is manner patient)
+    rw (← c.self.view_is) foe

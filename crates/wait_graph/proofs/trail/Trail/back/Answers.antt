@@ -5,7 +5,7 @@ use Rattle.wait_graph.proofs.trail.Trail.back.Goals as goal
 
 pub loop-step-preserved-in_ok-push : goal.loop-step-preserved-in_ok-push
 loop-step-preserved-in_ok-push c =
-    let both = took c.self.inside.session c.loop-step.wanted c.loop-step.yielded c.in-Some.step c.loop-step.edges.items c.push.new.self.items c.in_ok-copy_of.field-0 c.loop-step.invariant.edges c.loop-step.invariant.wanted c.if-step-wanted.true c.in_ok-copy_of.ensures c.in_ok-push.ensures.items in
+    let both = took c.self.inside.session c.loop-step.wanted c.loop-step.yielded c.in-Some.step c.loop-step.edges.items c.push.new.self.items c.in_ok-copy.field-0 c.loop-step.invariant.edges c.loop-step.invariant.wanted c.if-step-wanted.true c.in_ok-copy.ensures c.in_ok-push.ensures.items in
     record { edges = both.0; wanted = both.1 }
 
 pub loop-step-preserved : goal.loop-step-preserved

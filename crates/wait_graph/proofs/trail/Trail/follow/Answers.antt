@@ -1,6 +1,6 @@
 use Rattle.std.proofs.Common.{ℕ, ◌<◌, ◌%◌, sym, subst}
 use Rattle.std.specs.List.{AllByRecursion, Contains}
-use Rattle.wait_graph.specs.Cycles.{Conflicts}
+use Rattle.step_model.specs.Cycles.{Conflicts}
 use Rattle.wait_graph.specs.Lists.{shown, lists}
 use Rattle.wait_graph.specs.Trails.{IsBehind}
 use Rattle.wait_graph.proofs.Follows.{follows_none, follows_one, follows_other, followed, list_looked, item_of_list, grows_behind}
