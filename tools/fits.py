@@ -1,7 +1,7 @@
 #!/usr/bin/env python3
 """Tries many sessions at random: makes scripts for `tsqld steps`, and tests every reply against what it
 says of the log, on whole maps from keys to rows. It knows no entry, no lock and no mark of the engine: only
-what docs/ENGINE.md says under "What the replies say of the log".
+what docs/ENGINE.md says under "What the replies say of the log", and who of a circle falls.
 
     tools/fits.py PROGRAM [--attempts N] [--seed S] [--lines L]
 
@@ -28,7 +28,8 @@ class Unfit(Exception):
 
 
 class Maker:
-    """Makes one script. Begin, the ends and the marks always pass, so where sessions stand is known."""
+    """Makes one script. Begin, the ends and the marks mostly pass, so it is mostly known where sessions stand:
+    but a session that fell is told so, and its operation is not done."""
 
     def __init__(self, rand, sessions):
         self.rand = rand
@@ -50,7 +51,7 @@ class Maker:
     def command(self, session):
         rand = self.rand
         if rand.random() < 0.04:
-            return rand.choice(("patience none", "patience forever", "priority -5"))
+            return rand.choice(("patience none", "patience forever", "patience forever", f"priority {rand.randint(-2, 2)}"))
         if self.marks[session] is None:
             self.marks[session], self.made[session] = [], 0
             return "begin"
@@ -156,29 +157,49 @@ class Session:
 
     def __init__(self, number):
         self.number = number
-        self.patience = "forever"
+        self.patience, self.priority = "forever", 0
         self.least = 0
+        self.asked_with, self.closed = 0, []
         self.end()
 
     def end(self):
         self.own, self.marks, self.later, self.sure, self.fetched = None, {}, [], {}, []
 
+    def may_come(self, words):
+        """Whether the operation may come where the session stands."""
+        if words[0] in ("patience", "priority"):
+            return True
+        if words[0] == "back":
+            return self.own is not None and int(words[1]) in self.marks
+        return (words[0] == "begin") == (self.own is None)
+
+    def rank(self):
+        """Of a circle the session with the lowest falls."""
+        cost = len({(table, key) for table, key, _, _ in self.own})
+        return self.asked_with, cost, -self.number
+
     def number_rises(self, number, log):
         need(self.least <= number <= len(log), "a number falls, or is above the log's length")
         self.least = number
 
-    def take(self, words, reply, log):
+    def take(self, words, reply, log, waits):
+        if words[0] not in ("patience", "priority"):
+            waits.ends(self)
         if reply[0] in ("wait", "timeout"):
             need(int(reply[1]) != self.number, "a session stands in its own way")
             need((reply[0] == "timeout") == (self.patience == "none"), "refused though patient")
+            if reply[0] == "wait":
+                waits.begins(self)
             return
+        if reply[0] == "victim":
+            return waits.tells(self, words, reply[1:])
         getattr(self, "take_" + words[0])(words, reply, log)
 
     def take_patience(self, words, reply, log):
         self.patience = words[1]
 
     def take_priority(self, words, reply, log):
-        pass
+        self.priority = int(words[1])
 
     def take_begin(self, words, reply, log):
         need(reply == ["began"], "not begun")
@@ -270,6 +291,48 @@ class Session:
         self.end()
 
 
+class Waits:
+    """Who waits, and what there was to choose from when another's wait began: who fell then is told later."""
+
+    def __init__(self):
+        self.standing = {}
+
+    def ranks(self):
+        return {number: session.rank() for number, session in self.standing.items()}
+
+    def ends(self, session):
+        self.standing.pop(session.number, None)
+
+    def begins(self, session):
+        session.asked_with, session.closed = session.priority, []
+        others = list(self.standing.values())
+        self.standing[session.number] = session
+        for other in others:
+            other.closed.append((session.number, self.ranks()))
+
+    def tells(self, session, words, edges):
+        """A session is told that it was the victim of a circle, which the first of its sessions closed."""
+        circle = [tuple(map(int, edge.split(">"))) for edge in edges]
+        waiters = [waiter for waiter, _ in circle]
+        need(words[0] != "rollback", "who rolls back is told that it fell")
+        need(len(set(waiters)) == len(circle) > 1, "no circle")
+        need([holder for _, holder in circle] == waiters[1:] + waiters[:1], "no circle")
+        need(session.number in waiters, "a victim outside its circle")
+        if waiters[0] == session.number:
+            need(session.patience == "forever", "who is not patient fell")
+            session.asked_with = session.priority
+            closed = [self.ranks() | {session.number: session.rank()}]
+        else:
+            closed = [ranks for closer, ranks in session.closed if closer == waiters[0]]
+            session.closed = []
+        need(any(falls(ranks, waiters, session.number) for ranks in closed), "another should have fallen")
+
+
+def falls(ranks, waiters, number):
+    """Of those that waited, the one with the lowest rank falls."""
+    return all(waiter in ranks for waiter in waiters) and min(waiters, key=ranks.get) == number
+
+
 def need(holds, what):
     if not holds:
         raise Unfit(what)
@@ -277,16 +340,18 @@ def need(holds, what):
 
 def try_script(lines, replies, seen):
     """Tests the replies to a script."""
-    log, sessions = Log(), {}
+    log, waits, sessions = Log(), Waits(), {}
     need(len(lines) == len(replies), f"{len(replies)} replies to {len(lines)} lines")
     for at, (line, reply) in enumerate(zip(lines, replies)):
         number, *words = line.split(" ")
         who, *said = reply.split(" ")
         try:
             need(who == number, "the reply is another session's")
-            need(said != ["not", "now"], "not now, though it may be asked")
+            session = sessions.setdefault(number, Session(int(number)))
+            need((said == ["not", "now"]) != session.may_come(words), "what may be asked now is another")
             seen[said[0]] += 1
-            sessions.setdefault(number, Session(int(number))).take(words, said, log)
+            if said != ["not", "now"]:
+                session.take(words, said, log, waits)
         except Unfit as fault:
             raise Unfit(f"line {at + 1}, `{line}` answered `{reply}`: {fault}") from None
     for session in sessions.values():

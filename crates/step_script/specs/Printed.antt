@@ -3,8 +3,9 @@ use Rattle.std.specs.Prelude.{ℕ, Bool, List, [], ◌∷◌, ◌++◌, codes, i
 use Rattle.std.specs.Fmt.{decimal, signed_decimal}
 use Rattle.value_types.specs.declared.value.Value.{Value}
 use Rattle.value_types.specs.declared.value.Value.TheVariants.{Null, Whole, Bit, Text}
+use Rattle.step_model.specs.declared.edge.Edge.{Edge}
 use Rattle.step_model.specs.declared.reply.Reply.{Reply}
-use Rattle.step_model.specs.declared.reply.Reply.TheVariants.{Began, Row, Gone, End, Done, Exists, Missing, Marked, Ended, Wait, TimedOut, Memory}
+use Rattle.step_model.specs.declared.reply.Reply.TheVariants.{Began, Row, Gone, End, Done, Exists, Missing, Marked, Ended, Wait, TimedOut, Victim, Memory}
 
 -- a number of a key or a row; no script stores another value, and such a one is printed by its kind (own)
 abbrev pub value_text : Value → List ℕ
@@ -17,6 +18,11 @@ value_text (Text units) = codes "text"
 abbrev pub values_text : List Value → List ℕ
 values_text [] = []
 values_text (value ∷ values) = codes " " ++ value_text value ++ values_text values
+
+-- edges, each behind a space: who waits, and for whom
+abbrev pub edges_text : List Edge → List ℕ
+edges_text [] = []
+edges_text (edge ∷ edges) = codes " " ++ decimal edge.waiter ++ codes ">" ++ decimal edge.holder ++ edges_text edges
 
 -- the words of a reply
 unfoldable pub reply_text : Reply → List ℕ
@@ -31,6 +37,7 @@ reply_text (Marked mark) = codes "marked " ++ decimal mark
 reply_text (Ended place) = codes "ended " ++ decimal place
 reply_text (Wait holder) = codes "wait " ++ decimal holder
 reply_text (TimedOut holder held asked on) = codes "timeout " ++ decimal holder
+reply_text (Victim cycle) = codes "victim" ++ edges_text cycle
 reply_text Memory = []
 
 -- a line of a session

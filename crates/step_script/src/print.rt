@@ -1,10 +1,10 @@
 //! The printed lines.
 
 ghost use Rattle.std.specs.Prelude.{◌≡◌, ◌++◌, string_bytes, IfOk, OnErr};
-ghost use Rattle.step_script.specs.Printed.{printed_of, reply_text, values_text, value_text, line_text};
+ghost use Rattle.step_script.specs.Printed.{printed_of, reply_text, values_text, value_text, edges_text, line_text};
 
 use std::alloc::Global;
-use step_model::Reply;
+use step_model::{Edge, Reply};
 use value_types::{Memory, Value};
 
 /// Appends the line that a reply to a session is printed as. Where memory is wanting nothing is appended.
@@ -57,6 +57,10 @@ fn reply_text(alloc: Global, reply: &Reply) -> Result<String, Memory>
         Reply::Ended { place } => format!(in alloc; "ended {place}")?,
         Reply::Wait { holder } => format!(in alloc; "wait {holder}")?,
         Reply::TimedOut { holder, .. } => format!(in alloc; "timeout {holder}")?,
+        Reply::Victim { cycle } => {
+            let edges = edges_text(alloc, cycle.as_slice())?;
+            format!(in alloc; "victim{edges}")?
+        }
         Reply::Memory => String::new(alloc),
     })
 }
@@ -69,6 +73,18 @@ fn values_text(alloc: Global, values: &[Value]) -> Result<String, Memory>
     for value in values {
         let word = value_text(alloc, value)?;
         text.push_str(" ")?;
+        text.push_str(word.as_str())?;
+    }
+    Ok(text)
+}
+
+/// Edges, each behind a space.
+fn edges_text(alloc: Global, edges: &[Edge]) -> Result<String, Memory>
+    ensures { IfOk result (λ text. string_bytes text ≡ edges_text edges.now) }
+{
+    let mut text = String::new(alloc);
+    for edge in edges {
+        let word = format!(in alloc; " {}>{}", edge.waiter, edge.holder)?;
         text.push_str(word.as_str())?;
     }
     Ok(text)
