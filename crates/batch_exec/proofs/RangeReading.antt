@@ -94,6 +94,7 @@ module _ {before now : PortPast} {table : TableName} {hold : Hold} {old mid : Se
       by_reply_of (replies.Row key row at) reads leads = subst (λ (n : ℕ). Did before next (all_rows table hold) old (Ok (Err n)) q) (sym reads) (leads_to (leads_room false _ leads) (does_over refl))
       by_reply_of replies.Memory reads leads = subst (λ (n : ℕ). Did before next (all_rows table hold) old (Ok (Err n)) q) (sym reads) (leads_to leads (does_over refl))
       by_reply_of (replies.TimedOut holder held wanted on) reads leads = subst (λ (n : ℕ). Did before next (all_rows table hold) old (Ok (Err n)) q) (sym reads) (leads_to leads (does_over refl))
+      by_reply_of (replies.Victim cycle) reads leads = subst (λ (n : ℕ). Did before next (all_rows table hold) old (Ok (Err n)) q) (sym reads) (leads_to leads (does_over refl))
       by_reply_of reply reads leads = absurd reads
 
   pub reading_left : {next : PortPast} (left : ℕ) {fetch : Op} {rows more : Rows} {number : ℕ} {q : SessionProgress} (result : Result Rows ℕ) → IsErr result → IsErrAnd result (λ x. x ≡ number) → 0 < left → (reading : Reading before now table hold old left fetch rows mid)

@@ -8,7 +8,7 @@ use Rattle.step_model.specs.declared.range.Start.TheVariants.{Past}
 use Rattle.step_model.specs.declared.range.Stop.TheVariants.{Last}
 use Rattle.step_model.specs.declared.reply.Reply.{Reply}
 use Rattle.step_model.specs.declared.reply.Reply.TheVariants as replies
-use Rattle.step_model.specs.Ranges.{Rows, with_row, no_memory, lock_timeout}
+use Rattle.step_model.specs.Ranges.{Rows, with_row, no_memory, lock_timeout, deadlock}
 use Rattle.step_model.specs.Port.{PortPast}
 use Rattle.batch_meaning.specs.Progress.{SessionProgress}
 use Rattle.batch_meaning.specs.Doing.{Exchanged}
@@ -32,6 +32,7 @@ Gathers (replies.Gone key at) old (Ok (Some last)) new = (last ≡ key) × (new 
 Gathers (replies.End at) old (Ok None) new = new ≡ old
 Gathers replies.Memory old (Err number) new = number ≡ no_memory
 Gathers (replies.TimedOut holder held wanted on) old (Err number) new = number ≡ lock_timeout
+Gathers (replies.Victim cycle) old (Err number) new = number ≡ deadlock
 Gathers reply old result new = ⊥
 
 -- a fetch was asked, and its reply read so

@@ -1,10 +1,10 @@
 //! Batches run over any port: a session's state, and the statements of a batch asked of the session's port.
 //!
 //! What they mean stands in `batch_meaning`. The layer above relies on [`run_batch`]: what is asked, and what comes
-//! of the replies, is the meaning of the batch, or a front of it where memory is wanting; and on
-//! [`read_statements`], which gives the statements that a text is read as. They ask of their caller a session
-//! that agrees with its port on whether a transaction is open, as [`SessionState::new`] does with an idle one.
-//! Only tests show that memory is not said to be wanting where there is enough.
+//! of the replies, is the meaning of the batch, or a front of it where memory is wanting. It asks of its caller
+//! a session that agrees with its port on whether a transaction is open, as [`SessionState::new`] does with an
+//! idle one. Which statements a text is read as is told by `batch_forms`. Only tests show that memory is not
+//! said to be wanting where there is enough.
 #![tactic(auto)]
 
 mod numbers;
@@ -12,10 +12,8 @@ mod ranges;
 mod state;
 mod statement;
 mod tables;
-mod text;
 mod tokens;
 
 pub use state::SessionState;
 pub use statement::run_batch;
-pub use text::read_statements;
 pub use tokens::error_of;

@@ -6,6 +6,9 @@ pub(crate) const UNKNOWN_TABLE: u16 = 208;
 /// The error where memory was wanting for a statement.
 pub(crate) const NO_MEMORY: u16 = 701;
 
+/// The error of a session that fell as a deadlock's victim.
+pub(crate) const DEADLOCK: u16 = 1205;
+
 /// The error where a lock of another session stands in the way of one that does not wait.
 pub(crate) const LOCK_TIMEOUT: u16 = 1222;
 

@@ -9,7 +9,7 @@ ghost use Rattle.batch_exec.specs.Fetched.{fetch_past, ReadsRange, IsRead};
 ghost use Rattle.batch_meaning.specs.Progress.{Ready};
 ghost use Rattle.batch_meaning.specs.Tables.{row_fits};
 
-use crate::numbers::{LOCK_TIMEOUT, NO_MEMORY, RANGE_FULL};
+use crate::numbers::{DEADLOCK, LOCK_TIMEOUT, NO_MEMORY, RANGE_FULL};
 use crate::state::SessionState;
 use crate::tables::row_fits;
 use batch_meaning::RowList;
@@ -80,6 +80,7 @@ fn read_next<P: Port>(
         Reply::End { .. } => Ok(None),
         Reply::Memory => Err(NO_MEMORY),
         Reply::TimedOut { .. } => Err(LOCK_TIMEOUT),
+        Reply::Victim { .. } => Err(DEADLOCK),
         _ => unreachable!(),
     }
 }

@@ -1,37 +1,35 @@
 //! What a batch runs: its statements, one after another.
 
-ghost use Rattle.std.specs.Prelude.{◌≡◌, true, false, Result, Ok, IfOk};
+ghost use Rattle.std.specs.Prelude.{◌≡◌, true, false, Ok, IfOk};
 ghost use Rattle.step_model.specs.declared.op.Hold.TheVariants as hold;
 ghost use Rattle.lock_modes.specs.declared.KeyPart.TheVariants.{S};
 ghost use Rattle.step_model.specs.declared.op.Op.TheVariants as ops;
 ghost use Rattle.step_model.specs.declared.range.Start.TheVariants.{At};
 ghost use Rattle.step_model.specs.declared.range.Stop.TheVariants.{Within};
-ghost use Rattle.batch_meaning.specs.Doing.{Did, over, asks};
-ghost use Rattle.tsql_tree.specs.declared.definition.Definition.{Definition as DefinitionTree};
-ghost use Rattle.query_parser.specs.declared.fault.ParseFault.{ParseFault as Fault};
-ghost use Rattle.stmt_parser.specs.Parsed.{DefinitionOf};
-ghost use Rattle.batch_meaning.specs.Meaning.{object_present, unless_refused, known, look_up, reads_rows, placed, marked, puts, creates, inserts, selects, work_of, relaxes, closes, own, unless_objects, came_of, defined, ended_by, action_for, acted, finished, means, each_of, batch};
+ghost use Rattle.batch_meaning.specs.Doing.{Did, asks};
+ghost use Rattle.batch_meaning.specs.Meaning.{object_present, unless_refused, known, look_up, reads_rows, placed, marked, puts, creates, inserts, selects, work_of, relaxes, closes, own, unless_objects, came_of, ended_by, action_for, acted, finished, means, each_of, batch};
 ghost use Rattle.batch_exec.specs.Sendable.{AreTableRows, IsSendable};
 ghost use Rattle.batch_meaning.specs.Progress.{Ready};
+ghost use Rattle.batch_exec.specs.Defining.{DefinedBy, IsRead};
 ghost use Rattle.batch_meaning.specs.Tokens.{duplicate_key};
-ghost use Rattle.batch_meaning.specs.Tables.{table_of, objects_name, object_key, object_row, table_key, table_row};
+ghost use Rattle.batch_meaning.specs.Tables.{text_in, table_of, objects_name, object_key, object_row, table_key, table_row};
 
 use crate::numbers::{
-    DUPLICATE_KEY, LOCK_TIMEOUT, NO_MEMORY, NOT_BUILT, OBJECT_PRESENT, RESULT_FULL,
+    DEADLOCK, DUPLICATE_KEY, LOCK_TIMEOUT, NO_MEMORY, NOT_BUILT, OBJECT_PRESENT, RESULT_FULL,
     STATEMENTS_SPENT, UNKNOWN_TABLE,
 };
 use crate::ranges::read_rows;
 use crate::state::SessionState;
 use crate::tables::{
-    defines, is_objects, object_key, object_row, objects, table, table_key, table_row, text_in,
+    is_objects, object_key, object_row, objects, table, table_key, table_row, text_in,
 };
 use crate::tokens::{batch_done, effect_tokens, failure_tokens};
+use batch_forms::is_definition;
 use batch_meaning::{Effect, Exit, Form, RowList, Served};
 use error_table::{Action, RaisedBy, action_of};
 use lock_modes::KeyPart;
 use std::alloc::Global;
 use step_model::{Hold, Op, Port, Reply, Start, Stop};
-use stmt_parser::{ParseFault, parse_definition};
 use value_types::{Key, Memory, Row, TableName, Units};
 
 /// How many rows a result has at most.
@@ -408,32 +406,34 @@ fn find<P: Port>(
         part: KeyPart::S,
     };
     match session.ask(port, &fetch) {
-        Reply::Row { key, row, .. } => match text_in(name, &key, &row) {
-            Some(text) => define(alloc, name, text),
-            None => Err(UNKNOWN_TABLE),
-        },
+        Reply::Row { key, row, .. } => define_in(alloc, name, &key, &row),
         Reply::Gone { .. } => Err(UNKNOWN_TABLE),
         Reply::End { .. } => Err(UNKNOWN_TABLE),
         Reply::Memory => Err(NO_MEMORY),
         Reply::TimedOut { .. } => Err(LOCK_TIMEOUT),
+        Reply::Victim { .. } => Err(DEADLOCK),
         _ => unreachable!(),
+    }
+}
+
+/// Reads the text in a row as that of the definition of a table of this name.
+fn define_in(alloc: Global, name: &Units, key: &Key, row: &Row) -> Result<(), u16>
+    ensures { DefinedBy name.now (text_in name.now key.now row.now) result }
+{
+    match text_in(name, key, row) {
+        Some(text) => define(alloc, name, text),
+        None => Err(UNKNOWN_TABLE),
     }
 }
 
 /// Reads a text as that of the definition of a table of this name.
 fn define(alloc: Global, name: &Units, text: &Units) -> Result<(), u16>
-    ensures defined { (outcome : Result DefinitionTree Fault) × DefinitionOf text.now outcome × (defined name.now outcome ≡ over result) }
+    ensures read { IsRead name.now text.now result }
 {
-    match parse_definition(alloc, text) {
-        Ok(definition) => {
-            if defines(name, &definition) {
-                Ok(())
-            } else {
-                Err(UNKNOWN_TABLE)
-            }
-        }
-        Err(ParseFault::Refused { .. }) => Err(UNKNOWN_TABLE),
-        Err(ParseFault::Memory) => Err(NO_MEMORY),
+    match is_definition(alloc, name, text) {
+        Ok(true) => Ok(()),
+        Ok(false) => Err(UNKNOWN_TABLE),
+        Err(_) => Err(NO_MEMORY),
     }
 }
 
@@ -558,6 +558,7 @@ fn insert_row<P: Port>(
         Reply::Exists => Err(present),
         Reply::Memory => Err(NO_MEMORY),
         Reply::TimedOut { .. } => Err(LOCK_TIMEOUT),
+        Reply::Victim { .. } => Err(DEADLOCK),
         _ => unreachable!(),
     }
 }

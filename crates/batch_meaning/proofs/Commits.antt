@@ -101,6 +101,7 @@ module _ (Kept : Commits → Type 0) where
       by_reply (replies.End at) can = (tt, (refl, refl))
       by_reply replies.Memory can = (tt, (refl, refl))
       by_reply (replies.TimedOut holder held wanted on) can = (tt, (refl, refl))
+      by_reply (replies.Victim cycle) can = (tt, (refl, refl))
       by_reply reply can = absurd can
 
       by_room : (enough : Bool) → Ways (if enough then asks (definition_fetch name) (unless_refused (known name)) else over (Err 701)) stand commits p Kept (Wrote {A = Unit {0}} [] stand commits p)
@@ -131,6 +132,7 @@ module _ (Kept : Commits → Type 0) where
       by_reply (replies.End at) can = (tt, (refl, refl, refl))
       by_reply replies.Memory can = (tt, (refl, refl))
       by_reply (replies.TimedOut holder held wanted on) can = (tt, (refl, refl))
+      by_reply (replies.Victim cycle) can = (tt, (refl, refl))
       by_reply reply can = absurd can
 
   -- the rest of a range
@@ -154,6 +156,7 @@ module _ (Kept : Commits → Type 0) where
       by_insert mark replies.Exists can = (tt, (refl, refl))
       by_insert mark replies.Memory can = (tt, (refl, refl))
       by_insert mark (replies.TimedOut holder held wanted on) can = (tt, (refl, refl))
+      by_insert mark (replies.Victim cycle) can = (tt, (refl, refl))
       by_insert mark reply can = absurd can
 
       by_mark : Ways (asks ops.Mark (unless_refused (marked (asks (ops.Insert table key row) (unless_refused (placed present)))))) stand commits p Kept (Wrote {A = Unit {0}} (planned table key row ∷ []) stand commits p)

@@ -24,7 +24,7 @@ use Rattle.step_model.specs.declared.reply.Reply.{Reply}
 use Rattle.step_model.specs.declared.reply.Reply.TheVariants as replies
 use Rattle.step_model.specs.Dialog as dialog
 use Rattle.step_model.specs.Dialog.{Dialog}
-use Rattle.step_model.specs.Ranges.{Rows, no_memory, rows_of, lock_timeout}
+use Rattle.step_model.specs.Ranges.{Rows, no_memory, rows_of, lock_timeout, deadlock}
 use Rattle.batch_meaning.specs.declared.effect.Effect.{Effect}
 use Rattle.batch_meaning.specs.declared.effect.Effect.TheVariants.{Number, Created, Inserted, Selected}
 use Rattle.batch_meaning.specs.declared.effect.Exit.{Exit}
@@ -70,11 +70,12 @@ tree >>= go = tree then on_ok go
 abbrev pub with_room : {A : Type 0} → Doing (Result A ℕ) → Doing (Result A ℕ)
 with_room tree = room λ enough. if enough then tree else over (Err no_memory)
 
--- A reply that refuses the operation is the error of what was done: memory was wanting, or another
--- session's lock stood in the way.
+-- A reply that refuses the operation is the error of what was done: memory was wanting, another session's lock
+-- stood in the way, or the session fell as a deadlock's victim.
 abbrev pub unless_refused : {A : Type 0} → (Reply → Doing (Result A ℕ)) → Reply → Doing (Result A ℕ)
 unless_refused go replies.Memory = over (Err no_memory)
 unless_refused go (replies.TimedOut holder held wanted on) = over (Err lock_timeout)
+unless_refused go (replies.Victim cycle) = over (Err deadlock)
 unless_refused go reply = go reply
 
 -- a dialog is held, and behind it another thing is done; a refusal ends both

@@ -1,13 +1,10 @@
 use Rattle.std.proofs.Common.{refl}
 use Rattle.batch_meaning.proofs.Composed.{does_over, does_asks}
-use Rattle.batch_exec.proofs.Definitions.{does_defined, does_undefined}
+use Rattle.batch_exec.proofs.Definitions.{does_defined_by}
 use Rattle.batch_exec.proofs.statement.find.Goals as goal
 
-pub returns-in-Some-clause-does : goal.returns-in-Some-clause-does
-returns-in-Some-clause-does g c = does_asks c.in-Row.ensures.asked (does_defined _ _ _ c.in-Some.ensures c.define.ensures.defined)
-
 pub returns-in-Row-clause-does : goal.returns-in-Row-clause-does
-returns-in-Row-clause-does g c = does_asks c.in-Row.ensures.asked (does_undefined _ _ c.in-None.ensures)
+returns-in-Row-clause-does g c = does_asks c.in-Row.ensures.asked (does_defined_by _ _ c.define_in.ensures)
 
 pub returns-in-Gone-clause-does : goal.returns-in-Gone-clause-does
 returns-in-Gone-clause-does g c = does_asks c.in-Gone.ensures.asked (does_over refl)
@@ -20,3 +17,6 @@ returns-in-Memory-clause-does g c = does_asks c.in-Memory.ensures.asked (does_ov
 
 pub returns-in-TimedOut-clause-does : goal.returns-in-TimedOut-clause-does
 returns-in-TimedOut-clause-does g c = does_asks c.in-TimedOut.ensures.asked (does_over refl)
+
+pub returns-in-Victim-clause-does : goal.returns-in-Victim-clause-does
+returns-in-Victim-clause-does g c = does_asks c.in-Victim.ensures.asked (does_over refl)

@@ -13,3 +13,6 @@ returns-in-Memory-clause-does g c = does_asks c.in-Memory.ensures.asked (does_ov
 
 pub returns-in-TimedOut-clause-does : goal.returns-in-TimedOut-clause-does
 returns-in-TimedOut-clause-does g c = does_asks c.in-TimedOut.ensures.asked (does_over refl)
+
+pub returns-in-Victim-clause-does : goal.returns-in-Victim-clause-does
+returns-in-Victim-clause-does g c = does_asks c.in-Victim.ensures.asked (does_over refl)

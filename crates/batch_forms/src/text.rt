@@ -1,15 +1,16 @@
-//! Reading the text of a batch.
+//! Texts: the statements that one is read as, by their trees, and whether one is that of a table's definition.
 
 ghost use Rattle.std.specs.Prelude.{◌≡◌, ◌<◌, All, Some, Err, IfOk};
 ghost use Rattle.std.specs.Option.{option_map};
+ghost use Rattle.batch_forms.specs.Defined.{IsDefinition};
 ghost use Rattle.batch_meaning.specs.Statements.{number_in, int_in, is_column, bare_item, is_column_item, is_plain, sole_table, table_in, number_form, table_form, selected, plain_form, row_form, inserted, create_form, form_of, not_built_statement, served_at, statements_of, AreRead, ReadsAs};
 ghost use Rattle.tsql_tree.specs.declared.statement.Statement.{out-Statement};
 ghost use Rattle.query_parser.specs.declared.fault.ParseFault.TheVariants.{Refused as RefusedFault};
 
-use crate::tables::is_created;
+use crate::table::{defines, is_created};
 use batch_meaning::{Form, Served};
 use std::alloc::Global;
-use stmt_parser::{ParseFault, parse_batch};
+use stmt_parser::{ParseFault, parse_batch, parse_definition};
 use tsql_tree::{
     Batch, Expr, Form as TreeForm, FromClause, InsertRows, Item, Join, Select, Statement, TableRef,
     TableTree,
@@ -80,6 +81,21 @@ fn served(alloc: Global, statement: &Statement) -> Result<Served, Memory>
         Err(_) => Err(Memory),
     }
 }
+
+// ---- definitions
+
+/// Whether a text is that of the definition of a table of this name.
+pub fn is_definition(alloc: Global, name: &Units, text: &Units) -> Result<bool, Memory>
+    ensures defined { IfOk result (λ is. IsDefinition name.now text.now is) }
+{
+    match parse_definition(alloc, text) {
+        Ok(definition) => Ok(defines(name, &definition)),
+        Err(ParseFault::Refused { .. }) => Ok(false),
+        Err(ParseFault::Memory) => Err(Memory),
+    }
+}
+
+// ---- statements by their trees
 
 /// The form of a statement that is served.
 fn form_of(alloc: Global, form: &TreeForm) -> Result<Option<Form>, Memory>
