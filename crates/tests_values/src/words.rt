@@ -2,7 +2,7 @@
 
 use std::alloc::{AllocError, Global};
 use std::fmt::Write;
-use value_types::{Key, Memory, Units, Value, units_of_str};
+use value_types::{Key, Memory, SqlType, Units, Value, units_of_str};
 
 /// The number of a word.
 pub(crate) fn number_of(word: &str) -> i64 {
@@ -20,6 +20,24 @@ pub(crate) fn value_of(alloc: Global, word: &str) -> Result<Value, Memory> {
         "true" => Value::Bit(true),
         _ => Value::Whole(number_of(word)),
     })
+}
+
+/// The type of a name, where a text's size stands behind a blank.
+pub(crate) fn type_of(name: &str) -> SqlType {
+    match name {
+        "tinyint" => SqlType::TinyInt,
+        "smallint" => SqlType::SmallInt,
+        "int" => SqlType::Int,
+        "bigint" => SqlType::BigInt,
+        "bit" => SqlType::Bit,
+        _ => SqlType::NText(size_of(name)),
+    }
+}
+
+/// The size behind a blank.
+fn size_of(name: &str) -> u16 {
+    let size = name.strip_prefix("text ").unwrap_or("");
+    number_of(size).clamp(0, 4000) as u16
 }
 
 /// The key of one value, or of two with a comma between them.
