@@ -4,8 +4,8 @@ ghost use Rattle.std.specs.Prelude.{◌≡◌, IfOk};
 
 use crate::rows::{DEFINED, key_of, port_with};
 use crate::served::reply_to;
-use crate::watched::Watched;
-use std::alloc::Global;
+use crate::watched::{Refusal, Watched};
+use std::alloc::{AllocError, Global};
 use std::process::Abort;
 use std::test::Fail;
 use value_types::Memory;
@@ -17,7 +17,8 @@ const ROWS: &str = "1 = 1|10
 
 /// Statements of each form. The first line has the command of its DONE, whether the table is defined and whether
 /// it has rows, and the key of a row that is answered as Gone; the second has its text. Behind that stands what
-/// it asks, and behind `=>` what it tells. Memory may be wanting at all that they ask but Relax and the end.
+/// it asks, and behind `=>` what it tells. Memory may be wanting at all that they ask but Relax and the end; each
+/// fetch and each insertion may be refused for a lock, or the session may have fallen.
 const STATEMENTS: &str = "0 - - -
 CREATE TABLE t (k INT NOT NULL PRIMARY KEY, v INT NOT NULL)
 Begin
@@ -194,13 +195,13 @@ fn statement_of(lines: &str) -> Option<Statement<'_>> {
     })
 }
 
-/// A port over an engine that has what the statement is to find, of which the operation of this number wants
-/// memory.
+/// A port over an engine that has what the statement is to find, which refuses the operation of this number so.
 fn port_for(
     rt: &impl Abort,
     alloc: Global,
     statement: Statement<'_>,
-    lacking: usize,
+    refused: usize,
+    refusal: Refusal,
 ) -> Result<Watched, Memory>
     ensures { IfOk result (λ port. port.port.session ≡ 1) }
 {
@@ -215,7 +216,8 @@ fn port_for(
         port: port_with(rt, alloc, objects, rows)?,
         asked: String::new(alloc),
         count: 0,
-        lacking,
+        refused,
+        refusal,
         hidden,
         alloc,
     })
@@ -243,7 +245,7 @@ fn is_answered(
 
 /// Whether a statement asks what it is to ask, and tells what it is to tell.
 fn is_done(rt: &impl Abort, alloc: Global, statement: Statement<'_>) -> Result<bool, Memory> {
-    let mut port = port_for(rt, alloc, statement, 0)?;
+    let mut port = port_for(rt, alloc, statement, 0, Refusal::Memory)?;
     is_answered(
         alloc,
         &mut port,
@@ -253,22 +255,35 @@ fn is_done(rt: &impl Abort, alloc: Global, statement: Statement<'_>) -> Result<b
     )
 }
 
-/// Whether a statement for which memory is wanting at the operation of this number is refused and has done
-/// nothing, and is done when there is memory.
+/// What is told of a statement that is refused so.
+fn refusal_told(alloc: Global, refusal: Refusal, command: &str) -> Result<String, AllocError> {
+    match refusal {
+        Refusal::Memory => format!(in alloc;
+            "ERROR 701 class 17 state 1 line 1: There is insufficient memory to run this statement.\nDONE(03,{command},0)\nDONE(00,0,0)\n"
+        ),
+        Refusal::Lock => format!(in alloc;
+            "ERROR 1222 class 16 state 1 line 1: Lock request time out period exceeded.\nDONE(03,{command},0)\nDONE(00,0,0)\n"
+        ),
+        Refusal::Fall => String::from_str(
+            alloc,
+            "ERROR 1205 class 13 state 1 line 1: The transaction was chosen as the deadlock victim.\nDONE(02,0,0)\n",
+        ),
+    }
+}
+
+/// Whether a statement whose operation of this number is refused so has done nothing, and is done when it is not.
 fn is_refused(
     rt: &impl Abort,
     alloc: Global,
     statement: Statement<'_>,
     count: usize,
+    refusal: Refusal,
 ) -> Result<bool, Memory> {
-    let command = statement.command;
-    let told = format!(in alloc;
-        "ERROR 701 class 17 state 1 line 1: There is insufficient memory to run this statement.\nDONE(03,{command},0)\nDONE(00,0,0)\n"
-    )?;
+    let told = refusal_told(alloc, refusal, statement.command)?;
     let asked = asked_until(alloc, statement.asked, count)?;
-    let mut port = port_for(rt, alloc, statement, count)?;
+    let mut port = port_for(rt, alloc, statement, count, refusal)?;
     let is_refused = is_answered(alloc, &mut port, statement.text, &asked, &told)?;
-    port.lacking = 0;
+    port.refused = 0;
     let is_done = is_answered(
         alloc,
         &mut port,
@@ -279,7 +294,7 @@ fn is_refused(
     Ok(is_refused && is_done)
 }
 
-/// The first operations of a statement, of which the last wants memory, and what is asked then: Relax only
+/// The first operations of a statement, of which the last is refused, and what is asked then: Relax only
 /// behind a fetch or an insertion.
 fn asked_until(alloc: Global, asked: &str, count: usize) -> Result<String, Memory> {
     let mut front = String::new(alloc);
@@ -298,6 +313,14 @@ fn asked_until(alloc: Global, asked: &str, count: usize) -> Result<String, Memor
     Ok(front)
 }
 
+/// Whether the operation of this number asks for a lock.
+fn asks_lock(asked: &str, count: usize) -> bool {
+    match asked.lines().nth(count.saturating_sub(1)) {
+        Some(line) => line.starts_with("Fetch") || line.starts_with("Insert"),
+        None => false,
+    }
+}
+
 #[test]
 fn statements_ask_these_operations(rt: HostRuntime) -> Result<(), Fail> {
     let mut statements = 0u32;
@@ -305,7 +328,20 @@ fn statements_ask_these_operations(rt: HostRuntime) -> Result<(), Fail> {
         let statement = statement_of(lines).ok_or(lines)?;
         assert!(rt; is_done(&rt, rt.alloc(), statement)?, "{lines}");
         for count in 1..=statement.asked.lines().count().saturating_sub(2) {
-            assert!(rt; is_refused(&rt, rt.alloc(), statement, count)?, "{lines}");
+            assert!(rt;
+                is_refused(&rt, rt.alloc(), statement, count, Refusal::Memory)?,
+                "{lines}"
+            );
+            if asks_lock(statement.asked, count) {
+                assert!(rt;
+                    is_refused(&rt, rt.alloc(), statement, count, Refusal::Lock)?,
+                    "{lines}"
+                );
+                assert!(rt;
+                    is_refused(&rt, rt.alloc(), statement, count, Refusal::Fall)?,
+                    "{lines}"
+                );
+            }
         }
         statements = statements.wrapping_add(1);
     }

@@ -1,8 +1,8 @@
-//! A port that keeps what it was asked, can want memory, and can hide a row.
+//! A port that keeps what it was asked, can refuse, and can hide a row.
 
-ghost use Rattle.std.specs.Prelude.{◌≡◌, true, None};
+ghost use Rattle.std.specs.Prelude.{◌≡◌, true, None, IfSome};
 ghost use Rattle.lock_modes.specs.declared.KeyPart.{KeyPart};
-ghost use Rattle.step_model.specs.Exchange.{CanReply, MayLackMemory};
+ghost use Rattle.step_model.specs.Exchange.{AsksLock, CanReply, MayLackMemory};
 ghost use Rattle.step_model.specs.declared.op.Hold.{Hold};
 ghost use Rattle.step_model.specs.declared.range.Start.{Start as From};
 ghost use Rattle.step_model.specs.declared.range.Stop.{Stop as To};
@@ -10,9 +10,10 @@ ghost use Rattle.value_types.specs.declared.table_name.TableName.{TableName as N
 ghost use Rattle.engine_core.specs.Solo.{solo_open, solo_past};
 
 use engine_core::SoloPort;
+use lock_modes::Pair;
 use std::alloc::{AllocError, Global};
 use std::fmt::Write;
-use step_model::{Manner, Op, Patience, Port, Reply, Start, Stop};
+use step_model::{Cycle, Manner, Op, Patience, Place, Port, Reply, Resource, Start, Stop};
 use value_types::{Key, TableName, Units, Value};
 
 /// The manner of a session that has said nothing of it.
@@ -20,6 +21,17 @@ pub(crate) const MANNER: Manner = Manner {
     patience: Patience::Forever,
     priority: 0,
 };
+
+/// How a port refuses an operation.
+#[derive(Clone, Copy)]
+pub(crate) enum Refusal {
+    /// Memory is wanting.
+    Memory,
+    /// A lock of another session stands in the way of one that does not wait.
+    Lock,
+    /// The session fell as a victim.
+    Fall,
+}
 
 /// A port over another one. It has a line for each operation that it was asked.
 #[derive(Drop)]
@@ -29,8 +41,10 @@ pub(crate) struct Watched {
     pub(crate) asked: String,
     /// How many they are.
     pub(crate) count: usize,
-    /// At which of these, counted from 1, memory is wanting.
-    pub(crate) lacking: usize,
+    /// Which of these, counted from 1, is refused, where it may be.
+    pub(crate) refused: usize,
+    /// How.
+    pub(crate) refusal: Refusal,
     /// The key at which a row is answered as Gone.
     pub(crate) hidden: Option<Key>,
     pub(crate) alloc: Global,
@@ -58,8 +72,10 @@ impl Port for Watched {
         // A line for which there is no memory is missed by whoever compares them.
         let _ = put_line(&mut self.asked, op, manner);
         self.count = self.count.saturating_add(1);
-        if self.count == self.lacking && may_lack_memory(op) {
-            return Reply::Memory;
+        if self.count == self.refused {
+            if let Some(refusal) = refusal_of(self.alloc, self.refusal, op) {
+                return refusal;
+            }
         }
         // No row is written, and so none is missing where one is sure.
         if matches!(op, Op::Replace { .. } | Op::Erase { .. }) {
@@ -87,6 +103,47 @@ fn hide(hidden: &Option<Key>, reply: Reply) -> Reply
             }
         }
         other => other,
+    }
+}
+
+/// The reply by which an operation is refused so, where it may be.
+fn refusal_of(alloc: Global, refusal: Refusal, op: &Op) -> Option<Reply>
+    ensures { IfSome result (λ reply. CanReply op.now reply) }
+{
+    match refusal {
+        Refusal::Memory => {
+            if may_lack_memory(op) {
+                Some(Reply::Memory)
+            } else {
+                None
+            }
+        }
+        Refusal::Lock => Some(Reply::TimedOut {
+            holder: 2,
+            held: Pair::EXCLUSIVE,
+            asked: Pair::EXCLUSIVE,
+            on: Resource {
+                table: locked_table(op)?.copy(alloc).ok()?,
+                place: Place::End,
+            },
+        }),
+        Refusal::Fall => {
+            let _table = locked_table(op)?;
+            Some(Reply::Victim {
+                cycle: Cycle::from(Vec::new(alloc)),
+            })
+        }
+    }
+}
+
+/// The table in which an operation asks for a lock, if it does.
+fn locked_table(op: &Op) -> Option<&TableName>
+    ensures { IfSome result (λ _. AsksLock op.now) }
+{
+    match op {
+        Op::Fetch { table, .. } => Some(table),
+        Op::Insert { table, .. } => Some(table),
+        _ => None,
     }
 }
 

@@ -19,9 +19,13 @@ mod places;
 #[cfg(test)]
 mod queries;
 #[cfg(test)]
+mod shape;
+#[cfg(test)]
 mod statements;
 #[cfg(test)]
 mod table;
+#[cfg(test)]
+mod trees;
 #[cfg(test)]
 mod verdicts;
 

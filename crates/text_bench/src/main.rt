@@ -1,12 +1,13 @@
-//! The work that `bench/text` measures: texts of 1 MiB that are lexed, and read by the grammar. Its first
-//! word names the text, its second is what is done with it, its third how often; the status is 0 where
-//! all went as it must, or without a word.
+//! The work that `bench/text` measures: texts of 1 MiB that are lexed, read by the grammar, and made into
+//! trees. Its first word names the text, its second is what is done with it, its third how often; the status
+//! is 0 where all went as it must, or without a word.
 #![tactic(auto)]
 
 use sqlite_syntax::parse;
 use std::alloc::{AllocError, Global};
 use std::env;
 use std::process::ExitCode;
+use stmt_parser::{ParseFault, parse_batch};
 use tsql_grammar::Rule;
 use tsql_lexer::lexing_of;
 use tsql_recognizer::{Verdict, recognize};
@@ -18,14 +19,50 @@ const UNITS: usize = 524_288;
 /// The longest text that the lexer takes.
 const MOST_UNITS: usize = 0x7FFF_FFFF;
 
-/// A text: what it begins with, what stands in it again and again, and what it ends with; and whether
-/// it is a batch.
+/// How deep a text may nest.
+const DEEPEST: usize = 128;
+
+/// A text: what it begins with, how often what opens, what stands within, what closes as often, and what becomes
+/// of it as a batch.
 #[derive(Clone, Copy)]
 struct Shape {
     front: &'static str,
-    part: &'static str,
-    back: &'static str,
-    reads: bool,
+    count: usize,
+    opens: &'static str,
+    within: &'static str,
+    closes: &'static str,
+    end: End,
+}
+
+/// A statement of one row, to which others are added.
+const INSERT: &str = "INSERT INTO dbo.orders VALUES (1, N'a', 2)";
+
+/// A row of a statement.
+const ROW: &str = ", (123456, N'some words', 789)";
+
+/// A statement.
+const STATEMENT: &str = "INSERT INTO orders VALUES (123456, 'some words', 789);\n";
+
+/// A statement with CASEs and parentheses in one another.
+const CASES: &str =
+    "PRINT CASE WHEN ((1) + 1) * (2 - 3) > 3 AND (4 = 4 OR (5 IS NULL)) THEN (CASE WHEN (6) IN (1, (2)) THEN 7 END) ELSE 8 END\n";
+
+/// A statement that nests 99 deep.
+const DEEP: &str =
+    "PRINT (((((((((((((((((((((((((((((((((((((((((((((((((CASE WHEN (((((((((((((((((((((((((((((((((((((((((((((((((1))))))))))))))))))))))))))))))))))))))))))))))))) = 1 THEN 2 END)))))))))))))))))))))))))))))))))))))))))))))))))\n";
+
+/// Comments of both kinds.
+const COMMENTS: &str = "-- a comment to the end of the line\n/* one that /* nests */ */\n";
+
+/// What becomes of a text as a batch.
+#[derive(Clone, Copy, PartialEq, Eq)]
+enum End {
+    /// It has a tree.
+    Tree,
+    /// It reads, and something is wrong in it.
+    Wrong,
+    /// It does not read.
+    Unread,
 }
 
 /// What is done with a text.
@@ -37,6 +74,8 @@ enum Work {
     Lex,
     /// It is lexed, and its lexemes are read by the grammar.
     Read,
+    /// It is made into a tree.
+    Parse,
     /// It is read by the parser of another language.
     Other,
 }
@@ -76,70 +115,111 @@ fn work_of(word: &str) -> Option<Work> {
         "make" => Some(Work::Make),
         "lex" => Some(Work::Lex),
         "read" => Some(Work::Read),
+        "parse" => Some(Work::Parse),
         "other" => Some(Work::Other),
         _ => None,
     }
 }
 
-/// The text of a name.
-fn shape_of(word: &str) -> Option<Shape> {
-    let (front, part, back, reads) = match word {
-        "rows" => (
-            "INSERT INTO dbo.orders VALUES (1, N'a', 2)",
-            ", (123456, N'some words', 789)",
-            "",
-            true,
-        ),
-        "cases" => (
-            "",
-            "PRINT CASE WHEN ((a) + 1) * (2 - b) > 3 AND (c = 4 OR (d IS NULL)) THEN (CASE WHEN (e) IN (1, (2)) THEN 5 END) ELSE 6 END\n",
-            "",
-            true,
-        ),
-        "comments" => (
-            "",
-            "-- a comment to the end of the line\n/* one that /* nests */ */\n",
-            "",
-            true,
-        ),
-        "statements" => (
-            "",
-            "INSERT INTO orders VALUES (123456, 'some words', 789);\n",
-            "",
-            true,
-        ),
-        "open" => ("PRINT ", "(", "", false),
-        "signs" => ("PRINT ", "- ", "1", true),
-        "nots" => ("IF ", "NOT ", "1 = 1 PRINT 1", true),
-        "sums" => ("PRINT ", "1+", "1", true),
-        "begins" => ("", "BEGIN ", "", false),
-        "ifs" => ("", "IF 1=1 ", "", false),
-        "open comments" => ("", "/*", "", true),
-        "name" => ("SELECT [", "]]", "]", true),
-        _ => return None,
-    };
-    Some(Shape {
-        front,
-        part,
-        back,
-        reads,
-    })
+/// A text in which a part stands again and again.
+fn many(front: &'static str, part: &'static str, back: &'static str, end: End) -> Shape {
+    nested(front, (part, back, ""), end)
 }
 
-/// How often the part stands in a text.
-fn count_of(shape: &Shape) -> usize {
-    UNITS / shape.part.len().max(1)
+/// A text in which something opens again and again, and closes as often behind what stands within.
+fn nested(
+    front: &'static str,
+    parts: (&'static str, &'static str, &'static str),
+    end: End,
+) -> Shape {
+    let (opens, within, closes) = parts;
+    Shape {
+        front,
+        count: UNITS / opens.len().saturating_add(closes.len()).max(1),
+        opens,
+        within,
+        closes,
+        end,
+    }
+}
+
+/// A text that nests as deep as one may.
+fn deepest(front: &'static str, parts: (&'static str, &'static str, &'static str)) -> Shape {
+    Shape {
+        count: DEEPEST,
+        ..nested(front, parts, End::Tree)
+    }
+}
+
+/// The text of a name.
+fn shape_of(word: &str) -> Option<Shape> {
+    match word {
+        "rows" => Some(many(INSERT, ROW, "", End::Tree)),
+        "statements" => Some(many("", STATEMENT, "", End::Tree)),
+        "cases" => Some(many("", CASES, "", End::Tree)),
+        "deep" => Some(many("", DEEP, "", End::Tree)),
+        "comments" => Some(many("", COMMENTS, "", End::Tree)),
+        _ => hostile_shape_of(word),
+    }
+}
+
+/// The text of the name of a hostile one.
+fn hostile_shape_of(word: &str) -> Option<Shape> {
+    match word {
+        "open" => Some(many("PRINT ", "(", "", End::Unread)),
+        "parentheses" => Some(nested("PRINT ", ("(", "1", ")"), End::Wrong)),
+        "tests" => Some(nested("SELECT 1 WHERE ", ("(", "1 = 1", ")"), End::Wrong)),
+        "functions" => Some(nested("PRINT ", ("LEN(", "1", ")"), End::Wrong)),
+        "signs" => Some(many("PRINT ", "- ", "1", End::Tree)),
+        "nots" => Some(many("WHILE ", "NOT ", "1 = 1 BREAK", End::Tree)),
+        "sums" => Some(many("PRINT ", "1+", "1", End::Tree)),
+        "ands" => Some(many("WHILE ", "1=1 AND ", "1 = 1 BREAK", End::Tree)),
+        "begins" => Some(many("", "BEGIN ", "", End::Unread)),
+        "blocks" => Some(nested("", ("BEGIN ", "PRINT 1", " END"), End::Wrong)),
+        "ifs" => Some(many("", "IF 1=1 ", "", End::Unread)),
+        "elses" => Some(nested("", ("IF 1=1 ", "PRINT 1", " ELSE PRINT 1"), End::Wrong)),
+        "open comments" => Some(many("", "/*", "", End::Unread)),
+        "nested comments" => Some(nested("", ("/*", "", "*/"), End::Tree)),
+        "name" => Some(many("SELECT 1 AS [", "]]", "]", End::Tree)),
+        "uses" => Some(many("DECLARE @a INT ", "PRINT @a ", "", End::Tree)),
+        "declarations" => Some(many("DECLARE @a INT", ", @a INT", "", End::Wrong)),
+        _ => deepest_shape_of(word),
+    }
+}
+
+/// The text of the name of one that nests as deep as one may.
+fn deepest_shape_of(word: &str) -> Option<Shape> {
+    match word {
+        "deepest parentheses" => Some(deepest("PRINT ", ("1 + 1 * -(", "1", ")"))),
+        "deepest cases" => Some(deepest("PRINT ", ("CASE WHEN 1 = 1 THEN ", "2", " END"))),
+        "deepest queries" => Some(deepest("PRINT ", ("(SELECT ", "1", ")"))),
+        "deepest tests" => Some(deepest("SELECT 1 WHERE ", ("1 = 1 AND NOT (", "1 = 1", ")"))),
+        "deepest exists" => Some(deepest(
+            "SELECT 1 WHERE ",
+            ("EXISTS (SELECT 1 WHERE ", "1 = 1", ")"),
+        )),
+        "deepest blocks" => Some(deepest("", ("BEGIN ", "PRINT 1", " END"))),
+        "deepest loops" => Some(deepest("", ("WHILE 1 = 1 ", "PRINT 1", ""))),
+        _ => None,
+    }
 }
 
 /// The bytes of a text, in ASCII.
 fn bytes_of(alloc: Global, shape: &Shape) -> Result<Vec<u8>, AllocError> {
     let mut bytes = Vec::new(alloc);
     bytes.extend_from_slice(shape.front.as_bytes())?;
-    for _ in 0..count_of(shape) {
-        bytes.extend_from_slice(shape.part.as_bytes())?;
-    }
-    bytes.extend_from_slice(shape.back.as_bytes())?;
+    put_many(&mut bytes, shape.opens, shape.count)?;
+    bytes.extend_from_slice(shape.within.as_bytes())?;
+    put_many(&mut bytes, shape.closes, shape.count)?;
     Ok(bytes)
+}
+
+/// Appends a part so many times.
+fn put_many(bytes: &mut Vec<u8>, part: &str, count: usize) -> Result<(), AllocError> {
+    for _ in 0..count {
+        bytes.extend_from_slice(part.as_bytes())?;
+    }
+    Ok(())
 }
 
 fn units_of(alloc: Global, bytes: &[u8]) -> Result<Units, AllocError> {
@@ -153,27 +233,46 @@ fn units_of(alloc: Global, bytes: &[u8]) -> Result<Units, AllocError> {
 /// Whether the work on the text of these bytes went as it must.
 fn is_done(alloc: Global, shape: &Shape, work: Work, bytes: &[u8]) -> bool {
     if work == Work::Other {
-        return statements_of(alloc, bytes) == Some(count_of(shape));
+        return statements_of(alloc, bytes) == Some(shape.count);
     }
     let Ok(units) = units_of(alloc, bytes) else {
         return false;
     };
-    if work == Work::Make {
-        return true;
+    match work {
+        Work::Lex => is_lexed(alloc, &units),
+        Work::Read => read_end(alloc, &units) == Some(shape.end),
+        Work::Parse => parsed_end(alloc, &units) == Some(shape.end),
+        _ => true,
     }
-    if units.as_slice().len() > MOST_UNITS {
-        return false;
+}
+
+/// Whether a text is lexed.
+fn is_lexed(alloc: Global, units: &Units) -> bool {
+    units.len() <= MOST_UNITS && lexing_of(alloc, units).is_ok()
+}
+
+/// What becomes of a text that is lexed and read by the grammar.
+fn read_end(alloc: Global, units: &Units) -> Option<End> {
+    if units.len() > MOST_UNITS {
+        return None;
     }
-    let Ok(lexing) = lexing_of(alloc, &units) else {
-        return false;
-    };
-    if work == Work::Lex {
-        return true;
+    let lexing = lexing_of(alloc, units).ok()?;
+    let verdict = recognize(alloc, Rule::Batch, &lexing.lexemes, true).ok()?;
+    match (verdict, lexing.flaw) {
+        (Verdict::Stops(_), _) => Some(End::Unread),
+        (Verdict::Reads(_), Some(_)) => Some(End::Unread),
+        (Verdict::Reads(None), None) => Some(End::Tree),
+        (Verdict::Reads(Some(_)), None) => Some(End::Wrong),
     }
-    match recognize(alloc, Rule::Batch, &lexing.lexemes, true) {
-        Ok(Verdict::Reads(_)) => shape.reads,
-        Ok(Verdict::Stops(_)) => !shape.reads,
-        Err(_) => false,
+}
+
+/// What becomes of a text that is parsed.
+fn parsed_end(alloc: Global, units: &Units) -> Option<End> {
+    match parse_batch(alloc, units) {
+        Ok(_) => Some(End::Tree),
+        Err(ParseFault::Refused { number: 102, .. }) => Some(End::Unread),
+        Err(ParseFault::Refused { .. }) => Some(End::Wrong),
+        Err(ParseFault::Memory) => None,
     }
 }
 
