@@ -73,8 +73,29 @@ impl Port for Watched {
         let _ = put_line(&mut self.asked, op, manner);
         self.count = self.count.saturating_add(1);
         if self.count == self.refused {
-            if let Some(refusal) = refusal_of(self.alloc, self.refusal, op) {
-                return refusal;
+            match self.refusal {
+                Refusal::Memory => {
+                    if may_lack_memory(op) {
+                        return Reply::Memory;
+                    }
+                }
+                Refusal::Lock => {
+                    if let Some(on) = locked_end(self.alloc, op) {
+                        return Reply::TimedOut {
+                            holder: 2,
+                            held: Pair::EXCLUSIVE,
+                            asked: Pair::EXCLUSIVE,
+                            on,
+                        };
+                    }
+                }
+                Refusal::Fall => {
+                    if locked_table(op).is_some() {
+                        return Reply::Victim {
+                            cycle: Cycle::from(Vec::new(self.alloc)),
+                        };
+                    }
+                }
             }
         }
         // No row is written, and so none is missing where one is sure.
@@ -106,34 +127,14 @@ fn hide(hidden: &Option<Key>, reply: Reply) -> Reply
     }
 }
 
-/// The reply by which an operation is refused so, where it may be.
-fn refusal_of(alloc: Global, refusal: Refusal, op: &Op) -> Option<Reply>
-    ensures { IfSome result (λ reply. CanReply op.now reply) }
+/// The end of the table in which an operation asks for a lock, if it does and there is memory to say it.
+fn locked_end(alloc: Global, op: &Op) -> Option<Resource>
+    ensures { IfSome result (λ _. AsksLock op.now) }
 {
-    match refusal {
-        Refusal::Memory => {
-            if may_lack_memory(op) {
-                Some(Reply::Memory)
-            } else {
-                None
-            }
-        }
-        Refusal::Lock => Some(Reply::TimedOut {
-            holder: 2,
-            held: Pair::EXCLUSIVE,
-            asked: Pair::EXCLUSIVE,
-            on: Resource {
-                table: locked_table(op)?.copy(alloc).ok()?,
-                place: Place::End,
-            },
-        }),
-        Refusal::Fall => {
-            let _table = locked_table(op)?;
-            Some(Reply::Victim {
-                cycle: Cycle::from(Vec::new(alloc)),
-            })
-        }
-    }
+    Some(Resource {
+        table: locked_table(op)?.copy(alloc).ok()?,
+        place: Place::End,
+    })
 }
 
 /// The table in which an operation asks for a lock, if it does.
