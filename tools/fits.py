@@ -303,12 +303,19 @@ class Waits:
     def ends(self, session):
         self.standing.pop(session.number, None)
 
+    def closes(self, session):
+        """A session is about to wait. Each that waits may fall now, of these ranks, also where the session itself
+        falls in a further circle."""
+        session.asked_with = session.priority
+        ranks = self.ranks() | {session.number: session.rank()}
+        for other in self.standing.values():
+            other.closed.append((session.number, ranks))
+        return ranks
+
     def begins(self, session):
-        session.asked_with, session.closed = session.priority, []
-        others = list(self.standing.values())
+        self.closes(session)
+        session.closed = []
         self.standing[session.number] = session
-        for other in others:
-            other.closed.append((session.number, self.ranks()))
 
     def tells(self, session, words, edges):
         """A session is told that it was the victim of a circle, which the first of its sessions closed."""
@@ -320,8 +327,7 @@ class Waits:
         need(session.number in waiters, "a victim outside its circle")
         if waiters[0] == session.number:
             need(session.patience == "forever", "who is not patient fell")
-            session.asked_with = session.priority
-            closed = [self.ranks() | {session.number: session.rank()}]
+            closed = [self.closes(session)]
         else:
             closed = [ranks for closer, ranks in session.closed if closer == waiters[0]]
             session.closed = []
