@@ -1,0 +1,4 @@
+pub mod Images
+pub mod JoinSteps
+pub mod KeyTests
+mod StandardFacts

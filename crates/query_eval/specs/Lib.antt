@@ -1,0 +1,5 @@
+-- Read in this order; the comment behind a name says what the file is for.
+pub mod Phases  -- rows_given: what comes of the joined rows of a query, phase by phase
+pub mod KeyTests  -- rows_read: the key tests of a reference, by which its rows are read
+pub mod Joining  -- joined_refs: the references of a query, read and joined under the budget
+pub mod Ans  -- Ans: the answer of a query on images, which stand for its references_of
