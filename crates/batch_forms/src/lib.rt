@@ -7,7 +7,6 @@
 //! Only tests show that memory is not said to be wanting where there is enough.
 #![tactic(auto)]
 
-mod table;
 mod text;
 
 pub use text::{is_definition, read_statements};
