@@ -55,6 +55,7 @@ impl<'a> Lexemes<'a> {
     }
 
     /// Takes the next lexeme, if it is of the class.
+    #[inline(always)]
     pub fn take(&mut self, class: Class) -> Option<&'a Spanned>
         ensures { Takes class self.old result self.new }
     {
@@ -73,6 +74,7 @@ impl<'a> Lexemes<'a> {
     }
 
     /// Whether the next lexeme is of one of the classes.
+    #[inline(always)]
     pub fn sees_any(&self, classes: &[Class]) -> bool
         ensures { result ≡ sees_any classes.now self.now }
     {
@@ -83,6 +85,7 @@ impl<'a> Lexemes<'a> {
     }
 
     /// Takes the next lexeme, if it is of the class, and says whether it was.
+    #[inline(always)]
     pub fn accept(&mut self, class: Class) -> bool
         ensures { Accepts class self.old result self.new }
     {
@@ -90,6 +93,7 @@ impl<'a> Lexemes<'a> {
     }
 
     /// Takes the sign, if it comes next.
+    #[inline(always)]
     pub fn accept_sign(&mut self, sign: Sign) -> bool
         ensures { Accepts (c.One (k.Sign sign)) self.old result self.new }
     {
@@ -97,6 +101,7 @@ impl<'a> Lexemes<'a> {
     }
 
     /// Takes the reserved word, if it comes next.
+    #[inline(always)]
     pub fn accept_word(&mut self, word: Reserved) -> bool
         ensures { Accepts (c.One (k.Reserved word)) self.old result self.new }
     {
@@ -104,6 +109,7 @@ impl<'a> Lexemes<'a> {
     }
 
     /// Takes the next lexeme, which has to be of the class.
+    #[inline(always)]
     pub fn want(&mut self, class: Class) -> Result<(), ReadFault>
         ensures { Wants class self.old result self.new }
     {
@@ -115,6 +121,7 @@ impl<'a> Lexemes<'a> {
     }
 
     /// Takes the sign, which has to come next.
+    #[inline(always)]
     pub fn want_sign(&mut self, sign: Sign) -> Result<(), ReadFault>
         ensures { Wants (c.One (k.Sign sign)) self.old result self.new }
     {
@@ -122,6 +129,7 @@ impl<'a> Lexemes<'a> {
     }
 
     /// Takes the reserved word, which has to come next.
+    #[inline(always)]
     pub fn want_word(&mut self, word: Reserved) -> Result<(), ReadFault>
         ensures { Wants (c.One (k.Reserved word)) self.old result self.new }
     {
@@ -170,6 +178,7 @@ impl<'a> Lexemes<'a> {
 }
 
 /// Whether the kind is of one of the classes.
+#[inline(always)]
 fn of_any(classes: &[Class], kind: Kind) -> bool
     ensures { result ≡ of_any classes.now kind }
 {
@@ -182,6 +191,7 @@ fn of_any(classes: &[Class], kind: Kind) -> bool
 }
 
 /// The kind of the first lexeme.
+#[inline(never)]
 fn next_kind(text: &[Spanned]) -> Option<Kind>
     ensures { result ≡ ahead (terminals text.now) }
 {

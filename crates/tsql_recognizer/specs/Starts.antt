@@ -55,3 +55,23 @@ abbrev pub begins_expr : Kind → Bool
 begins_expr (k.Sign s.Plus) = true
 begins_expr (k.Sign s.Minus) = true
 begins_expr a = begins_primary a
+
+abbrev pub begins_basic : Kind → Bool
+begins_basic (k.Reserved w.Exists) = true
+begins_basic a = begins_expr a
+
+abbrev pub begins_test : Kind → Bool
+begins_test (k.Reserved w.Not) = true
+begins_test a = begins_basic a
+
+abbrev pub begins_membership : Kind → Bool
+begins_membership (k.Reserved w.Between) = true
+begins_membership (k.Reserved w.In) = true
+begins_membership _ = false
+
+abbrev pub begins_comparison : Kind → Bool
+begins_comparison (k.Reserved w.Is) = true
+begins_comparison (k.Reserved w.Not) = true
+begins_comparison (k.Reserved w.Between) = true
+begins_comparison (k.Reserved w.In) = true
+begins_comparison a = begins_compare a

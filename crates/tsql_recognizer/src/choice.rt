@@ -15,7 +15,7 @@ use tsql_grammar::{Class, Kind};
 use tsql_lexer::Sign;
 
 /// A name, or a word that is one where the grammar has no other use for it.
-fn is_name(kind: Kind) -> bool
+pub(crate) fn is_name(kind: Kind) -> bool
     ensures { result ≡ is_name kind }
 {
     matches!(
@@ -35,6 +35,7 @@ fn is_plain_name(kind: Kind) -> bool
 }
 
 /// Whether lexemes of the kind are of the class.
+#[inline(always)]
 pub fn admits(class: Class, kind: Kind) -> bool
     ensures { result ≡ admits class kind }
 {
@@ -101,7 +102,7 @@ fn empties(symbols: &[Symbol]) -> bool
 }
 
 /// Puts the symbols on the stack, the first of them on top.
-fn push_all(stack: &mut Vec<Symbol>, symbols: &[Symbol]) -> Result<(), AllocError>
+pub(crate) fn push_all(stack: &mut Vec<Symbol>, symbols: &[Symbol]) -> Result<(), AllocError>
     ensures { OnOk result (expected stack.new.items ≡ map symbol_of symbols.now ++ expected stack.old.items) }
 {
     for symbol in symbols.iter().rev().copied() {

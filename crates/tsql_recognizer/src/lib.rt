@@ -13,6 +13,7 @@
 #![tactic(auto)]
 
 mod choice;
+mod common;
 mod first;
 mod fronts;
 mod laws;

@@ -9,6 +9,7 @@ use tsql_lexer::Sign;
 use tsql_tree::FixedOption;
 
 /// Whether two kinds are one. Most are told apart by their variants.
+#[inline(always)]
 pub fn same_kind(one: Kind, other: Kind) -> bool
     ensures { result ≡ same_kind one other }
 {
@@ -16,6 +17,7 @@ pub fn same_kind(one: Kind, other: Kind) -> bool
 }
 
 /// The place of the kind's variant among all variants.
+#[inline(always)]
 fn variant_of(kind: Kind) -> u8
     ensures { result ≡ variant_of kind }
 {

@@ -11,6 +11,7 @@ ghost use Rattle.tsql_recognizer.specs.Steps.{Fed, Finished};
 ghost use Rattle.tsql_recognizer.specs.Verdict.{IsVerdict};
 
 use crate::choice::admits;
+use crate::common::open_before;
 use crate::notes::Notes;
 use crate::open::open;
 use crate::place::same_kind;
@@ -87,7 +88,7 @@ fn feed<'a>(
             }
             Symbol::Mark(mark) => notes.note(mark)?,
             Symbol::Rule(rule) => {
-                if !open(rule, Some(kind), stack)? {
+                if !open_before(rule, kind, stack)? {
                     return Ok(false);
                 }
             }

@@ -296,7 +296,8 @@ const OF_INSERT_ROWS: [&[Symbol]; 2] = productions! {
 
 const OF_VALUE_ROW: [&[Symbol]; 1] = productions! { [PAREN_OPEN (Exprs) PAREN_CLOSE] };
 
-const OF_MORE_VALUE_ROWS: [&[Symbol]; 2] = productions! { [COMMA (ValueRow) (MoreValueRows)] [] };
+pub(crate) const OF_MORE_VALUE_ROWS: [&[Symbol]; 2] =
+    productions! { [COMMA (ValueRow) (MoreValueRows)] [] };
 
 const OF_ASSIGNMENT: [&[Symbol]; 1] = productions! { [NAME EQUAL (Expr)] };
 
@@ -474,7 +475,7 @@ const OF_ITEM: [&[Symbol]; 4] = productions! {
     [(OtherItem)]
 };
 
-const OF_MORE_ITEMS: [&[Symbol]; 2] = productions! { [COMMA (Item) (MoreItems)] [] };
+pub(crate) const OF_MORE_ITEMS: [&[Symbol]; 2] = productions! { [COMMA (Item) (MoreItems)] [] };
 
 const OF_NAMED_ITEM: [&[Symbol]; 16] = productions! {
     [PLAIN_NAME (AfterItemName)]
@@ -544,33 +545,33 @@ const OF_MORE_ORDER_ITEMS: [&[Symbol]; 2] = productions! {
 
 const OF_DIRECTION: [&[Symbol]; 3] = productions! { [ASC] [DESC] [] };
 
-const OF_TEST: [&[Symbol]; 1] = productions! { [(AndTest) (MoreOrs)] };
+pub(crate) const OF_TEST: [&[Symbol]; 1] = productions! { [(AndTest) (MoreOrs)] };
 
-const OF_MORE_ORS: [&[Symbol]; 2] = productions! { [OR (AndTest) (MoreOrs)] [] };
+pub(crate) const OF_MORE_ORS: [&[Symbol]; 2] = productions! { [OR (AndTest) (MoreOrs)] [] };
 
-const OF_AND_TEST: [&[Symbol]; 1] = productions! { [(NotTest) (MoreAnds)] };
+pub(crate) const OF_AND_TEST: [&[Symbol]; 1] = productions! { [(NotTest) (MoreAnds)] };
 
-const OF_MORE_ANDS: [&[Symbol]; 2] = productions! { [AND (NotTest) (MoreAnds)] [] };
+pub(crate) const OF_MORE_ANDS: [&[Symbol]; 2] = productions! { [AND (NotTest) (MoreAnds)] [] };
 
-const OF_NOT_TEST: [&[Symbol]; 2] = productions! { [NOT (MoreNots) (Basic)] [(Basic)] };
+pub(crate) const OF_NOT_TEST: [&[Symbol]; 2] = productions! { [NOT (MoreNots) (Basic)] [(Basic)] };
 
-const OF_MORE_NOTS: [&[Symbol]; 2] = productions! { [NOT (MoreNots)] [] };
+pub(crate) const OF_MORE_NOTS: [&[Symbol]; 2] = productions! { [NOT (MoreNots)] [] };
 
-const OF_BASIC: [&[Symbol]; 4] = productions! {
+pub(crate) const OF_BASIC: [&[Symbol]; 4] = productions! {
     [EXISTS {Enter} PAREN_OPEN SELECT (Select) PAREN_CLOSE {Leave}]
     [PAREN_OPEN {Enter} (Opened 0)]
     [(SimplePrimary) (Operand 0)]
     [(AddSign) (MoreSigns) (Primary) (Operand 0)]
 };
 
-const OF_COMPARISON: [&[Symbol]; 4] = productions! {
+pub(crate) const OF_COMPARISON: [&[Symbol]; 4] = productions! {
     [(CompareSign) (Expr)]
     [IS (OptionalNot) NULL]
     [NOT (Membership)]
     [(Membership)]
 };
 
-const OF_COMPARE_SIGN: [&[Symbol]; 6] = productions! {
+pub(crate) const OF_COMPARE_SIGN: [&[Symbol]; 6] = productions! {
     [EQUAL]
     [NOT_EQUAL]
     [LESS]
@@ -579,43 +580,46 @@ const OF_COMPARE_SIGN: [&[Symbol]; 6] = productions! {
     [GREATER_EQUAL]
 };
 
-const OF_OPTIONAL_NOT: [&[Symbol]; 2] = productions! { [NOT] [] };
+pub(crate) const OF_OPTIONAL_NOT: [&[Symbol]; 2] = productions! { [NOT] [] };
 
-const OF_MEMBERSHIP: [&[Symbol]; 2] = productions! {
+pub(crate) const OF_MEMBERSHIP: [&[Symbol]; 2] = productions! {
     [BETWEEN (Expr) AND (Expr)]
     [IN PAREN_OPEN {Enter} (InList) PAREN_CLOSE {Leave}]
 };
 
-const OF_IN_LIST: [&[Symbol]; 2] = productions! { [SELECT (Select)] [(Exprs)] };
+pub(crate) const OF_IN_LIST: [&[Symbol]; 2] = productions! { [SELECT (Select)] [(Exprs)] };
 
-const OF_EXPR: [&[Symbol]; 1] = productions! { [(Product) (MoreTerms)] };
+pub(crate) const OF_EXPR: [&[Symbol]; 1] = productions! { [(Product) (MoreTerms)] };
 
-const OF_MORE_TERMS: [&[Symbol]; 2] = productions! { [(AddSign) (Product) (MoreTerms)] [] };
+pub(crate) const OF_MORE_TERMS: [&[Symbol]; 2] =
+    productions! { [(AddSign) (Product) (MoreTerms)] [] };
 
-const OF_ADD_SIGN: [&[Symbol]; 2] = productions! { [PLUS] [MINUS] };
+pub(crate) const OF_ADD_SIGN: [&[Symbol]; 2] = productions! { [PLUS] [MINUS] };
 
-const OF_PRODUCT: [&[Symbol]; 1] = productions! { [(Unary) (MoreFactors)] };
+pub(crate) const OF_PRODUCT: [&[Symbol]; 1] = productions! { [(Unary) (MoreFactors)] };
 
-const OF_MORE_FACTORS: [&[Symbol]; 2] = productions! { [(MultiplySign) (Unary) (MoreFactors)] [] };
+pub(crate) const OF_MORE_FACTORS: [&[Symbol]; 2] =
+    productions! { [(MultiplySign) (Unary) (MoreFactors)] [] };
 
-const OF_MULTIPLY_SIGN: [&[Symbol]; 3] = productions! { [STAR] [SLASH] [PERCENT] };
+pub(crate) const OF_MULTIPLY_SIGN: [&[Symbol]; 3] = productions! { [STAR] [SLASH] [PERCENT] };
 
-const OF_UNARY: [&[Symbol]; 2] = productions! { [(AddSign) (MoreSigns) (Primary)] [(Primary)] };
+pub(crate) const OF_UNARY: [&[Symbol]; 2] =
+    productions! { [(AddSign) (MoreSigns) (Primary)] [(Primary)] };
 
-const OF_MORE_SIGNS: [&[Symbol]; 2] = productions! { [(AddSign) (MoreSigns)] [] };
+pub(crate) const OF_MORE_SIGNS: [&[Symbol]; 2] = productions! { [(AddSign) (MoreSigns)] [] };
 
-const OF_PRIMARY: [&[Symbol]; 2] = productions! {
+pub(crate) const OF_PRIMARY: [&[Symbol]; 2] = productions! {
     [PAREN_OPEN {Enter} (Enclosed) PAREN_CLOSE {Leave}]
     [(SimplePrimary)]
 };
 
-const OF_SIMPLE_PRIMARY: [&[Symbol]; 3] = productions! {
+pub(crate) const OF_SIMPLE_PRIMARY: [&[Symbol]; 3] = productions! {
     [VARIABLE {Uses}]
     [(NamedPrimary)]
     [(OtherPrimary)]
 };
 
-const OF_OTHER_PRIMARY: [&[Symbol]; 10] = productions! {
+pub(crate) const OF_OTHER_PRIMARY: [&[Symbol]; 10] = productions! {
     [NUMBER]
     [TEXT]
     [NULL]
@@ -628,9 +632,9 @@ const OF_OTHER_PRIMARY: [&[Symbol]; 10] = productions! {
     [COALESCE PAREN_OPEN {Enter} (Exprs) PAREN_CLOSE {Leave}]
 };
 
-const OF_ENCLOSED: [&[Symbol]; 2] = productions! { [SELECT (Select)] [(Expr)] };
+pub(crate) const OF_ENCLOSED: [&[Symbol]; 2] = productions! { [SELECT (Select)] [(Expr)] };
 
-const OF_NAMED_PRIMARY: [&[Symbol]; 16] = productions! {
+pub(crate) const OF_NAMED_PRIMARY: [&[Symbol]; 16] = productions! {
     [PLAIN_NAME (AfterName)]
     [[Function Cast] (AfterFunction Cast)]
     [[Function IsNull] (AfterFunction IsNull)]
@@ -649,19 +653,19 @@ const OF_NAMED_PRIMARY: [&[Symbol]; 16] = productions! {
     [[Function ErrorProcedure] (AfterFunction ErrorProcedure)]
 };
 
-const OF_AFTER_NAME: [&[Symbol]; 2] = productions! { [DOT NAME] [] };
+pub(crate) const OF_AFTER_NAME: [&[Symbol]; 2] = productions! { [DOT NAME] [] };
 
 const OF_COUNT_ARGUMENTS: [&[Symbol]; 2] = productions! { [STAR] [(Distinct) (Expr)] };
 
-const OF_ARM: [&[Symbol]; 1] = productions! { [WHEN (Test) THEN (Expr)] };
+pub(crate) const OF_ARM: [&[Symbol]; 1] = productions! { [WHEN (Test) THEN (Expr)] };
 
-const OF_MORE_ARMS: [&[Symbol]; 2] = productions! { [(Arm) (MoreArms)] [] };
+pub(crate) const OF_MORE_ARMS: [&[Symbol]; 2] = productions! { [(Arm) (MoreArms)] [] };
 
-const OF_CASE_ELSE: [&[Symbol]; 2] = productions! { [ELSE (Expr)] [] };
+pub(crate) const OF_CASE_ELSE: [&[Symbol]; 2] = productions! { [ELSE (Expr)] [] };
 
-const OF_EXPRS: [&[Symbol]; 1] = productions! { [(Expr) (MoreExprs)] };
+pub(crate) const OF_EXPRS: [&[Symbol]; 1] = productions! { [(Expr) (MoreExprs)] };
 
-const OF_MORE_EXPRS: [&[Symbol]; 2] = productions! { [COMMA (Expr) (MoreExprs)] [] };
+pub(crate) const OF_MORE_EXPRS: [&[Symbol]; 2] = productions! { [COMMA (Expr) (MoreExprs)] [] };
 
 /// Where neither a WHILE nor a CATCH stands around.
 const OUTSIDE: Around = Around {

@@ -34,14 +34,14 @@ returns-then-not-branch-clause-means c =
     let is = expected c.pop.new.self.items in
     let e = on_top c.loop-symbol.stack.items c.pop.new.self.items c.in-Some.symbol c.in-Some.ensures.items ∙ ap (λ q. symbol_of q ∷ is) c.in-Rule.is in
     stops_rule (expected c.args.stack.now.items) c.args.kind c.args.held.now c.args.notes.now c.loop-symbol.notes (expected c.loop-symbol.stack.items) is
-    c.in-Rule.rule (expected c.open.new.stack.items) (expected c.open.new.stack.items) e (rw c.if-not-branch.true at c.in_ok-open-in-Rule.ensures) c.loop-symbol.invariant.keeps
+    c.in-Rule.rule (expected c.open_before.new.stack.items) (expected c.open_before.new.stack.items) e (rw c.if-not-branch.true at c.in_ok-open_before-in-Rule.ensures) c.loop-symbol.invariant.keeps
 
 pub loop-symbol-smaller : goal.loop-symbol-smaller
 loop-symbol-smaller c =
     let is = expected c.pop.new.self.items in
     let e = on_top c.loop-symbol.stack.items c.pop.new.self.items c.in-Some.symbol c.in-Some.ensures.items ∙ ap (λ q. symbol_of q ∷ is) c.in-Rule.is in
-    subst (λ z. lead (expected c.open.new.stack.items) < lead z) (sym e)
-    (came_lower c.in-Rule.rule (Some c.args.kind) is (expected c.open.new.stack.items) (rw c.if-not-branch.false at c.in_ok-open-in-Rule.ensures))
+    subst (λ z. lead (expected c.open_before.new.stack.items) < lead z) (sym e)
+    (came_lower c.in-Rule.rule (Some c.args.kind) is (expected c.open_before.new.stack.items) (rw c.if-not-branch.false at c.in_ok-open_before-in-Rule.ensures))
 
 pub loop-symbol-preserved : goal.loop-symbol-preserved
 loop-symbol-preserved c =
@@ -49,7 +49,7 @@ loop-symbol-preserved c =
     let e = on_top c.loop-symbol.stack.items c.pop.new.self.items c.in-Some.symbol c.in-Some.ensures.items ∙ ap (λ q. symbol_of q ∷ is) c.in-Rule.is in
     record {
       keeps = feeds_open (expected c.args.stack.now.items) c.args.kind c.args.held.now c.args.notes.now c.loop-symbol.notes (expected c.loop-symbol.stack.items) is
-          c.in-Rule.rule (expected c.open.new.stack.items) e (rw c.if-not-branch.false at c.in_ok-open-in-Rule.ensures) c.loop-symbol.invariant.keeps;
+          c.in-Rule.rule (expected c.open_before.new.stack.items) e (rw c.if-not-branch.false at c.in_ok-open_before-in-Rule.ensures) c.loop-symbol.invariant.keeps;
       place = c.loop-symbol.invariant.place;
     }
 

@@ -1,0 +1,426 @@
+//! The productions of the commonest rules, picked by one look at the next lexeme's kind.
+
+ghost use Rattle.std.specs.Prelude.{◌≡◌, Some, IfOk, IfSome};
+ghost use Rattle.tsql_grammar.specs.declared.rule.Rule.TheVariants as r;
+ghost use Rattle.tsql_recognizer.specs.Stack.{expected, shown, pick, symbols_of_rule, Opens};
+
+use crate::choice::{admits, push_all};
+use crate::fronts::may_begin;
+use crate::open::open;
+use crate::place::same_kind;
+use crate::symbol::Symbol;
+use crate::table;
+use std::alloc::AllocError;
+use tsql_grammar::{Class, Kind, Reserved, Rule};
+use tsql_lexer::Sign;
+
+/// Puts what is expected in a rule's place on the stack, if a lexeme of the kind chooses it.
+pub(crate) fn open_before(
+    rule: Rule,
+    kind: Kind,
+    stack: &mut Vec<Symbol>,
+) -> Result<bool, AllocError>
+    ensures { IfOk result (λ found. Opens (pick (symbols_of_rule rule) (Some kind)) found (expected stack.old.items) (expected stack.new.items)) }
+{
+    match pick_common(rule, kind) {
+        None => open(rule, Some(kind), stack),
+        Some(production) => {
+            push_all(stack, production)?;
+            Ok(true)
+        }
+    }
+}
+
+/// The production that the kind chooses, if the rule is a common one and one is chosen.
+fn pick_common(rule: Rule, kind: Kind) -> Option<&'static [Symbol]>
+    ensures { IfSome result (λ it. Some (shown it) ≡ pick (symbols_of_rule rule) (Some kind)) }
+{
+    match rule {
+        Rule::MoreValueRows => of_more_value_rows(kind),
+        Rule::MoreItems => of_more_items(kind),
+        Rule::Test => of_test(kind),
+        Rule::MoreOrs => of_more_ors(kind),
+        Rule::AndTest => of_and_test(kind),
+        Rule::MoreAnds => of_more_ands(kind),
+        Rule::NotTest => of_not_test(kind),
+        Rule::MoreNots => of_more_nots(kind),
+        Rule::Basic => of_basic(kind),
+        Rule::Comparison => of_comparison(kind),
+        Rule::CompareSign => of_compare_sign(kind),
+        Rule::OptionalNot => of_optional_not(kind),
+        Rule::Membership => of_membership(kind),
+        Rule::InList => of_in_list(kind),
+        Rule::Expr => of_expr(kind),
+        Rule::MoreTerms => of_more_terms(kind),
+        Rule::AddSign => of_add_sign(kind),
+        Rule::Product => of_product(kind),
+        Rule::MoreFactors => of_more_factors(kind),
+        Rule::MultiplySign => of_multiply_sign(kind),
+        Rule::Unary => of_unary(kind),
+        Rule::MoreSigns => of_more_signs(kind),
+        Rule::Primary => of_primary(kind),
+        Rule::SimplePrimary => of_simple_primary(kind),
+        Rule::OtherPrimary => of_other_primary(kind),
+        Rule::Enclosed => of_enclosed(kind),
+        Rule::NamedPrimary => of_named_primary(kind),
+        Rule::AfterName => of_after_name(kind),
+        Rule::Arm => of_arm(kind),
+        Rule::MoreArms => of_more_arms(kind),
+        Rule::CaseElse => of_case_else(kind),
+        Rule::Exprs => of_exprs(kind),
+        Rule::MoreExprs => of_more_exprs(kind),
+        _ => None,
+    }
+}
+
+fn of_more_value_rows(kind: Kind) -> Option<&'static [Symbol]>
+    ensures { IfSome result (λ it. Some (shown it) ≡ pick (symbols_of_rule r.MoreValueRows) (Some kind)) }
+{
+    if same_kind(Kind::Sign(Sign::Comma), kind) {
+        return Some(table::OF_MORE_VALUE_ROWS[0]);
+    }
+    Some(table::OF_MORE_VALUE_ROWS[1])
+}
+
+fn of_more_items(kind: Kind) -> Option<&'static [Symbol]>
+    ensures { IfSome result (λ it. Some (shown it) ≡ pick (symbols_of_rule r.MoreItems) (Some kind)) }
+{
+    if same_kind(Kind::Sign(Sign::Comma), kind) {
+        return Some(table::OF_MORE_ITEMS[0]);
+    }
+    Some(table::OF_MORE_ITEMS[1])
+}
+
+fn of_test(kind: Kind) -> Option<&'static [Symbol]>
+    ensures { IfSome result (λ it. Some (shown it) ≡ pick (symbols_of_rule r.Test) (Some kind)) }
+{
+    if may_begin(Rule::AndTest, kind) {
+        return Some(table::OF_TEST[0]);
+    }
+    None
+}
+
+fn of_more_ors(kind: Kind) -> Option<&'static [Symbol]>
+    ensures { IfSome result (λ it. Some (shown it) ≡ pick (symbols_of_rule r.MoreOrs) (Some kind)) }
+{
+    if same_kind(Kind::Reserved(Reserved::Or), kind) {
+        return Some(table::OF_MORE_ORS[0]);
+    }
+    Some(table::OF_MORE_ORS[1])
+}
+
+fn of_and_test(kind: Kind) -> Option<&'static [Symbol]>
+    ensures { IfSome result (λ it. Some (shown it) ≡ pick (symbols_of_rule r.AndTest) (Some kind)) }
+{
+    if may_begin(Rule::NotTest, kind) {
+        return Some(table::OF_AND_TEST[0]);
+    }
+    None
+}
+
+fn of_more_ands(kind: Kind) -> Option<&'static [Symbol]>
+    ensures { IfSome result (λ it. Some (shown it) ≡ pick (symbols_of_rule r.MoreAnds) (Some kind)) }
+{
+    if same_kind(Kind::Reserved(Reserved::And), kind) {
+        return Some(table::OF_MORE_ANDS[0]);
+    }
+    Some(table::OF_MORE_ANDS[1])
+}
+
+fn of_not_test(kind: Kind) -> Option<&'static [Symbol]>
+    ensures { IfSome result (λ it. Some (shown it) ≡ pick (symbols_of_rule r.NotTest) (Some kind)) }
+{
+    if same_kind(Kind::Reserved(Reserved::Not), kind) {
+        return Some(table::OF_NOT_TEST[0]);
+    }
+    if may_begin(Rule::Basic, kind) {
+        return Some(table::OF_NOT_TEST[1]);
+    }
+    None
+}
+
+fn of_more_nots(kind: Kind) -> Option<&'static [Symbol]>
+    ensures { IfSome result (λ it. Some (shown it) ≡ pick (symbols_of_rule r.MoreNots) (Some kind)) }
+{
+    if same_kind(Kind::Reserved(Reserved::Not), kind) {
+        return Some(table::OF_MORE_NOTS[0]);
+    }
+    Some(table::OF_MORE_NOTS[1])
+}
+
+fn of_basic(kind: Kind) -> Option<&'static [Symbol]>
+    ensures { IfSome result (λ it. Some (shown it) ≡ pick (symbols_of_rule r.Basic) (Some kind)) }
+{
+    if same_kind(Kind::Reserved(Reserved::Exists), kind) {
+        return Some(table::OF_BASIC[0]);
+    }
+    if same_kind(Kind::Sign(Sign::Open), kind) {
+        return Some(table::OF_BASIC[1]);
+    }
+    if may_begin(Rule::SimplePrimary, kind) {
+        return Some(table::OF_BASIC[2]);
+    }
+    if may_begin(Rule::AddSign, kind) {
+        return Some(table::OF_BASIC[3]);
+    }
+    None
+}
+
+fn of_comparison(kind: Kind) -> Option<&'static [Symbol]>
+    ensures { IfSome result (λ it. Some (shown it) ≡ pick (symbols_of_rule r.Comparison) (Some kind)) }
+{
+    if may_begin(Rule::CompareSign, kind) {
+        return Some(table::OF_COMPARISON[0]);
+    }
+    if same_kind(Kind::Reserved(Reserved::Is), kind) {
+        return Some(table::OF_COMPARISON[1]);
+    }
+    if same_kind(Kind::Reserved(Reserved::Not), kind) {
+        return Some(table::OF_COMPARISON[2]);
+    }
+    if may_begin(Rule::Membership, kind) {
+        return Some(table::OF_COMPARISON[3]);
+    }
+    None
+}
+
+fn of_compare_sign(kind: Kind) -> Option<&'static [Symbol]>
+    ensures { IfSome result (λ it. Some (shown it) ≡ pick (symbols_of_rule r.CompareSign) (Some kind)) }
+{
+    match kind {
+        Kind::Sign(Sign::Equal) => Some(table::OF_COMPARE_SIGN[0]),
+        Kind::Sign(Sign::NotEqual) => Some(table::OF_COMPARE_SIGN[1]),
+        Kind::Sign(Sign::Less) => Some(table::OF_COMPARE_SIGN[2]),
+        Kind::Sign(Sign::LessEqual) => Some(table::OF_COMPARE_SIGN[3]),
+        Kind::Sign(Sign::Greater) => Some(table::OF_COMPARE_SIGN[4]),
+        Kind::Sign(Sign::GreaterEqual) => Some(table::OF_COMPARE_SIGN[5]),
+        _ => None,
+    }
+}
+
+fn of_optional_not(kind: Kind) -> Option<&'static [Symbol]>
+    ensures { IfSome result (λ it. Some (shown it) ≡ pick (symbols_of_rule r.OptionalNot) (Some kind)) }
+{
+    if same_kind(Kind::Reserved(Reserved::Not), kind) {
+        return Some(table::OF_OPTIONAL_NOT[0]);
+    }
+    Some(table::OF_OPTIONAL_NOT[1])
+}
+
+fn of_membership(kind: Kind) -> Option<&'static [Symbol]>
+    ensures { IfSome result (λ it. Some (shown it) ≡ pick (symbols_of_rule r.Membership) (Some kind)) }
+{
+    if same_kind(Kind::Reserved(Reserved::Between), kind) {
+        return Some(table::OF_MEMBERSHIP[0]);
+    }
+    if same_kind(Kind::Reserved(Reserved::In), kind) {
+        return Some(table::OF_MEMBERSHIP[1]);
+    }
+    None
+}
+
+fn of_in_list(kind: Kind) -> Option<&'static [Symbol]>
+    ensures { IfSome result (λ it. Some (shown it) ≡ pick (symbols_of_rule r.InList) (Some kind)) }
+{
+    if same_kind(Kind::Reserved(Reserved::Select), kind) {
+        return Some(table::OF_IN_LIST[0]);
+    }
+    if may_begin(Rule::Exprs, kind) {
+        return Some(table::OF_IN_LIST[1]);
+    }
+    None
+}
+
+fn of_expr(kind: Kind) -> Option<&'static [Symbol]>
+    ensures { IfSome result (λ it. Some (shown it) ≡ pick (symbols_of_rule r.Expr) (Some kind)) }
+{
+    if may_begin(Rule::Product, kind) {
+        return Some(table::OF_EXPR[0]);
+    }
+    None
+}
+
+fn of_more_terms(kind: Kind) -> Option<&'static [Symbol]>
+    ensures { IfSome result (λ it. Some (shown it) ≡ pick (symbols_of_rule r.MoreTerms) (Some kind)) }
+{
+    if may_begin(Rule::AddSign, kind) {
+        return Some(table::OF_MORE_TERMS[0]);
+    }
+    Some(table::OF_MORE_TERMS[1])
+}
+
+fn of_add_sign(kind: Kind) -> Option<&'static [Symbol]>
+    ensures { IfSome result (λ it. Some (shown it) ≡ pick (symbols_of_rule r.AddSign) (Some kind)) }
+{
+    if same_kind(Kind::Sign(Sign::Plus), kind) {
+        return Some(table::OF_ADD_SIGN[0]);
+    }
+    if same_kind(Kind::Sign(Sign::Minus), kind) {
+        return Some(table::OF_ADD_SIGN[1]);
+    }
+    None
+}
+
+fn of_product(kind: Kind) -> Option<&'static [Symbol]>
+    ensures { IfSome result (λ it. Some (shown it) ≡ pick (symbols_of_rule r.Product) (Some kind)) }
+{
+    if may_begin(Rule::Unary, kind) {
+        return Some(table::OF_PRODUCT[0]);
+    }
+    None
+}
+
+fn of_more_factors(kind: Kind) -> Option<&'static [Symbol]>
+    ensures { IfSome result (λ it. Some (shown it) ≡ pick (symbols_of_rule r.MoreFactors) (Some kind)) }
+{
+    if may_begin(Rule::MultiplySign, kind) {
+        return Some(table::OF_MORE_FACTORS[0]);
+    }
+    Some(table::OF_MORE_FACTORS[1])
+}
+
+fn of_multiply_sign(kind: Kind) -> Option<&'static [Symbol]>
+    ensures { IfSome result (λ it. Some (shown it) ≡ pick (symbols_of_rule r.MultiplySign) (Some kind)) }
+{
+    match kind {
+        Kind::Sign(Sign::Star) => Some(table::OF_MULTIPLY_SIGN[0]),
+        Kind::Sign(Sign::Slash) => Some(table::OF_MULTIPLY_SIGN[1]),
+        Kind::Sign(Sign::Percent) => Some(table::OF_MULTIPLY_SIGN[2]),
+        _ => None,
+    }
+}
+
+fn of_unary(kind: Kind) -> Option<&'static [Symbol]>
+    ensures { IfSome result (λ it. Some (shown it) ≡ pick (symbols_of_rule r.Unary) (Some kind)) }
+{
+    if may_begin(Rule::AddSign, kind) {
+        return Some(table::OF_UNARY[0]);
+    }
+    if may_begin(Rule::Primary, kind) {
+        return Some(table::OF_UNARY[1]);
+    }
+    None
+}
+
+fn of_more_signs(kind: Kind) -> Option<&'static [Symbol]>
+    ensures { IfSome result (λ it. Some (shown it) ≡ pick (symbols_of_rule r.MoreSigns) (Some kind)) }
+{
+    if may_begin(Rule::AddSign, kind) {
+        return Some(table::OF_MORE_SIGNS[0]);
+    }
+    Some(table::OF_MORE_SIGNS[1])
+}
+
+fn of_primary(kind: Kind) -> Option<&'static [Symbol]>
+    ensures { IfSome result (λ it. Some (shown it) ≡ pick (symbols_of_rule r.Primary) (Some kind)) }
+{
+    if same_kind(Kind::Sign(Sign::Open), kind) {
+        return Some(table::OF_PRIMARY[0]);
+    }
+    if may_begin(Rule::SimplePrimary, kind) {
+        return Some(table::OF_PRIMARY[1]);
+    }
+    None
+}
+
+fn of_simple_primary(kind: Kind) -> Option<&'static [Symbol]>
+    ensures { IfSome result (λ it. Some (shown it) ≡ pick (symbols_of_rule r.SimplePrimary) (Some kind)) }
+{
+    if same_kind(Kind::Variable, kind) {
+        return Some(table::OF_SIMPLE_PRIMARY[0]);
+    }
+    if may_begin(Rule::NamedPrimary, kind) {
+        return Some(table::OF_SIMPLE_PRIMARY[1]);
+    }
+    if may_begin(Rule::OtherPrimary, kind) {
+        return Some(table::OF_SIMPLE_PRIMARY[2]);
+    }
+    None
+}
+
+fn of_other_primary(kind: Kind) -> Option<&'static [Symbol]>
+    ensures { IfSome result (λ it. Some (shown it) ≡ pick (symbols_of_rule r.OtherPrimary) (Some kind)) }
+{
+    match kind {
+        Kind::Number => Some(table::OF_OTHER_PRIMARY[0]),
+        Kind::Text => Some(table::OF_OTHER_PRIMARY[1]),
+        Kind::Reserved(Reserved::Null) => Some(table::OF_OTHER_PRIMARY[2]),
+        Kind::Reserved(Reserved::Case) => Some(table::OF_OTHER_PRIMARY[7]),
+        _ => None,
+    }
+}
+
+fn of_enclosed(kind: Kind) -> Option<&'static [Symbol]>
+    ensures { IfSome result (λ it. Some (shown it) ≡ pick (symbols_of_rule r.Enclosed) (Some kind)) }
+{
+    if same_kind(Kind::Reserved(Reserved::Select), kind) {
+        return Some(table::OF_ENCLOSED[0]);
+    }
+    if may_begin(Rule::Expr, kind) {
+        return Some(table::OF_ENCLOSED[1]);
+    }
+    None
+}
+
+fn of_named_primary(kind: Kind) -> Option<&'static [Symbol]>
+    ensures { IfSome result (λ it. Some (shown it) ≡ pick (symbols_of_rule r.NamedPrimary) (Some kind)) }
+{
+    if admits(Class::PlainName, kind) {
+        return Some(table::OF_NAMED_PRIMARY[0]);
+    }
+    None
+}
+
+fn of_after_name(kind: Kind) -> Option<&'static [Symbol]>
+    ensures { IfSome result (λ it. Some (shown it) ≡ pick (symbols_of_rule r.AfterName) (Some kind)) }
+{
+    if same_kind(Kind::Sign(Sign::Dot), kind) {
+        return Some(table::OF_AFTER_NAME[0]);
+    }
+    Some(table::OF_AFTER_NAME[1])
+}
+
+fn of_arm(kind: Kind) -> Option<&'static [Symbol]>
+    ensures { IfSome result (λ it. Some (shown it) ≡ pick (symbols_of_rule r.Arm) (Some kind)) }
+{
+    if same_kind(Kind::Reserved(Reserved::When), kind) {
+        return Some(table::OF_ARM[0]);
+    }
+    None
+}
+
+fn of_more_arms(kind: Kind) -> Option<&'static [Symbol]>
+    ensures { IfSome result (λ it. Some (shown it) ≡ pick (symbols_of_rule r.MoreArms) (Some kind)) }
+{
+    if may_begin(Rule::Arm, kind) {
+        return Some(table::OF_MORE_ARMS[0]);
+    }
+    Some(table::OF_MORE_ARMS[1])
+}
+
+fn of_case_else(kind: Kind) -> Option<&'static [Symbol]>
+    ensures { IfSome result (λ it. Some (shown it) ≡ pick (symbols_of_rule r.CaseElse) (Some kind)) }
+{
+    if same_kind(Kind::Reserved(Reserved::Else), kind) {
+        return Some(table::OF_CASE_ELSE[0]);
+    }
+    Some(table::OF_CASE_ELSE[1])
+}
+
+fn of_exprs(kind: Kind) -> Option<&'static [Symbol]>
+    ensures { IfSome result (λ it. Some (shown it) ≡ pick (symbols_of_rule r.Exprs) (Some kind)) }
+{
+    if may_begin(Rule::Expr, kind) {
+        return Some(table::OF_EXPRS[0]);
+    }
+    None
+}
+
+fn of_more_exprs(kind: Kind) -> Option<&'static [Symbol]>
+    ensures { IfSome result (λ it. Some (shown it) ≡ pick (symbols_of_rule r.MoreExprs) (Some kind)) }
+{
+    if same_kind(Kind::Sign(Sign::Comma), kind) {
+        return Some(table::OF_MORE_EXPRS[0]);
+    }
+    Some(table::OF_MORE_EXPRS[1])
+}
