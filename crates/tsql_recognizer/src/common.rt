@@ -32,6 +32,7 @@ pub(crate) fn open_before(
 }
 
 /// The production that the kind chooses, if the rule is a common one and one is chosen.
+#[inline(never)]
 fn pick_common(rule: Rule, kind: Kind) -> Option<&'static [Symbol]>
     ensures { IfSome result (λ it. Some (shown it) ≡ pick (symbols_of_rule rule) (Some kind)) }
 {

@@ -14,6 +14,7 @@
 
 mod choice;
 mod common;
+mod counts;
 mod first;
 mod fronts;
 mod laws;

@@ -5,11 +5,12 @@ ghost use Rattle.tsql_grammar.specs.declared.rule.Rule.TheVariants as r;
 ghost use Rattle.tsql_recognizer.specs.Stack.{expected, pick, Opens, symbols_of_rule};
 
 use crate::choice::push_chosen;
+use crate::counts::{compared, opened, operand, tested};
 use crate::lexemes::{
-    AS, BEFORE_ELSE, BEGIN, BREAK, CATCH, CLOSE, COMMA, COMMIT, CONTINUE, CREATE, DEALLOCATE,
-    DECLARE, DELETE, DROP, ELSE, END, EXECUTE, EXISTS, FETCH, FROM, IF, INSERT, INTO, NAME, NOT,
-    OPEN, PAREN_CLOSE, PAREN_OPEN, PRINT, RAISE_ERROR, RETURN, ROLLBACK, SAVE, SELECT, SEMICOLON,
-    SET, THROW, TRY, UPDATE, WHILE,
+    BEFORE_ELSE, BEGIN, BREAK, CATCH, CLOSE, COMMA, COMMIT, CONTINUE, CREATE, DEALLOCATE, DECLARE,
+    DELETE, DROP, ELSE, END, EXECUTE, FETCH, FROM, IF, INSERT, INTO, NAME, OPEN, PAREN_CLOSE,
+    PAREN_OPEN, PRINT, RAISE_ERROR, RETURN, ROLLBACK, SAVE, SELECT, SEMICOLON, SET, THROW, TRY,
+    UPDATE, WHILE,
 };
 use crate::symbol::Symbol;
 use crate::table::{arguments_of, productions};
@@ -388,126 +389,6 @@ fn after_function(
         ],
         next,
     )
-}
-
-fn opened(count: u32, next: Option<Kind>, stack: &mut Vec<Symbol>) -> Result<bool, AllocError>
-    ensures { IfOk result (λ found. Opens (pick (symbols_of_rule (r.Opened count)) next) found (expected stack.old.items) (expected stack.new.items)) }
-{
-    let Some(more) = count.checked_add(1) else {
-        return Err(AllocError);
-    };
-    push_chosen(
-        stack,
-        &[
-            &[
-                PAREN_OPEN,
-                Symbol::Mark(Mark::Enter),
-                Symbol::Rule(Rule::Opened(more)),
-            ],
-            &[
-                Symbol::Rule(Rule::SimplePrimary),
-                Symbol::Rule(Rule::Operand(more)),
-            ],
-            &[
-                Symbol::Rule(Rule::AddSign),
-                Symbol::Rule(Rule::MoreSigns),
-                Symbol::Rule(Rule::Primary),
-                Symbol::Rule(Rule::Operand(more)),
-            ],
-            &[
-                SELECT,
-                Symbol::Rule(Rule::Select),
-                PAREN_CLOSE,
-                Symbol::Mark(Mark::Leave),
-                Symbol::Rule(Rule::Operand(count)),
-            ],
-            &[
-                NOT,
-                Symbol::Rule(Rule::MoreNots),
-                Symbol::Rule(Rule::Basic),
-                Symbol::Rule(Rule::MoreAnds),
-                Symbol::Rule(Rule::MoreOrs),
-                PAREN_CLOSE,
-                Symbol::Mark(Mark::Leave),
-                Symbol::Rule(Rule::Tested(count)),
-            ],
-            &[
-                EXISTS,
-                Symbol::Mark(Mark::Enter),
-                PAREN_OPEN,
-                SELECT,
-                Symbol::Rule(Rule::Select),
-                PAREN_CLOSE,
-                Symbol::Mark(Mark::Leave),
-                Symbol::Rule(Rule::MoreAnds),
-                Symbol::Rule(Rule::MoreOrs),
-                PAREN_CLOSE,
-                Symbol::Mark(Mark::Leave),
-                Symbol::Rule(Rule::Tested(count)),
-            ],
-        ],
-        next,
-    )
-}
-
-fn operand(count: u32, next: Option<Kind>, stack: &mut Vec<Symbol>) -> Result<bool, AllocError>
-    ensures { IfOk result (λ found. Opens (pick (symbols_of_rule (r.Operand count)) next) found (expected stack.old.items) (expected stack.new.items)) }
-{
-    push_chosen(
-        stack,
-        &[&[
-            Symbol::Rule(Rule::MoreFactors),
-            Symbol::Rule(Rule::MoreTerms),
-            Symbol::Rule(Rule::Compared(count)),
-        ]],
-        next,
-    )
-}
-
-fn compared(count: u32, next: Option<Kind>, stack: &mut Vec<Symbol>) -> Result<bool, AllocError>
-    ensures { IfOk result (λ found. Opens (pick (symbols_of_rule (r.Compared count)) next) found (expected stack.old.items) (expected stack.new.items)) }
-{
-    match count.checked_sub(1) {
-        None => push_chosen(stack, &[&[Symbol::Rule(Rule::Comparison)]], next),
-        Some(less) => push_chosen(
-            stack,
-            &[
-                &[
-                    PAREN_CLOSE,
-                    Symbol::Mark(Mark::Leave),
-                    Symbol::Rule(Rule::Operand(less)),
-                ],
-                &[
-                    Symbol::Rule(Rule::Comparison),
-                    Symbol::Rule(Rule::MoreAnds),
-                    Symbol::Rule(Rule::MoreOrs),
-                    PAREN_CLOSE,
-                    Symbol::Mark(Mark::Leave),
-                    Symbol::Rule(Rule::Tested(less)),
-                ],
-            ],
-            next,
-        ),
-    }
-}
-
-fn tested(count: u32, next: Option<Kind>, stack: &mut Vec<Symbol>) -> Result<bool, AllocError>
-    ensures { IfOk result (λ found. Opens (pick (symbols_of_rule (r.Tested count)) next) found (expected stack.old.items) (expected stack.new.items)) }
-{
-    match count.checked_sub(1) {
-        None => push_chosen(stack, &[&[]], next),
-        Some(less) => push_chosen(
-            stack,
-            &[&[
-                Symbol::Rule(Rule::MoreAnds),
-                Symbol::Rule(Rule::MoreOrs),
-                PAREN_CLOSE,
-                Symbol::Mark(Mark::Leave),
-                Symbol::Rule(Rule::Tested(less)),
-            ]],
-            next,
-        ),
-    }
 }
 
 fn function_arguments(

@@ -1,7 +1,7 @@
 use Rattle.std.specs.Prelude.{suc}
 use Rattle.tsql_grammar.specs.declared.rule.Rule.TheVariants as r
 use Rattle.tsql_recognizer.proofs.Counted.{at_number, is_zero, is_suc}
-use Rattle.tsql_recognizer.proofs.open.tested.Goals as goal
+use Rattle.tsql_recognizer.proofs.counts.tested.Goals as goal
 
 pub returns-in-None : goal.returns-in-None
 returns-in-None c = at_number (λ n. r.Tested n) c.args.count 0 (is_zero c.args.count c.in-None.ensures) _ _ _ _ c.push_chosen.ensures
