@@ -1,6 +1,6 @@
 -- A counted rule at a number that is known.
-use Rattle.std.specs.Prelude.{◌≡◌, ℕ, zero, suc, ◌-◌, ◌≤◌, Bool, true, List, Option, Some, Result, IfOk, IfSome, refl}
-use Rattle.std.proofs.Common.{sym, subst, arith, Bor}
+use Rattle.std.specs.Prelude.{◌≡◌, ℕ, zero, suc, ◌-◌, ◌≤◌, Bool, true, List, Option, Result, IfOk, refl}
+use Rattle.std.proofs.Common.{sym, subst, arith}
 use Rattle.std.specs.declared.alloc.AllocError.{AllocError}
 use Rattle.tsql_grammar.specs.declared.kind.Kind.{Kind}
 use Rattle.tsql_grammar.specs.declared.kind.Function.{Function}
@@ -8,8 +8,7 @@ use Rattle.tsql_grammar.specs.declared.rule.Around.{Around}
 use Rattle.tsql_grammar.specs.declared.rule.Rule.{Rule}
 use Rattle.tsql_grammar.specs.declared.rule.Rule.TheVariants as r
 use Rattle.tsql_grammar.specs.Productions.{Symbols}
-use Rattle.tsql_recognizer.specs.declared.symbol.Symbol.{Symbol as CodeSymbol}
-use Rattle.tsql_recognizer.specs.Stack.{shown, pick, symbols_of_rule, Opens, is_plain}
+use Rattle.tsql_recognizer.specs.Stack.{pick, symbols_of_rule, Opens, is_plain}
 
 -- what came of opening the rule
 abbrev pub Came : Rule → Option Kind → Result Bool AllocError → Symbols → Symbols → Type 0
@@ -31,11 +30,6 @@ at_rule a b e next result old new h = subst (λ c. Came c next result old new) (
 pub by_symbols : (ways those : List Symbols) → ways ≡ those → (next : Option Kind) (result : Result Bool AllocError) (old new : Symbols)
     → IfOk result (λ found. Opens (pick ways next) found old new) → IfOk result (λ found. Opens (pick those next) found old new)
 by_symbols ways those e next result old new h = subst (λ w. IfOk result (λ found. Opens (pick w next) found old new)) e h
-
--- the production that a common rule has, at a rule that is known
-pub common_at : (a b : Rule) → a ≡ b → (k : Kind) (found : Option (Bor (List CodeSymbol))) → IfSome found (λ it. Some (shown it) ≡ pick (symbols_of_rule b) (Some k))
-    → IfSome found (λ it. Some (shown it) ≡ pick (symbols_of_rule a) (Some k))
-common_at a b e k found h = subst (λ c. IfSome found (λ it. Some (shown it) ≡ pick (symbols_of_rule c) (Some k))) (sym e) h
 
 -- a rule that is none of those with a parameter is plain
 pub plain_so : (a : Rule)

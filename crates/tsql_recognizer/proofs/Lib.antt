@@ -5,5 +5,7 @@ pub mod Weights
 pub mod Steps
 pub mod Noting
 pub mod Feeding
+pub mod Leading
+pub mod OperandSteps
 pub mod Reached
 pub mod PlainVerdicts

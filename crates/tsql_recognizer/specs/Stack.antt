@@ -1,6 +1,6 @@
 -- Own: the symbols of the code as those of the grammar, and which of a rule's productions one lexeme
 -- ahead chooses, by its symbols.
-use Rattle.std.specs.Prelude.{◌≡◌, Bool, true, false, List, [], ◌∷◌, ◌++◌, map, reverse, Option, Some, None, if◌then◌else◌}
+use Rattle.std.specs.Prelude.{◌≡◌, ℕ, zero, suc, Bool, true, false, List, [], ◌∷◌, ◌++◌, map, reverse, Option, Some, None, if◌then◌else◌}
 use Rattle.std.proofs.Common.{Bor}
 use Rattle.tsql_grammar.specs.declared.kind.Kind.{Kind}
 use Rattle.tsql_grammar.specs.declared.rule.Class.{Class}
@@ -60,6 +60,23 @@ symbols_of_rule a = map (λ p. p.symbols) (productions [] a)
 abbrev pub Opens : Option Symbols → Bool → Symbols → Symbols → Type 0
 Opens None found old new = found ≡ false
 Opens (Some is) found old new = (found ≡ true) × (new ≡ is ++ old)
+
+-- so many rules are opened, one after another, each as the kind chooses
+abbrev pub Leads : ℕ → Kind → Symbols → Symbols → Type 0
+Leads zero k old new = new ≡ old
+Leads (suc n) k [] new = ⊥
+Leads (suc n) k (lexeme c ∷ is) new = ⊥
+Leads (suc n) k (mark m ∷ is) new = ⊥
+Leads (suc n) k (rule a ∷ is) new = (chosen : Symbols) × (pick (symbols_of_rule a) (Some k) ≡ Some chosen) × Leads n k (chosen ++ is) new
+
+-- What a rule comes to before a lexeme of the kind, at least one step on.
+abbrev pub ComesTo : Kind → Rule → Symbols → Type 0
+ComesTo k a new = (n : ℕ) × Leads (suc n) k (rule a ∷ []) new
+
+-- What became of a rule before a lexeme of the kind: no production is chosen, or it is opened, at least one step on.
+abbrev pub Develops : Kind → Rule → Bool → Symbols → Symbols → Type 0
+Develops k a false old new = pick (symbols_of_rule a) (Some k) ≡ None
+Develops k a true old new = (n : ℕ) × Leads (suc n) k (rule a ∷ old) new
 
 -- rules without a parameter
 abbrev pub is_plain : Rule → Bool

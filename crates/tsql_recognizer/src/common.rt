@@ -2,11 +2,14 @@
 
 ghost use Rattle.std.specs.Prelude.{◌≡◌, Some, IfOk, IfSome};
 ghost use Rattle.tsql_grammar.specs.declared.rule.Rule.TheVariants as r;
-ghost use Rattle.tsql_recognizer.specs.Stack.{expected, shown, pick, symbols_of_rule, Opens};
+ghost use Rattle.tsql_recognizer.specs.Stack.{expected, shown, pick, symbols_of_rule, ComesTo, Develops};
 
 use crate::choice::{admits, push_all};
 use crate::fronts::may_begin;
 use crate::open::open;
+use crate::operands::{
+    expr_before, product_before, simple_primary_before, test_before, unary_before,
+};
 use crate::place::same_kind;
 use crate::symbol::Symbol;
 use crate::table;
@@ -14,13 +17,13 @@ use std::alloc::AllocError;
 use tsql_grammar::{Class, Kind, Reserved, Rule};
 use tsql_lexer::Sign;
 
-/// Puts what is expected in a rule's place on the stack, if a lexeme of the kind chooses it.
+/// Puts what is expected in a rule's place on the stack, some steps on, if a lexeme of the kind chooses it.
 pub(crate) fn open_before(
     rule: Rule,
     kind: Kind,
     stack: &mut Vec<Symbol>,
 ) -> Result<bool, AllocError>
-    ensures { IfOk result (λ found. Opens (pick (symbols_of_rule rule) (Some kind)) found (expected stack.old.items) (expected stack.new.items)) }
+    ensures { IfOk result (λ found. Develops kind rule found (expected stack.old.items) (expected stack.new.items)) }
 {
     match pick_common(rule, kind) {
         None => open(rule, Some(kind), stack),
@@ -31,15 +34,15 @@ pub(crate) fn open_before(
     }
 }
 
-/// The production that the kind chooses, if the rule is a common one and one is chosen.
+/// What the rule comes to before the kind, if it is a common one and one is chosen.
 #[inline(never)]
 fn pick_common(rule: Rule, kind: Kind) -> Option<&'static [Symbol]>
-    ensures { IfSome result (λ it. Some (shown it) ≡ pick (symbols_of_rule rule) (Some kind)) }
+    ensures { IfSome result (λ it. ComesTo kind rule (shown it)) }
 {
     match rule {
         Rule::MoreValueRows => of_more_value_rows(kind),
         Rule::MoreItems => of_more_items(kind),
-        Rule::Test => of_test(kind),
+        Rule::Test => test_before(kind),
         Rule::MoreOrs => of_more_ors(kind),
         Rule::AndTest => of_and_test(kind),
         Rule::MoreAnds => of_more_ands(kind),
@@ -51,16 +54,16 @@ fn pick_common(rule: Rule, kind: Kind) -> Option<&'static [Symbol]>
         Rule::OptionalNot => of_optional_not(kind),
         Rule::Membership => of_membership(kind),
         Rule::InList => of_in_list(kind),
-        Rule::Expr => of_expr(kind),
+        Rule::Expr => expr_before(kind),
         Rule::MoreTerms => of_more_terms(kind),
         Rule::AddSign => of_add_sign(kind),
-        Rule::Product => of_product(kind),
+        Rule::Product => product_before(kind),
         Rule::MoreFactors => of_more_factors(kind),
         Rule::MultiplySign => of_multiply_sign(kind),
-        Rule::Unary => of_unary(kind),
+        Rule::Unary => unary_before(kind),
         Rule::MoreSigns => of_more_signs(kind),
         Rule::Primary => of_primary(kind),
-        Rule::SimplePrimary => of_simple_primary(kind),
+        Rule::SimplePrimary => simple_primary_before(kind),
         Rule::OtherPrimary => of_other_primary(kind),
         Rule::Enclosed => of_enclosed(kind),
         Rule::NamedPrimary => of_named_primary(kind),
@@ -92,7 +95,7 @@ fn of_more_items(kind: Kind) -> Option<&'static [Symbol]>
     Some(table::OF_MORE_ITEMS[1])
 }
 
-fn of_test(kind: Kind) -> Option<&'static [Symbol]>
+pub(crate) fn of_test(kind: Kind) -> Option<&'static [Symbol]>
     ensures { IfSome result (λ it. Some (shown it) ≡ pick (symbols_of_rule r.Test) (Some kind)) }
 {
     if may_begin(Rule::AndTest, kind) {
@@ -232,7 +235,7 @@ fn of_in_list(kind: Kind) -> Option<&'static [Symbol]>
     None
 }
 
-fn of_expr(kind: Kind) -> Option<&'static [Symbol]>
+pub(crate) fn of_expr(kind: Kind) -> Option<&'static [Symbol]>
     ensures { IfSome result (λ it. Some (shown it) ≡ pick (symbols_of_rule r.Expr) (Some kind)) }
 {
     if may_begin(Rule::Product, kind) {
@@ -262,7 +265,7 @@ fn of_add_sign(kind: Kind) -> Option<&'static [Symbol]>
     None
 }
 
-fn of_product(kind: Kind) -> Option<&'static [Symbol]>
+pub(crate) fn of_product(kind: Kind) -> Option<&'static [Symbol]>
     ensures { IfSome result (λ it. Some (shown it) ≡ pick (symbols_of_rule r.Product) (Some kind)) }
 {
     if may_begin(Rule::Unary, kind) {
@@ -291,7 +294,7 @@ fn of_multiply_sign(kind: Kind) -> Option<&'static [Symbol]>
     }
 }
 
-fn of_unary(kind: Kind) -> Option<&'static [Symbol]>
+pub(crate) fn of_unary(kind: Kind) -> Option<&'static [Symbol]>
     ensures { IfSome result (λ it. Some (shown it) ≡ pick (symbols_of_rule r.Unary) (Some kind)) }
 {
     if may_begin(Rule::AddSign, kind) {
@@ -324,7 +327,7 @@ fn of_primary(kind: Kind) -> Option<&'static [Symbol]>
     None
 }
 
-fn of_simple_primary(kind: Kind) -> Option<&'static [Symbol]>
+pub(crate) fn of_simple_primary(kind: Kind) -> Option<&'static [Symbol]>
     ensures { IfSome result (λ it. Some (shown it) ≡ pick (symbols_of_rule r.SimplePrimary) (Some kind)) }
 {
     if same_kind(Kind::Variable, kind) {

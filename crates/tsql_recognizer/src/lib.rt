@@ -21,6 +21,7 @@ mod laws;
 mod lexemes;
 mod notes;
 mod open;
+mod operands;
 mod place;
 mod recognizer;
 mod symbol;

@@ -672,3 +672,52 @@ const OUTSIDE: Around = Around {
     in_while: false,
     in_catch: false,
 };
+
+/// What an `Expr` comes to before a number, a text, NULL, a name, a variable and a parenthesis.
+pub(crate) const EXPR_BY_OPERAND: [&[Symbol]; 6] = productions! {
+    [NUMBER (MoreFactors) (MoreTerms)]
+    [TEXT (MoreFactors) (MoreTerms)]
+    [NULL (MoreFactors) (MoreTerms)]
+    [PLAIN_NAME (AfterName) (MoreFactors) (MoreTerms)]
+    [VARIABLE {Uses} (MoreFactors) (MoreTerms)]
+    [PAREN_OPEN {Enter} (Enclosed) PAREN_CLOSE {Leave} (MoreFactors) (MoreTerms)]
+};
+
+/// What a `Product` comes to before a number, a text, NULL, a name, a variable and a parenthesis.
+pub(crate) const PRODUCT_BY_OPERAND: [&[Symbol]; 6] = productions! {
+    [NUMBER (MoreFactors)]
+    [TEXT (MoreFactors)]
+    [NULL (MoreFactors)]
+    [PLAIN_NAME (AfterName) (MoreFactors)]
+    [VARIABLE {Uses} (MoreFactors)]
+    [PAREN_OPEN {Enter} (Enclosed) PAREN_CLOSE {Leave} (MoreFactors)]
+};
+
+/// What an `Unary` comes to before a number, a text, NULL, a name, a variable and a parenthesis.
+pub(crate) const UNARY_BY_OPERAND: [&[Symbol]; 6] = productions! {
+    [NUMBER]
+    [TEXT]
+    [NULL]
+    [PLAIN_NAME (AfterName)]
+    [VARIABLE {Uses}]
+    [PAREN_OPEN {Enter} (Enclosed) PAREN_CLOSE {Leave}]
+};
+
+/// What a `Test` comes to before a number, a text, NULL, a name, a variable and a parenthesis.
+pub(crate) const TEST_BY_OPERAND: [&[Symbol]; 6] = productions! {
+    [NUMBER (Operand 0) (MoreAnds) (MoreOrs)]
+    [TEXT (Operand 0) (MoreAnds) (MoreOrs)]
+    [NULL (Operand 0) (MoreAnds) (MoreOrs)]
+    [PLAIN_NAME (AfterName) (Operand 0) (MoreAnds) (MoreOrs)]
+    [VARIABLE {Uses} (Operand 0) (MoreAnds) (MoreOrs)]
+    [PAREN_OPEN {Enter} (Opened 0) (MoreAnds) (MoreOrs)]
+};
+
+/// What a `SimplePrimary` comes to before a number, a text, NULL, a name, a variable.
+pub(crate) const SIMPLE_PRIMARY_BY_OPERAND: [&[Symbol]; 5] = productions! {
+    [NUMBER]
+    [TEXT]
+    [NULL]
+    [PLAIN_NAME (AfterName)]
+    [VARIABLE {Uses}]
+};

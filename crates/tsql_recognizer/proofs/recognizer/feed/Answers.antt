@@ -1,7 +1,8 @@
-use Rattle.std.proofs.Common.{◌≡◌, ◌∷◌, ◌++◌, ◌<◌, ◌-◌, [], take, ap, sym, ◌∙◌, subst, Some}
+use Rattle.std.proofs.Common.{◌≡◌, ◌∷◌, ◌++◌, ◌<◌, ◌-◌, [], take, ap, sym, ◌∙◌, subst}
 use Rattle.tsql_recognizer.specs.Stack.{symbol_of, expected}
-use Rattle.tsql_recognizer.proofs.Feeding.{feeds_open, feeds_note, feeds_lexeme, stops_lexeme, stops_rule, stops_all}
-use Rattle.tsql_recognizer.proofs.Steps.{came_lower, on_top}
+use Rattle.tsql_recognizer.proofs.Feeding.{feeds_note, feeds_lexeme, stops_lexeme, stops_rule, stops_all}
+use Rattle.tsql_recognizer.proofs.Leading.{develops_keep, develops_lower, none_opens}
+use Rattle.tsql_recognizer.proofs.Steps.{on_top}
 use Rattle.tsql_recognizer.proofs.Weights.{lead}
 use Rattle.tsql_recognizer.proofs.recognizer.feed.Goals as goal
 
@@ -34,22 +35,23 @@ returns-then-not-branch-clause-means c =
     let is = expected c.pop.new.self.items in
     let e = on_top c.loop-symbol.stack.items c.pop.new.self.items c.in-Some.symbol c.in-Some.ensures.items ∙ ap (λ q. symbol_of q ∷ is) c.in-Rule.is in
     stops_rule (expected c.args.stack.now.items) c.args.kind c.args.held.now c.args.notes.now c.loop-symbol.notes (expected c.loop-symbol.stack.items) is
-    c.in-Rule.rule (expected c.open_before.new.stack.items) (expected c.open_before.new.stack.items) e (rw c.if-not-branch.true at c.in_ok-open_before-in-Rule.ensures) c.loop-symbol.invariant.keeps
+    c.in-Rule.rule (expected c.open_before.new.stack.items) (expected c.open_before.new.stack.items) e
+    (none_opens c.args.kind c.in-Rule.rule is (expected c.open_before.new.stack.items) (rw c.if-not-branch.true at c.in_ok-open_before-in-Rule.ensures)) c.loop-symbol.invariant.keeps
 
 pub loop-symbol-smaller : goal.loop-symbol-smaller
 loop-symbol-smaller c =
     let is = expected c.pop.new.self.items in
     let e = on_top c.loop-symbol.stack.items c.pop.new.self.items c.in-Some.symbol c.in-Some.ensures.items ∙ ap (λ q. symbol_of q ∷ is) c.in-Rule.is in
     subst (λ z. lead (expected c.open_before.new.stack.items) < lead z) (sym e)
-    (came_lower c.in-Rule.rule (Some c.args.kind) is (expected c.open_before.new.stack.items) (rw c.if-not-branch.false at c.in_ok-open_before-in-Rule.ensures))
+    (develops_lower c.args.kind c.in-Rule.rule is (expected c.open_before.new.stack.items) (rw c.if-not-branch.false at c.in_ok-open_before-in-Rule.ensures))
 
 pub loop-symbol-preserved : goal.loop-symbol-preserved
 loop-symbol-preserved c =
     let is = expected c.pop.new.self.items in
     let e = on_top c.loop-symbol.stack.items c.pop.new.self.items c.in-Some.symbol c.in-Some.ensures.items ∙ ap (λ q. symbol_of q ∷ is) c.in-Rule.is in
     record {
-      keeps = feeds_open (expected c.args.stack.now.items) c.args.kind c.args.held.now c.args.notes.now c.loop-symbol.notes (expected c.loop-symbol.stack.items) is
-          c.in-Rule.rule (expected c.open_before.new.stack.items) e (rw c.if-not-branch.false at c.in_ok-open_before-in-Rule.ensures) c.loop-symbol.invariant.keeps;
+      keeps = develops_keep (expected c.args.stack.now.items) c.args.kind c.args.held.now c.args.notes.now c.loop-symbol.notes c.in-Rule.rule is (expected c.loop-symbol.stack.items)
+          (expected c.open_before.new.stack.items) e (rw c.if-not-branch.false at c.in_ok-open_before-in-Rule.ensures) c.loop-symbol.invariant.keeps;
       place = c.loop-symbol.invariant.place;
     }
 
