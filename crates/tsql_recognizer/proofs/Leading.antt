@@ -1,6 +1,6 @@
 -- Rules opened one after another before a lexeme of a kind.
 use Rattle.std.specs.Prelude.{◌≡◌, ℕ, zero, suc, ◌<◌, Bool, true, false, List, [], ◌∷◌, ◌++◌, Option, Some, None, IfSome, Result, Ok, Err, IfOk, refl}
-use Rattle.std.proofs.Common.{append_assoc, ap, sym, ◌∙◌, subst, arith, Bor}
+use Rattle.std.proofs.Common.{append_assoc, ap, sym, subst, arith, Bor}
 use Rattle.std.specs.declared.alloc.AllocError.{AllocError}
 use Rattle.tsql_grammar.specs.declared.kind.Kind.{Kind}
 use Rattle.tsql_grammar.specs.declared.rule.Rule.{Rule}

@@ -1,5 +1,5 @@
 -- What tests and expressions come to before the commonest operands, each step by computing.
-use Rattle.std.specs.Prelude.{ℕ, [], ◌∷◌, refl}
+use Rattle.std.specs.Prelude.{[], ◌∷◌, refl}
 use Rattle.tsql_lexer.specs.declared.lexeme.Sign.TheVariants as s
 use Rattle.tsql_grammar.specs.declared.kind.Kind.TheVariants as k
 use Rattle.tsql_grammar.specs.declared.kind.Reserved.TheVariants as w
