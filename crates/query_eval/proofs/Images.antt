@@ -13,9 +13,10 @@ use Rattle.bound_tree.specs.Outcomes.{Outcome, after}
 use Rattle.bound_tree.specs.Setting.{Setting}
 use Rattle.join_rows.specs.Joined.{Row, Join}
 use Rattle.query_eval.specs.Phases.{rows_given}
-use Rattle.query_eval.specs.KeyTests.{ColumnTest, rows_read, where_tests}
+use Rattle.query_eval.specs.declared.key_tests.ColumnTest.{ColumnTest}
+use Rattle.query_eval.specs.KeyTests.{rows_read, where_tests}
 use Rattle.query_eval.specs.Joining.{Stock, image_of, images_behind, join_more, join_of, joined_refs, on_truth}
-use Rattle.query_eval.specs.Ans.{Answers, answer_of, images_after, inner_rows, inner_step, query_step, references_of, rows_allowed}
+use Rattle.query_eval.specs.Ans.{Answers, answer_of, images_after, inner_answer, inner_rows, inner_step, query_step, references_of, rows_allowed}
 
 -- ---- one after another
 
@@ -41,7 +42,7 @@ module _ (setting_at : Row → Setting) (tests : List ColumnTest) where
   more_images [] width rows stock z h = by_last (λ z. z.1.images ≡ stock.images) (rows, stock) refl z h
   more_images (ref ∷ refs) width rows stock z h =
       let join : Join = record { kind = ref.join; width = ref.width; left = rows; right = rows_read ref.key width tests ref.join (image_of stock.images) } in
-      by_steps (λ z. z.1.images ≡ images_after refs (images_behind stock.images)) (join_of join (on_truth setting_at tests ref.join ref.on) stock.budget)
+      by_steps (λ z. z.1.images ≡ images_after refs (images_behind stock.images)) (join_of join (on_truth setting_at ref.join ref.on) stock.budget)
       (λ more. join_more setting_at tests (width + ref.width) more.0 refs (record { images = images_behind stock.images; budget = more.1 }))
       (λ more is z h. more_images refs (width + ref.width) more.0 (record { images = images_behind stock.images; budget = more.1 }) z h) z h
 
@@ -52,9 +53,6 @@ module _ (setting_at : Row → Setting) (tests : List ColumnTest) where
 -- ---- queries
 
 module _ (vars system : List Value) where
-  abbrev inner_answer : InnerQuery → Answers
-  inner_answer = fold-InnerQuery Answers Answers (query_step vars system) inner_step
-
   abbrev inner_references : InnerQuery → List Reference
   inner_references = fold-InnerQuery (List Reference) (List Reference) (λ query. flat_map (λ refs. refs) query.inner ++ query.refs) (λ inner. inner.query)
 
@@ -62,17 +60,17 @@ module _ (vars system : List Value) where
   P query = (stock : Stock) (z : List Row × Stock) → answer_of vars system query stock ≡ Ok z → z.1.images ≡ images_after (references_of query) stock.images
 
   abbrev I : InnerQuery → Type 0
-  I inner = (stock : Stock) (z : List Row × Stock) → inner_answer inner stock ≡ Ok z → z.1.images ≡ images_after (inner_references inner) stock.images
+  I inner = (stock : Stock) (z : List Row × Stock) → inner_answer vars system inner stock ≡ Ok z → z.1.images ≡ images_after (inner_references inner) stock.images
 
-  inner_images : (inners : List ((i : InnerQuery) × I i)) (stock : Stock) (z : List (List Row) × Stock) → inner_rows (map inner_answer (map (λ i. i.0) inners)) stock ≡ Ok z
+  inner_images : (inners : List ((i : InnerQuery) × I i)) (stock : Stock) (z : List (List Row) × Stock) → inner_rows (map (inner_answer vars system) (map (λ i. i.0) inners)) stock ≡ Ok z
       → z.1.images ≡ images_after (flat_map (λ refs. refs) (map inner_references (map (λ i. i.0) inners))) stock.images
   inner_images [] stock z h = by_last (λ z. z.1.images ≡ stock.images) ([], stock) refl z h
   inner_images (inner ∷ inners) stock z h =
       let own = inner_references inner.0 in
       let rest = flat_map (λ refs. refs) (map inner_references (map (λ i. i.0) inners)) in
       let C : List (List Row) × Stock → Type 0 = λ z. z.1.images ≡ images_after (own ++ rest) stock.images in
-      by_steps C (inner_answer inner.0 stock) (λ answer. after (inner_rows (map inner_answer (map (λ i. i.0) inners)) answer.1) (λ others. Ok (answer.0 ∷ others.0, others.1)))
-      (λ answer is. by_steps C (inner_rows (map inner_answer (map (λ i. i.0) inners)) answer.1) (λ others. Ok (answer.0 ∷ others.0, others.1))
+      by_steps C (inner_answer vars system inner.0 stock) (λ answer. after (inner_rows (map (inner_answer vars system) (map (λ i. i.0) inners)) answer.1) (λ others. Ok (answer.0 ∷ others.0, others.1)))
+      (λ answer is. by_steps C (inner_rows (map (inner_answer vars system) (map (λ i. i.0) inners)) answer.1) (λ others. Ok (answer.0 ∷ others.0, others.1))
       (λ others are. by_last C (answer.0 ∷ others.0, others.1)
       (inner_images inners answer.1 others are ∙ ap (images_after rest) (inner.1 stock answer is) ∙ sym (after_both own rest stock.images))))
       z h
@@ -84,7 +82,7 @@ module _ (vars system : List Value) where
   queries_below = map-BoundQuery _ _ BoundQuery InnerQuery (λ q. q.0) (λ i. i.0)
 
   abbrev answers_below : BoundQuery-F BoundQuery InnerQuery → BoundQuery-F Answers Answers
-  answers_below = map-BoundQuery _ _ Answers Answers (answer_of vars system) inner_answer
+  answers_below = map-BoundQuery _ _ Answers Answers (answer_of vars system) (inner_answer vars system)
 
   abbrev references_below : QueryBelow → List Reference
   references_below y = flat_map (λ refs. refs) (map inner_references (map (λ i. i.0) y.inner)) ++ y.refs

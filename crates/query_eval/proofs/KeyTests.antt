@@ -40,7 +40,8 @@ use Rattle.bound_tree.proofs.Kept.{and_left, and_right, and_true}
 use Rattle.bound_tree.proofs.Sound.{typed_law}
 use Rattle.join_rows.specs.Joined.{Row}
 use Rattle.query_eval.specs.KeyTests as keys
-use Rattle.query_eval.specs.KeyTests.{ColumnTest, TestSide, column, literal, variable, no_side, compare_tests, is_as_it_is, is_of_key_test, is_one_sort, is_widened, meets, mirror_of, pair_tests, side_tests}
+use Rattle.query_eval.specs.declared.key_tests.ColumnTest.{ColumnTest}
+use Rattle.query_eval.specs.KeyTests.{TestSide, column, literal, variable, no_side, compare_tests, is_as_it_is, is_of_key_test, is_one_sort, is_widened, meets, mirror_of, pair_tests, side_tests}
 
 -- ---- sides exchanged
 
@@ -524,10 +525,10 @@ module _ (before row behind : Row) where
   own_met key within (test ∷ tests) met = by_key (own_met key within tests (and_right _ _ met)) (keys.is_of_key key (length before) test) refl
     where
       by_key : Meet row (keys.key_tests key (length before) tests) → (b : Bool) → keys.is_of_key key (length before) test ≡ b
-          → Meet row (map (keys.own_test key (length before)) (if b then test ∷ filter (keys.is_of_key key (length before)) tests else filter (keys.is_of_key key (length before)) tests))
+          → Meet row (map (keys.own_test (length before)) (if b then test ∷ filter (keys.is_of_key key (length before)) tests else filter (keys.is_of_key key (length before)) tests))
       by_key others false e = others
       by_key others true e =
           let is = key_place key test.column within e in
-          let same : meets (before ++ (row ++ behind)) test ≡ meets row (keys.own_test key (length before) test) =
+          let same : meets (before ++ (row ++ behind)) test ≡ meets row (keys.own_test (length before) test) =
           ap (λ x. is_true (order_truth test.op (order_of x test.value))) (own_value test.column is.0 is.1) in
           subst (λ b. IsTrue (b && list_all (meets row) (keys.key_tests key (length before) tests))) same (both_hold _ _ (and_left _ _ met) others)

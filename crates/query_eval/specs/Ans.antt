@@ -3,13 +3,15 @@
 -- in, one after another, also those whose value is not needed; one that stands as a value is
 -- refused where it is answered, if it has rows more than one. The statement has one budget of
 -- pairs.
-use Rattle.std.specs.Prelude.{ℕ, Bool, true, List, [], ◌∷◌, ◌++◌, Ok, Err}
+use Rattle.std.specs.Prelude.{ℕ, Bool, true, List, [], ◌∷◌, ◌++◌, map, Ok, Err}
 use Rattle.std.specs.List.{flat_map}
 use Rattle.value_types.specs.declared.value.Value.{Value}
-use Rattle.bound_tree.specs.declared.query.BoundQuery.{BoundQuery}
+use Rattle.bound_tree.specs.declared.query.BoundQuery.{BoundQuery, out-BoundQuery}
 use Rattle.bound_tree.specs.declared.query.BoundQuery.TheOpen.{BoundQuery-F, InnerQuery-F}
-use Rattle.bound_tree.specs.declared.query.BoundQuery.TheFolds.{fold-BoundQuery}
+use Rattle.bound_tree.specs.declared.query.BoundQuery.TheFolds.{fold-BoundQuery, fold-InnerQuery}
+use Rattle.bound_tree.specs.declared.query.InnerQuery.{InnerQuery}
 use Rattle.bound_tree.specs.declared.query.Reference.{Reference}
+use Rattle.bound_tree.specs.declared.table.Table.{Table}
 use Rattle.bound_tree.specs.Outcomes.{Outcome, several_rows}
 use Rattle.bound_tree.specs.Setting.{Setting}
 use Rattle.join_rows.specs.Joined.{Row}
@@ -57,22 +59,39 @@ inner_step inner stock = do
   Ok (rows, answer.1)
 
 module _ (vars system : List Value) where
+  -- the rows of a query whose inner queries have these rows
+  abbrev pub own_rows : {A B : Type 0} → List (List Row) → BoundQuery-F A B → Answers
+  own_rows inner query stock = do
+    let setting_at : Row → Setting =
+        λ row. record { row = row; vars = vars; system = system; inner = inner }
+    joined ← joined_refs setting_at (where_tests vars query.filter) query.refs stock
+    rows ← rows_given setting_at query joined.0
+    Ok (rows, joined.1)
+
   -- a query whose inner queries are answered so
   abbrev pub query_step : BoundQuery-F Answers Answers → Answers
   query_step query stock = do
     inner ← inner_rows query.inner stock
-    let setting_at : Row → Setting =
-        λ row. record { row = row; vars = vars; system = system; inner = inner.0 }
-    joined ← joined_refs setting_at (where_tests vars query.filter) query.refs inner.1
-    rows ← rows_given setting_at query joined.0
-    Ok (rows, joined.1)
+    own_rows inner.0 query inner.1
 
   -- the rows that a query answers from a stock, and what is then left
   abbrev pub answer_of : BoundQuery → Answers
   answer_of = fold-BoundQuery Answers Answers query_step inner_step
+
+  -- the same of an inner query
+  abbrev pub inner_answer : InnerQuery → Answers
+  inner_answer = fold-InnerQuery Answers Answers query_step inner_step
 
   -- the rows that a query answers on images
   abbrev pub Ans : BoundQuery → List (List Row) → Outcome (List Row)
   Ans query images = do
     answer ← answer_of query (record { images = images; budget = pair_limit })
     Ok answer.0
+
+-- rows with the names and types of a query's items
+abbrev pub table_of : BoundQuery → List Row → Table
+table_of query rows = record {
+  names = map (λ item. item.name) (out-BoundQuery query).items;
+  kinds = map (λ item. item.kind) (out-BoundQuery query).items;
+  rows = rows;
+}

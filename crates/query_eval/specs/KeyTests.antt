@@ -11,8 +11,9 @@ use Rattle.value_types.specs.declared.value.Value.TheVariants.{Null}
 use Rattle.bound_tree.specs.declared.expr.CompareOp.{CompareOp}
 use Rattle.bound_tree.specs.declared.expr.CompareOp.TheVariants.{Equal, NotEqual, Less, LessEqual, Greater, GreaterEqual}
 use Rattle.bound_tree.specs.declared.expr.BoundTest.{BoundTest}
+use Rattle.bound_tree.specs.declared.expr.BoundSide.{BoundSide}
 use Rattle.bound_tree.specs.declared.expr.BoundExpr.TheOpen.{BoundExpr-F, BoundTest-F, BoundArm-F, BoundSide-F}
-use Rattle.bound_tree.specs.declared.expr.BoundExpr.TheFolds.{fold-BoundExpr, fold-BoundTest}
+use Rattle.bound_tree.specs.declared.expr.BoundExpr.TheFolds.{fold-BoundExpr, fold-BoundTest, fold-BoundSide}
 use Rattle.bound_tree.specs.declared.expr.BoundExpr.{BoundExpr}
 use Rattle.bound_tree.specs.declared.query.JoinKind.{JoinKind}
 use Rattle.bound_tree.specs.declared.query.JoinKind.TheVariants.{Inner, Left, Cross}
@@ -22,14 +23,9 @@ use Rattle.bound_tree.specs.Setting.{value_at}
 use Rattle.bound_tree.specs.Comparisons.{order_of, order_truth}
 use Rattle.bound_tree.specs.Typed.{is_whole}
 use Rattle.join_rows.specs.Joined.{Row}
+use Rattle.query_eval.specs.declared.key_tests.ColumnTest.{ColumnTest}
 
 -- ---- columns compared
-
--- a column of a row, how it is compared, and with what
-pub record ColumnTest : Type 0 where
-  pub column : ℕ
-  pub op : CompareOp
-  pub value : Value
 
 -- what a side of a comparison is
 pub data TestSide : Type 0 where
@@ -122,6 +118,10 @@ module _ (vars : List Value) where
   side_of =
       fold-BoundExpr TestSide (List ColumnTest) (Unit {0}) PairSide expr_step test_step arm_step pair_step
 
+  abbrev pub pair_of : BoundSide → PairSide
+  pair_of =
+      fold-BoundSide TestSide (List ColumnTest) (Unit {0}) PairSide expr_step test_step arm_step pair_step
+
   -- the columns that conjuncts of a test compare, in the order of the text
   abbrev pub column_tests : BoundTest → List ColumnTest
   column_tests =
@@ -138,18 +138,18 @@ module _ (vars : List Value) where
 abbrev pub meets : Row → ColumnTest → Bool
 meets row test = is_true (order_truth test.op (order_of (value_at row test.column) test.value))
 
+-- a test with its column counted among the reference's own, whose first has this place among all
+abbrev pub own_test : ℕ → ColumnTest → ColumnTest
+own_test first test = record test { column = test.column - first }
+
 -- the columns of its key, and the place of its first column among all
 module _ (key : List ℕ) (first : ℕ) where
   abbrev pub is_of_key : ColumnTest → Bool
   is_of_key test = list_any (λ place. nat_eq test.column (first + place)) key
 
-  -- with its column counted among the reference's own
-  abbrev pub own_test : ColumnTest → ColumnTest
-  own_test test = record test { column = test.column - first }
-
   -- the tests of a column of the key
   abbrev pub key_tests : List ColumnTest → List ColumnTest
-  key_tests tests = map own_test (filter is_of_key tests)
+  key_tests tests = map (own_test first) (filter is_of_key tests)
 
   -- the rows of an image that are read; the right side of a LEFT JOIN is read whole
   abbrev pub rows_read : List ColumnTest → JoinKind → List Row → List Row

@@ -40,6 +40,14 @@ each f (x ∷ xs) = do
 abbrev pub same_value : Value → Value → Bool
 same_value = eq_by_cmp value_order
 
+-- DISTINCT, of rows beside what the items give for them
+abbrev pub distinct_if : Bool → List (Row × Row) → List (Row × Row)
+distinct_if distinct pairs = if distinct then firsts (λ a b. same_row a.1 b.1) pairs else pairs
+
+abbrev pub top_of : Option ℕ → List Row → List Row
+top_of None rows = rows
+top_of (Some count) rows = take count rows
+
 -- in a setting for each row
 module _ (setting_at : Row → Setting) where
   -- WHERE and HAVING: the rows of which the test is true
@@ -79,14 +87,12 @@ module _ (setting_at : Row → Setting) where
     found ← classes_of groups rows
     each (class_row width sums) found
 
-  -- each row beside what the items give for it
-  abbrev pub with_items : List Item → List Row → Outcome (List (Row × Row))
-  with_items items rows = do
+  -- each row beside what the items give for it; with DISTINCT the first of those for which they give
+  -- equal rows
+  abbrev pub with_items : Bool → List Item → List Row → Outcome (List (Row × Row))
+  with_items distinct items rows = do
     values ← each (λ row. each (λ item. value (setting_at row) item.expr) items) rows
-    Ok (zip rows values)
-
-  abbrev pub distinct_if : Bool → List (Row × Row) → List (Row × Row)
-  distinct_if distinct pairs = if distinct then firsts (λ a b. same_row a.1 b.1) pairs else pairs
+    Ok (distinct_if distinct (zip rows values))
 
   -- of a row beside its items: an item's value, or that of an expression
   abbrev pub order_value : Row × Row → OrderKey → Outcome Value
@@ -98,10 +104,6 @@ module _ (setting_at : Row → Setting) where
     keys ← each (λ pair. each (λ by. order_value pair by.key) order) pairs
     Ok (ordered (map (λ pair. pair.1) pairs) keys (map (λ by. by.descending) order))
 
-  abbrev pub top_of : Option ℕ → List Row → List Row
-  top_of None rows = rows
-  top_of (Some count) rows = take count rows
-
   -- what comes of the joined rows of a query, phase by phase
   abbrev pub rows_given : {A B : Type 0} → BoundQuery-F A B → List Row → Outcome (List Row)
   rows_given query joined = do
@@ -109,6 +111,6 @@ module _ (setting_at : Row → Setting) where
     found ← rows_where query.filter joined
     rows ← class_rows query.grouped width query.groups query.sums found
     kept ← rows_where query.having rows
-    pairs ← with_items query.items kept
-    in_order ← in_order_of query.order (distinct_if query.distinct pairs)
+    pairs ← with_items query.distinct query.items kept
+    in_order ← in_order_of query.order pairs
     Ok (top_of query.top in_order)

@@ -1,0 +1,14 @@
+-- Own: rows by their places in a list. Private contracts alone cite this.
+use Rattle.std.specs.Prelude.{ℕ, List, [], map, get_or}
+use Rattle.join_rows.specs.Joined.{Row}
+
+-- the row at a place; one without columns where there is none
+abbrev pub row_at : List Row → ℕ → Row
+row_at rows place = get_or rows place []
+
+abbrev pub rows_at_places : List Row → List ℕ → List Row
+rows_at_places rows places = map (row_at rows) places
+
+-- the first place of a class
+abbrev pub first_place : List ℕ → ℕ
+first_place places = get_or places 0 0
