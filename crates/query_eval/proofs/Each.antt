@@ -1,5 +1,5 @@
 -- What a function gives for each of a list, from the first on, as a loop finds it: what is so far, and then the rest.
-use Rattle.std.proofs.Common.{◌≡◌, refl, sym, ap, ◌∙◌, ℕ, ◌+◌, ◌<◌, List, [], ◌∷◌, ◌++◌, map, length, get_or, drop, suc, Ok, Err, append-nil, append_assoc, arith}
+use Rattle.std.proofs.Common.{◌≡◌, refl, sym, ap, ◌∙◌, ℕ, ◌+◌, ◌<◌, List, [], ◌∷◌, ◌++◌, map, length, get_or, drop, Ok, Err, append-nil, append_assoc, arith}
 use Rattle.std.proofs.lemmas.List.{drop_more}
 use Rattle.bound_tree.specs.Outcomes.{Outcome, after}
 use Rattle.query_eval.specs.declared.fault.Stop.{Stop}

@@ -1,7 +1,6 @@
 -- Own: what answers say within this crate. An answer, seen by what it holds, is the outcome that is
 -- meant; want of memory says nothing. Private contracts alone cite this.
-use Rattle.std.specs.Prelude.{◌≡◌, ℕ, List, drop, Result, Ok, Err}
-use Rattle.value_types.specs.declared.value.Value.{Value}
+use Rattle.std.specs.Prelude.{◌≡◌, List, drop, Result, Ok, Err}
 use Rattle.bound_tree.specs.Outcomes.{Outcome, overflow}
 use Rattle.bound_tree.specs.Setting.{Setting}
 use Rattle.join_rows.specs.Joined.{Row}
