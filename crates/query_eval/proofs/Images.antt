@@ -5,7 +5,7 @@ use Rattle.std.specs.List.{flat_map}
 use Rattle.value_types.specs.declared.value.Value.{Value}
 use Rattle.bound_tree.specs.declared.query.BoundQuery.{BoundQuery}
 use Rattle.bound_tree.specs.declared.query.BoundQuery.TheOpen.{BoundQuery-F, InnerQuery-F}
-use Rattle.bound_tree.specs.declared.query.BoundQuery.TheFolds.{fold-InnerQuery, ind-BoundQuery, map-BoundQuery, fold-roll-BoundQuery, fold-roll-InnerQuery}
+use Rattle.bound_tree.specs.declared.query.BoundQuery.TheFolds.{fold-InnerQuery, ind-BoundQuery, ind-InnerQuery, map-BoundQuery, fold-roll-BoundQuery, fold-roll-InnerQuery}
 use Rattle.bound_tree.specs.declared.query.BoundQuery.TheViews.{roll-BoundQuery, roll-InnerQuery}
 use Rattle.bound_tree.specs.declared.query.InnerQuery.{InnerQuery}
 use Rattle.bound_tree.specs.declared.query.Reference.{Reference}
@@ -21,16 +21,16 @@ use Rattle.query_eval.specs.Ans.{Answers, answer_of, images_after, inner_answer,
 -- ---- one after another
 
 -- what holds of each outcome of the second step holds of both
-by_steps : {A B : Type 0} (C : B → Type 0) (a : Outcome A) (next : A → Outcome B) → ((x : A) → a ≡ Ok x → (z : B) → next x ≡ Ok z → C z)
+pub by_steps : {A B : Type 0} (C : B → Type 0) (a : Outcome A) (next : A → Outcome B) → ((x : A) → a ≡ Ok x → (z : B) → next x ≡ Ok z → C z)
     → (z : B) → after a next ≡ Ok z → C z
 by_steps C (Ok x) next holds z h = holds x refl z h
 by_steps C (Err number) next holds z h = cc
 
 -- what the last step gives
-by_last : {B : Type 0} (C : B → Type 0) (x : B) → C x → (z : B) → ◌≡◌ {A = Outcome B} (Ok x) (Ok z) → C z
+pub by_last : {B : Type 0} (C : B → Type 0) (x : B) → C x → (z : B) → ◌≡◌ {A = Outcome B} (Ok x) (Ok z) → C z
 by_last C x holds z h = let same : x ≡ z = cc in subst C same holds
 
-after_both : (refs more : List Reference) (images : List (List Row)) → images_after (refs ++ more) images ≡ images_after more (images_after refs images)
+pub after_both : (refs more : List Reference) (images : List (List Row)) → images_after (refs ++ more) images ≡ images_after more (images_after refs images)
 after_both [] more images = refl
 after_both (ref ∷ refs) more images = after_both refs more (images_behind images)
 
@@ -53,7 +53,7 @@ module _ (setting_at : Row → Setting) (tests : List ColumnTest) where
 -- ---- queries
 
 module _ (vars system : List Value) where
-  abbrev inner_references : InnerQuery → List Reference
+  abbrev pub inner_references : InnerQuery → List Reference
   inner_references = fold-InnerQuery (List Reference) (List Reference) (λ query. flat_map (λ refs. refs) query.inner ++ query.refs) (λ inner. inner.query)
 
   abbrev P : BoundQuery → Type 0
@@ -125,5 +125,11 @@ module _ (vars system : List Value) where
   -- an answer leaves the images behind those of the query's references
   pub images_left : (query : BoundQuery) → P query
   images_left = ind-BoundQuery P I
+      (λ x y is. subst (λ z. P (roll-BoundQuery z)) is (query_layer y))
+      (λ x y is. subst (λ z. I (roll-InnerQuery z)) is (inner_layer y.query.0 y.single y.query.1))
+
+  -- and so does that of an inner query
+  pub inner_images_left : (inner : InnerQuery) → I inner
+  inner_images_left = ind-InnerQuery P I
       (λ x y is. subst (λ z. P (roll-BoundQuery z)) is (query_layer y))
       (λ x y is. subst (λ z. I (roll-InnerQuery z)) is (inner_layer y.query.0 y.single y.query.1))
