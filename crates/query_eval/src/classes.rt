@@ -1,6 +1,6 @@
 //! The classes of rows, each as a row: its first row with the sums behind it.
 
-ghost use Rattle.std.specs.Prelude.{◌≡◌, ◌++◌, ◌∷◌, [], get_or, length, map, replicate, if◌then◌else◌, true, IfOk, Ok};
+ghost use Rattle.std.specs.Prelude.{◌≡◌, ◌++◌, ◌∷◌, [], get_or, map, replicate, if◌then◌else◌, true, IfOk, Ok};
 ghost use Rattle.value_types.specs.declared.value.Value.TheVariants.{Null};
 ghost use Rattle.bound_tree.specs.Meaning as meaning;
 ghost use Rattle.bound_tree.specs.Outcomes.{after};

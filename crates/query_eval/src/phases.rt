@@ -1,7 +1,7 @@
 //! What comes of the joined rows of a query, phase by phase.
 
-ghost use Rattle.std.specs.Prelude.{◌≡◌, ◌+◌, sum_by, length, map, IfOk};
-ghost use Rattle.std.specs.List.{filter, items_where_true, zip};
+ghost use Rattle.std.specs.Prelude.{◌≡◌, sum_by, map, IfOk};
+ghost use Rattle.std.specs.List.{filter, zip};
 ghost use Rattle.bound_tree.specs.declared.query.BoundQuery.{out-BoundQuery};
 ghost use Rattle.bound_tree.specs.Meaning as meaning;
 ghost use Rattle.bound_tree.specs.Truths.{is_true};
