@@ -1,0 +1,1 @@
+pub mod Contents  -- in_expr, in_test, in_select: the tables that a tree names
