@@ -64,6 +64,12 @@ module _ (old : Symbols) (k : Kind) (held : List ℕ) (a b : Notes) (top is : Sy
   stops_all new e g = goes_map (KeepsBefore old k top) (FedAs old k held false new) a b
       (λ s t kept l here holds. step.stops_all old s l new t t (λ rest. subst (λ z. Keeps old s (l ∷ rest) z t) e (kept l here rest))) g
 
+-- a mark behind a lexeme that was taken
+pub fed_note : (old : Symbols) (k : Kind) (held : List ℕ) (a b c : Notes) (m : Mark) (is : Symbols) → Goes (λ s t. t ≡ note s m) b c
+    → Goes (FedAs old k held true (mark m ∷ is)) a b → Goes (FedAs old k held true is) a c
+fed_note old k held a b c m is noted g = goes_then (FedAs old k held true (mark m ∷ is)) (λ s t. t ≡ note s m) (FedAs old k held true is) a b c
+    (λ s t u fed same l here holds. subst (λ z. Fed old s l true is z) (sym same) (step.fed_note old s l m is t (fed l here holds))) g noted
+
 module _ (old : Symbols) (a b : Notes) (top is : Symbols) where
   pub ends_open : (x : Rule) (new : Symbols) → top ≡ rule x ∷ is → Opens (pick (symbols_of_rule x) None) true is new
       → Goes (KeepsAtEnd old top) a b → Goes (KeepsAtEnd old new) a b

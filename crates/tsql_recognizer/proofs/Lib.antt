@@ -7,5 +7,6 @@ pub mod Noting
 pub mod Feeding
 pub mod Leading
 pub mod OperandSteps
+pub mod CountingSteps
 pub mod Reached
 pub mod PlainVerdicts

@@ -63,6 +63,9 @@ pub fed_lexeme : (old : Symbols) (s : Noted) (l : Terminal) (c : Class) (is : Sy
 fed_lexeme old s l c is t k e text start s0 past rest x =
     law.took (G text) (A text) (productive text) start s0 past c is l rest t e (k rest text start s0 past x)
 
+pub fed_note : (old : Symbols) (s : Noted) (l : Terminal) (m : Mark) (is : Symbols) (t : Noted) → Fed old s l true (mark m ∷ is) t → Fed old s l true is (note t m)
+fed_note old s l m is t f text start s0 past rest x = law.noted (G text) (A text) start s0 (past ++ l ∷ []) m is rest t (f text start s0 past rest x)
+
 pub stops_lexeme : (old : Symbols) (s : Noted) (l : Terminal) (c : Class) (is new : Symbols) (t u : Noted) → ((rest : List Terminal) → Keeps old s (l ∷ rest) (lexeme c ∷ is) t)
     → admits c (kind l) ≡ false → Fed old s l false new u
 stops_lexeme old s l c is new t u k e text start s0 past rest x =

@@ -5,10 +5,13 @@ use Rattle.std.proofs.Common.{Bor}
 use Rattle.tsql_grammar.specs.declared.kind.Kind.{Kind}
 use Rattle.tsql_grammar.specs.declared.rule.Class.{Class}
 use Rattle.tsql_grammar.specs.declared.rule.Mark.{Mark}
+use Rattle.tsql_grammar.specs.declared.rule.Mark.TheVariants.{Enter, Leave}
 use Rattle.tsql_grammar.specs.declared.rule.Rule.{Rule}
 use Rattle.tsql_grammar.specs.declared.rule.Rule.TheVariants as r
 use Rattle.tsql_recognizer.specs.declared.symbol.Symbol.{Symbol as CodeSymbol}
 use Rattle.tsql_recognizer.specs.declared.symbol.Symbol.TheVariants as code
+use Rattle.tsql_recognizer.specs.declared.step.Step.{Step}
+use Rattle.tsql_recognizer.specs.declared.step.Step.TheVariants as step
 use Rattle.tsql_grammar.specs.Productions.{Symbols, productions}
 use Rattle.tsql_grammar.specs.Terminals.{admits}
 use Rattle.tsql_grammar.specs.Lookahead.{first, nullable}
@@ -73,10 +76,34 @@ Leads (suc n) k (rule a ∷ is) new = (chosen : Symbols) × (pick (symbols_of_ru
 abbrev pub ComesTo : Kind → Rule → Symbols → Type 0
 ComesTo k a new = (n : ℕ) × Leads (suc n) k (rule a ∷ []) new
 
--- What became of a rule before a lexeme of the kind: no production is chosen, or it is opened, at least one step on.
-abbrev pub Develops : Kind → Rule → Bool → Symbols → Symbols → Type 0
-Develops k a false old new = pick (symbols_of_rule a) (Some k) ≡ None
-Develops k a true old new = (n : ℕ) × Leads (suc n) k (rule a ∷ old) new
+-- What stands behind a lexeme that is taken: what is left, or that behind what is noted at once.
+abbrev pub Follows : Step → Symbols → Symbols → Type 0
+Follows step.Stops behind new = ⊥
+Follows step.Opens behind new = ⊥
+Follows step.Takes behind new = behind ≡ new
+Follows step.Enters behind new = behind ≡ mark Enter ∷ new
+Follows step.Leaves behind new = behind ≡ mark Leave ∷ new
+
+-- What a step leaves of what is expected: all of it, or what stands behind a lexeme of the kind.
+abbrev pub Shows : Kind → Step → Symbols → Symbols → Type 0
+Shows k step.Stops top new = ⊥
+Shows k step.Opens top new = top ≡ new
+Shows k step.Takes top new = (c : Class) × (admits c k ≡ true) × (top ≡ lexeme c ∷ new)
+Shows k step.Enters top new = (c : Class) × (admits c k ≡ true) × (top ≡ lexeme c ∷ mark Enter ∷ new)
+Shows k step.Leaves top new = (c : Class) × (admits c k ≡ true) × (top ≡ lexeme c ∷ mark Leave ∷ new)
+
+-- It is opened, at least one step on, and so much is left.
+abbrev pub Opened : Kind → Rule → Step → Symbols → Symbols → Type 0
+Opened k a it old new = (n : ℕ) × (top : Symbols) × Leads (suc n) k (rule a ∷ old) top × Shows k it top new
+
+-- What became of a rule before a lexeme of the kind: no production is chosen, or it is opened, at least one step
+-- on, and so much is left.
+abbrev pub Develops : Kind → Rule → Step → Symbols → Symbols → Type 0
+Develops k a step.Stops old new = pick (symbols_of_rule a) (Some k) ≡ None
+Develops k a step.Opens old new = Opened k a step.Opens old new
+Develops k a step.Takes old new = Opened k a step.Takes old new
+Develops k a step.Enters old new = Opened k a step.Enters old new
+Develops k a step.Leaves old new = Opened k a step.Leaves old new
 
 -- rules without a parameter
 abbrev pub is_plain : Rule → Bool

@@ -8,7 +8,7 @@ ghost use Rattle.tsql_grammar.specs.Terminals.{is_name, is_plain_name, admits};
 
 use crate::first::nullable;
 use crate::fronts::may_begin;
-use crate::place::same_kind;
+use crate::place::{is_kind, same_kind};
 use crate::symbol::Symbol;
 use std::alloc::AllocError;
 use tsql_grammar::{Class, Kind};
@@ -47,6 +47,17 @@ pub fn admits(class: Class, kind: Kind) -> bool
         Class::Semicolon => {
             same_kind(Kind::Sign(Sign::Semicolon), kind) || same_kind(Kind::BeforeElse, kind)
         }
+    }
+}
+
+/// The same, for the recognizer's loop.
+#[inline(always)]
+pub(crate) fn takes(class: Class, kind: Kind) -> bool
+    ensures { result ≡ admits class kind }
+{
+    match class {
+        Class::One(one) => is_kind(one, kind),
+        _ => admits(class, kind),
     }
 }
 

@@ -1,37 +1,104 @@
 //! The productions of the commonest rules, picked by one look at the next lexeme's kind.
 
-ghost use Rattle.std.specs.Prelude.{◌≡◌, Some, IfOk, IfSome};
+ghost use Rattle.std.specs.Prelude.{◌≡◌, ◌++◌, [], true, map, Some, IfOk, IfSome};
 ghost use Rattle.tsql_grammar.specs.declared.rule.Rule.TheVariants as r;
-ghost use Rattle.tsql_recognizer.specs.Stack.{expected, shown, pick, symbols_of_rule, ComesTo, Develops};
+ghost use Rattle.tsql_recognizer.specs.Stack.{symbol_of, expected, shown, pick, symbols_of_rule, ComesTo, Develops, Shows, Follows};
 
-use crate::choice::{admits, push_all};
+use crate::choice::{admits, push_all, takes};
+use crate::counting::{counted_before, otherwise};
 use crate::fronts::may_begin;
-use crate::open::open;
 use crate::operands::{
-    expr_before, product_before, simple_primary_before, test_before, unary_before,
+    comparison_before, enclosed_before, expr_before, more_factors_before, more_terms_before,
+    product_before, simple_primary_before, test_before, unary_before,
 };
 use crate::place::same_kind;
+use crate::step::Step;
 use crate::symbol::Symbol;
 use crate::table;
 use std::alloc::AllocError;
-use tsql_grammar::{Class, Kind, Reserved, Rule};
+use tsql_grammar::{Class, Kind, Mark, Reserved, Rule};
 use tsql_lexer::Sign;
 
-/// Puts what is expected in a rule's place on the stack, some steps on, if a lexeme of the kind chooses it.
-pub(crate) fn open_before(
+/// Puts what is expected in a rule's place on the stack, some steps on, or behind the lexeme of the kind.
+#[inline(always)]
+pub(crate) fn step_before(
     rule: Rule,
     kind: Kind,
     stack: &mut Vec<Symbol>,
-) -> Result<bool, AllocError>
-    ensures { IfOk result (λ found. Develops kind rule found (expected stack.old.items) (expected stack.new.items)) }
+) -> Result<Step, AllocError>
+    ensures { IfOk result (λ step. Develops kind rule step (expected stack.old.items) (expected stack.new.items)) }
 {
+    match rule {
+        Rule::Opened(_) | Rule::Operand(_) | Rule::Compared(_) | Rule::Tested(_) => {
+            counted_before(rule, kind, stack)
+        }
+        _ => plain_before(rule, kind, stack),
+    }
+}
+
+/// The same, where the rule counts nothing.
+#[inline(always)]
+fn plain_before(rule: Rule, kind: Kind, stack: &mut Vec<Symbol>) -> Result<Step, AllocError>
+    ensures { IfOk result (λ step. Develops kind rule step (expected stack.old.items) (expected stack.new.items)) }
+{
+    if falls_away(rule, kind) {
+        return Ok(Step::Opens);
+    }
     match pick_common(rule, kind) {
-        None => open(rule, Some(kind), stack),
-        Some(production) => {
-            push_all(stack, production)?;
-            Ok(true)
+        None => otherwise(rule, kind, stack),
+        Some(production) => put(stack, production, kind),
+    }
+}
+
+/// Whether the rule is one that comes to nothing before the kind; not all such are found.
+#[inline(never)]
+fn falls_away(rule: Rule, kind: Kind) -> bool
+    ensures { result ≡ true → ComesTo kind rule [] }
+{
+    match rule {
+        Rule::MoreFactors => !may_begin(Rule::MultiplySign, kind),
+        Rule::MoreTerms => !may_begin(Rule::AddSign, kind),
+        Rule::MoreAnds => !same_kind(Kind::Reserved(Reserved::And), kind),
+        Rule::MoreOrs => !same_kind(Kind::Reserved(Reserved::Or), kind),
+        Rule::MoreExprs => !same_kind(Kind::Sign(Sign::Comma), kind),
+        Rule::MoreValueRows => !same_kind(Kind::Sign(Sign::Comma), kind),
+        Rule::MoreItems => !same_kind(Kind::Sign(Sign::Comma), kind),
+        Rule::MoreArms => !may_begin(Rule::Arm, kind),
+        Rule::CaseElse => !same_kind(Kind::Reserved(Reserved::Else), kind),
+        Rule::AfterName => !same_kind(Kind::Sign(Sign::Dot), kind),
+        _ => false,
+    }
+}
+
+/// Puts a production on the stack, or what stands behind its first symbol, if that is the lexeme of the kind.
+#[inline(always)]
+pub(crate) fn put(
+    stack: &mut Vec<Symbol>,
+    production: &[Symbol],
+    kind: Kind,
+) -> Result<Step, AllocError>
+    ensures { IfOk result (λ step. Shows kind step (map symbol_of production.now ++ expected stack.old.items) (expected stack.new.items)) }
+{
+    if let [Symbol::Lexeme(class), rest @ ..] = production {
+        if takes(*class, kind) {
+            return put_behind(stack, rest);
         }
     }
+    push_all(stack, production)?;
+    Ok(Step::Opens)
+}
+
+/// Puts what stands behind a lexeme that is taken on the stack.
+#[inline(always)]
+fn put_behind(stack: &mut Vec<Symbol>, rest: &[Symbol]) -> Result<Step, AllocError>
+    ensures { IfOk result (λ step. Follows step (map symbol_of rest.now ++ expected stack.old.items) (expected stack.new.items)) }
+{
+    if let [Symbol::Mark(Mark::Enter), more @ ..] = rest {
+        push_all(stack, more)?;
+        return Ok(Step::Enters);
+    }
+    push_all(stack, rest)?;
+    Ok(Step::Takes)
 }
 
 /// What the rule comes to before the kind, if it is a common one and one is chosen.
@@ -49,23 +116,23 @@ fn pick_common(rule: Rule, kind: Kind) -> Option<&'static [Symbol]>
         Rule::NotTest => of_not_test(kind),
         Rule::MoreNots => of_more_nots(kind),
         Rule::Basic => of_basic(kind),
-        Rule::Comparison => of_comparison(kind),
+        Rule::Comparison => comparison_before(kind),
         Rule::CompareSign => of_compare_sign(kind),
         Rule::OptionalNot => of_optional_not(kind),
         Rule::Membership => of_membership(kind),
         Rule::InList => of_in_list(kind),
         Rule::Expr => expr_before(kind),
-        Rule::MoreTerms => of_more_terms(kind),
+        Rule::MoreTerms => more_terms_before(kind),
         Rule::AddSign => of_add_sign(kind),
         Rule::Product => product_before(kind),
-        Rule::MoreFactors => of_more_factors(kind),
+        Rule::MoreFactors => more_factors_before(kind),
         Rule::MultiplySign => of_multiply_sign(kind),
         Rule::Unary => unary_before(kind),
         Rule::MoreSigns => of_more_signs(kind),
         Rule::Primary => of_primary(kind),
         Rule::SimplePrimary => simple_primary_before(kind),
         Rule::OtherPrimary => of_other_primary(kind),
-        Rule::Enclosed => of_enclosed(kind),
+        Rule::Enclosed => enclosed_before(kind),
         Rule::NamedPrimary => of_named_primary(kind),
         Rule::AfterName => of_after_name(kind),
         Rule::Arm => of_arm(kind),
@@ -170,7 +237,7 @@ fn of_basic(kind: Kind) -> Option<&'static [Symbol]>
     None
 }
 
-fn of_comparison(kind: Kind) -> Option<&'static [Symbol]>
+pub(crate) fn of_comparison(kind: Kind) -> Option<&'static [Symbol]>
     ensures { IfSome result (λ it. Some (shown it) ≡ pick (symbols_of_rule r.Comparison) (Some kind)) }
 {
     if may_begin(Rule::CompareSign, kind) {
@@ -244,7 +311,7 @@ pub(crate) fn of_expr(kind: Kind) -> Option<&'static [Symbol]>
     None
 }
 
-fn of_more_terms(kind: Kind) -> Option<&'static [Symbol]>
+pub(crate) fn of_more_terms(kind: Kind) -> Option<&'static [Symbol]>
     ensures { IfSome result (λ it. Some (shown it) ≡ pick (symbols_of_rule r.MoreTerms) (Some kind)) }
 {
     if may_begin(Rule::AddSign, kind) {
@@ -274,7 +341,7 @@ pub(crate) fn of_product(kind: Kind) -> Option<&'static [Symbol]>
     None
 }
 
-fn of_more_factors(kind: Kind) -> Option<&'static [Symbol]>
+pub(crate) fn of_more_factors(kind: Kind) -> Option<&'static [Symbol]>
     ensures { IfSome result (λ it. Some (shown it) ≡ pick (symbols_of_rule r.MoreFactors) (Some kind)) }
 {
     if may_begin(Rule::MultiplySign, kind) {
@@ -354,7 +421,7 @@ fn of_other_primary(kind: Kind) -> Option<&'static [Symbol]>
     }
 }
 
-fn of_enclosed(kind: Kind) -> Option<&'static [Symbol]>
+pub(crate) fn of_enclosed(kind: Kind) -> Option<&'static [Symbol]>
     ensures { IfSome result (λ it. Some (shown it) ≡ pick (symbols_of_rule r.Enclosed) (Some kind)) }
 {
     if same_kind(Kind::Reserved(Reserved::Select), kind) {

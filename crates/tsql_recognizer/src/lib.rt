@@ -9,11 +9,14 @@
 //! texts are read in a time that grows with their length is not proved.
 //!
 //! `table.rt` and `open.rt` have the productions in the code, by their symbols alone, and `choice.rt`
-//! picks the one that a lexeme chooses; `proofs/Picks.antt` says that it is the grammar's.
+//! picks the one that a lexeme chooses; `proofs/Picks.antt` says that it is the grammar's. In front of
+//! that, `common.rt`, `operands.rt` and `counting.rt` have what the commonest rules come to, several
+//! steps at once, and past the lexeme where it is the first of that.
 #![tactic(auto)]
 
 mod choice;
 mod common;
+mod counting;
 mod counts;
 mod first;
 mod fronts;
@@ -24,6 +27,7 @@ mod open;
 mod operands;
 mod place;
 mod recognizer;
+mod step;
 mod symbol;
 mod table;
 

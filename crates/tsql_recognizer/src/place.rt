@@ -16,6 +16,14 @@ pub fn same_kind(one: Kind, other: Kind) -> bool
     variant_of(one) == variant_of(other) && kind_place(one) == kind_place(other)
 }
 
+/// The same, without a call.
+#[inline(always)]
+pub(crate) fn is_kind(one: Kind, other: Kind) -> bool
+    ensures { result ≡ same_kind one other }
+{
+    variant_of(one) == variant_of(other) && place_of(one) == place_of(other)
+}
+
 /// The place of the kind's variant among all variants.
 #[inline(always)]
 fn variant_of(kind: Kind) -> u8
@@ -42,7 +50,16 @@ fn variant_of(kind: Kind) -> u8
 }
 
 /// The place of the kind among all kinds.
+#[inline(never)]
 fn kind_place(kind: Kind) -> u16
+    ensures { result ≡ kind_place kind }
+{
+    place_of(kind)
+}
+
+/// The same, without a call.
+#[inline(always)]
+fn place_of(kind: Kind) -> u16
     ensures { result ≡ kind_place kind }
 {
     match kind {
@@ -66,6 +83,7 @@ fn kind_place(kind: Kind) -> u16
 }
 
 /// The place of a sign among all signs.
+#[inline(always)]
 fn sign_place(sign: Sign) -> u16
     ensures place { result ≡ sign_place sign }
     ensures small { result < 1000 }
@@ -91,6 +109,7 @@ fn sign_place(sign: Sign) -> u16
 }
 
 /// The place of an option among all such options.
+#[inline(always)]
 fn option_place(option: FixedOption) -> u16
     ensures place { result ≡ option_place option }
     ensures small { result < 1000 }
@@ -107,6 +126,7 @@ fn option_place(option: FixedOption) -> u16
 }
 
 /// The place of a function among all functions.
+#[inline(always)]
 fn function_place(function: Function) -> u16
     ensures place { result ≡ function_place function }
     ensures small { result < 1000 }
@@ -131,6 +151,7 @@ fn function_place(function: Function) -> u16
 }
 
 /// The place of a word among all words that are not reserved.
+#[inline(always)]
 fn word_place(word: Word) -> u16
     ensures place { result ≡ word_place word }
     ensures small { result < 1000 }
@@ -173,6 +194,7 @@ fn word_place(word: Word) -> u16
 }
 
 /// The place of a word among all reserved words.
+#[inline(always)]
 fn reserved_place(word: Reserved) -> u16
     ensures place { result ≡ reserved_place word }
     ensures small { result < 1000 }

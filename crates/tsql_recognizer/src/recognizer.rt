@@ -10,14 +10,15 @@ ghost use Rattle.tsql_recognizer.specs.Stack.{expected};
 ghost use Rattle.tsql_recognizer.specs.Steps.{Fed, Finished};
 ghost use Rattle.tsql_recognizer.specs.Verdict.{IsVerdict};
 
-use crate::choice::admits;
-use crate::common::open_before;
+use crate::choice::takes;
+use crate::common::step_before;
 use crate::notes::Notes;
 use crate::open::open;
 use crate::place::same_kind;
+use crate::step::Step;
 use crate::symbol::Symbol;
 use std::alloc::{AllocError, Global};
-use tsql_grammar::{Kind, Reserved, Rule, TextFault, kind_of};
+use tsql_grammar::{Kind, Mark, Reserved, Rule, TextFault, kind_of};
 use tsql_lexer::{Lexeme, Sign, Spanned};
 use value_types::Memory;
 
@@ -80,18 +81,31 @@ fn feed<'a>(
     while let Some(symbol) = stack.pop() {
         match symbol {
             Symbol::Lexeme(class) => {
-                if !admits(class, kind) {
+                if !takes(class, kind) {
                     return Ok(false);
                 }
                 notes.see(held);
                 return Ok(true);
             }
             Symbol::Mark(mark) => notes.note(mark)?,
-            Symbol::Rule(rule) => {
-                if !open_before(rule, kind, stack)? {
-                    return Ok(false);
+            Symbol::Rule(rule) => match step_before(rule, kind, stack)? {
+                Step::Stops => return Ok(false),
+                Step::Opens => {}
+                Step::Takes => {
+                    notes.see(held);
+                    return Ok(true);
                 }
-            }
+                Step::Enters => {
+                    notes.see(held);
+                    notes.note(Mark::Enter)?;
+                    return Ok(true);
+                }
+                Step::Leaves => {
+                    notes.see(held);
+                    notes.note(Mark::Leave)?;
+                    return Ok(true);
+                }
+            },
         }
     }
     Ok(false)

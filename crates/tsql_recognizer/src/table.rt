@@ -673,44 +673,48 @@ const OUTSIDE: Around = Around {
     in_catch: false,
 };
 
-/// What an `Expr` comes to before a number, a text, NULL, a name, a variable and a parenthesis.
-pub(crate) const EXPR_BY_OPERAND: [&[Symbol]; 6] = productions! {
+/// What an `Expr` comes to before a number, a text, NULL, a name, a variable, a parenthesis and CASE.
+pub(crate) const EXPR_BY_OPERAND: [&[Symbol]; 7] = productions! {
     [NUMBER (MoreFactors) (MoreTerms)]
     [TEXT (MoreFactors) (MoreTerms)]
     [NULL (MoreFactors) (MoreTerms)]
     [PLAIN_NAME (AfterName) (MoreFactors) (MoreTerms)]
     [VARIABLE {Uses} (MoreFactors) (MoreTerms)]
     [PAREN_OPEN {Enter} (Enclosed) PAREN_CLOSE {Leave} (MoreFactors) (MoreTerms)]
+    [CASE {Enter} (Arm) (MoreArms) (CaseElse) END {Leave} (MoreFactors) (MoreTerms)]
 };
 
-/// What a `Product` comes to before a number, a text, NULL, a name, a variable and a parenthesis.
-pub(crate) const PRODUCT_BY_OPERAND: [&[Symbol]; 6] = productions! {
+/// What a `Product` comes to before a number, a text, NULL, a name, a variable, a parenthesis and CASE.
+pub(crate) const PRODUCT_BY_OPERAND: [&[Symbol]; 7] = productions! {
     [NUMBER (MoreFactors)]
     [TEXT (MoreFactors)]
     [NULL (MoreFactors)]
     [PLAIN_NAME (AfterName) (MoreFactors)]
     [VARIABLE {Uses} (MoreFactors)]
     [PAREN_OPEN {Enter} (Enclosed) PAREN_CLOSE {Leave} (MoreFactors)]
+    [CASE {Enter} (Arm) (MoreArms) (CaseElse) END {Leave} (MoreFactors)]
 };
 
-/// What an `Unary` comes to before a number, a text, NULL, a name, a variable and a parenthesis.
-pub(crate) const UNARY_BY_OPERAND: [&[Symbol]; 6] = productions! {
+/// What an `Unary` comes to before a number, a text, NULL, a name, a variable, a parenthesis and CASE.
+pub(crate) const UNARY_BY_OPERAND: [&[Symbol]; 7] = productions! {
     [NUMBER]
     [TEXT]
     [NULL]
     [PLAIN_NAME (AfterName)]
     [VARIABLE {Uses}]
     [PAREN_OPEN {Enter} (Enclosed) PAREN_CLOSE {Leave}]
+    [CASE {Enter} (Arm) (MoreArms) (CaseElse) END {Leave}]
 };
 
-/// What a `Test` comes to before a number, a text, NULL, a name, a variable and a parenthesis.
-pub(crate) const TEST_BY_OPERAND: [&[Symbol]; 6] = productions! {
+/// What a `Test` comes to before a number, a text, NULL, a name, a variable, a parenthesis and CASE.
+pub(crate) const TEST_BY_OPERAND: [&[Symbol]; 7] = productions! {
     [NUMBER (Operand 0) (MoreAnds) (MoreOrs)]
     [TEXT (Operand 0) (MoreAnds) (MoreOrs)]
     [NULL (Operand 0) (MoreAnds) (MoreOrs)]
     [PLAIN_NAME (AfterName) (Operand 0) (MoreAnds) (MoreOrs)]
     [VARIABLE {Uses} (Operand 0) (MoreAnds) (MoreOrs)]
     [PAREN_OPEN {Enter} (Opened 0) (MoreAnds) (MoreOrs)]
+    [CASE {Enter} (Arm) (MoreArms) (CaseElse) END {Leave} (Operand 0) (MoreAnds) (MoreOrs)]
 };
 
 /// What a `SimplePrimary` comes to before a number, a text, NULL, a name, a variable.
@@ -720,4 +724,28 @@ pub(crate) const SIMPLE_PRIMARY_BY_OPERAND: [&[Symbol]; 5] = productions! {
     [NULL]
     [PLAIN_NAME (AfterName)]
     [VARIABLE {Uses}]
+};
+
+/// What `MoreTerms` comes to before `+` and `-`.
+pub(crate) const MORE_TERMS_BY_SIGN: [&[Symbol]; 2] = productions! {
+    [PLUS (Product) (MoreTerms)]
+    [MINUS (Product) (MoreTerms)]
+};
+
+/// What `MoreFactors` comes to before `*`, `/` and `%`.
+pub(crate) const MORE_FACTORS_BY_SIGN: [&[Symbol]; 3] = productions! {
+    [STAR (Unary) (MoreFactors)]
+    [SLASH (Unary) (MoreFactors)]
+    [PERCENT (Unary) (MoreFactors)]
+};
+
+/// What a `Comparison` comes to before the signs that compare, and before IN.
+pub(crate) const COMPARISON_BY_SIGN: [&[Symbol]; 7] = productions! {
+    [EQUAL (Expr)]
+    [NOT_EQUAL (Expr)]
+    [LESS (Expr)]
+    [LESS_EQUAL (Expr)]
+    [GREATER (Expr)]
+    [GREATER_EQUAL (Expr)]
+    [IN PAREN_OPEN {Enter} (InList) PAREN_CLOSE {Leave}]
 };

@@ -30,7 +30,7 @@ pub returns-in-Basic : goal.returns-in-Basic
 returns-in-Basic c = comes_one_at c.args.rule r.Basic c.in-Basic.is c.args.kind c.of_basic.result c.of_basic.ensures
 
 pub returns-in-Comparison : goal.returns-in-Comparison
-returns-in-Comparison c = comes_one_at c.args.rule r.Comparison c.in-Comparison.is c.args.kind c.of_comparison.result c.of_comparison.ensures
+returns-in-Comparison c = comes_at c.args.rule r.Comparison c.in-Comparison.is c.args.kind c.comparison_before.result c.comparison_before.ensures
 
 pub returns-in-CompareSign : goal.returns-in-CompareSign
 returns-in-CompareSign c = comes_one_at c.args.rule r.CompareSign c.in-CompareSign.is c.args.kind c.of_compare_sign.result c.of_compare_sign.ensures
@@ -48,7 +48,7 @@ pub returns-in-Expr : goal.returns-in-Expr
 returns-in-Expr c = comes_at c.args.rule r.Expr c.in-Expr.is c.args.kind c.expr_before.result c.expr_before.ensures
 
 pub returns-in-MoreTerms : goal.returns-in-MoreTerms
-returns-in-MoreTerms c = comes_one_at c.args.rule r.MoreTerms c.in-MoreTerms.is c.args.kind c.of_more_terms.result c.of_more_terms.ensures
+returns-in-MoreTerms c = comes_at c.args.rule r.MoreTerms c.in-MoreTerms.is c.args.kind c.more_terms_before.result c.more_terms_before.ensures
 
 pub returns-in-AddSign : goal.returns-in-AddSign
 returns-in-AddSign c = comes_one_at c.args.rule r.AddSign c.in-AddSign.is c.args.kind c.of_add_sign.result c.of_add_sign.ensures
@@ -57,7 +57,7 @@ pub returns-in-Product : goal.returns-in-Product
 returns-in-Product c = comes_at c.args.rule r.Product c.in-Product.is c.args.kind c.product_before.result c.product_before.ensures
 
 pub returns-in-MoreFactors : goal.returns-in-MoreFactors
-returns-in-MoreFactors c = comes_one_at c.args.rule r.MoreFactors c.in-MoreFactors.is c.args.kind c.of_more_factors.result c.of_more_factors.ensures
+returns-in-MoreFactors c = comes_at c.args.rule r.MoreFactors c.in-MoreFactors.is c.args.kind c.more_factors_before.result c.more_factors_before.ensures
 
 pub returns-in-MultiplySign : goal.returns-in-MultiplySign
 returns-in-MultiplySign c = comes_one_at c.args.rule r.MultiplySign c.in-MultiplySign.is c.args.kind c.of_multiply_sign.result c.of_multiply_sign.ensures
@@ -78,7 +78,7 @@ pub returns-in-OtherPrimary : goal.returns-in-OtherPrimary
 returns-in-OtherPrimary c = comes_one_at c.args.rule r.OtherPrimary c.in-OtherPrimary.is c.args.kind c.of_other_primary.result c.of_other_primary.ensures
 
 pub returns-in-Enclosed : goal.returns-in-Enclosed
-returns-in-Enclosed c = comes_one_at c.args.rule r.Enclosed c.in-Enclosed.is c.args.kind c.of_enclosed.result c.of_enclosed.ensures
+returns-in-Enclosed c = comes_at c.args.rule r.Enclosed c.in-Enclosed.is c.args.kind c.enclosed_before.result c.enclosed_before.ensures
 
 pub returns-in-NamedPrimary : goal.returns-in-NamedPrimary
 returns-in-NamedPrimary c = comes_one_at c.args.rule r.NamedPrimary c.in-NamedPrimary.is c.args.kind c.of_named_primary.result c.of_named_primary.ensures

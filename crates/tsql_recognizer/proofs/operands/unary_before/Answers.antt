@@ -4,7 +4,7 @@ use Rattle.tsql_grammar.specs.declared.kind.Kind.TheVariants as k
 use Rattle.tsql_grammar.specs.declared.kind.Reserved.TheVariants as w
 use Rattle.tsql_grammar.specs.declared.rule.Rule.TheVariants as r
 use Rattle.tsql_recognizer.proofs.Leading.{comes_before}
-use Rattle.tsql_recognizer.proofs.OperandSteps.{unary_number, unary_text, unary_null, unary_name, unary_variable, unary_open}
+use Rattle.tsql_recognizer.proofs.OperandSteps.{unary_number, unary_text, unary_null, unary_name, unary_variable, unary_open, unary_case}
 use Rattle.tsql_recognizer.proofs.operands.unary_before.Goals as goal
 
 pub returns-in-Number : goal.returns-in-Number
@@ -24,3 +24,6 @@ returns-in-Variable c = comes_before c.args.kind k.Variable c.in-Variable.is r.U
 
 pub returns-in-Sign-Open : goal.returns-in-Sign-Open
 returns-in-Sign-Open c = comes_before c.args.kind (k.Sign s.Open) (c.in-Sign-Open.is ∙ ap k.Sign (rw c.in-Sign-Open.is at c.in-Sign-Open.field-0-is)) r.Unary _ unary_open
+
+pub returns-in-Reserved-Case : goal.returns-in-Reserved-Case
+returns-in-Reserved-Case c = comes_before c.args.kind (k.Reserved w.Case) (c.in-Reserved-Case.is ∙ ap k.Reserved (rw c.in-Reserved-Case.is at c.in-Reserved-Case.field-0-is)) r.Unary _ unary_case
