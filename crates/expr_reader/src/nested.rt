@@ -1,6 +1,6 @@
 //! What may nest in an expression or a test.
 
-ghost use Rattle.std.specs.Prelude.{◌≡◌, Err, IfOk, OnErr};
+ghost use Rattle.std.specs.Prelude.{◌≡◌, Ok, Err, IfOk, OnErr};
 ghost use Rattle.lexeme_reader.specs.declared.fault.ReadFault.TheVariants.{NoRoom};
 
 use lexeme_reader::ReadFault;
@@ -48,6 +48,7 @@ impl Found {
     pub fn into_expr(self) -> Result<Boxed<Expr>, ReadFault>
         ensures ok { IfOk result (λ it. self ≡ found.Expr it) }
         ensures err { OnErr result (result ≡ Err NoRoom) }
+        ensures is { (it : _) → self ≡ found.Expr it → result ≡ Ok it }
     {
         match self {
             Found::Expr(it) => Ok(it),
@@ -59,6 +60,7 @@ impl Found {
     pub fn into_exprs(self) -> Result<Items<Expr>, ReadFault>
         ensures ok { IfOk result (λ it. self ≡ found.Exprs it) }
         ensures err { OnErr result (result ≡ Err NoRoom) }
+        ensures is { (it : _) → self ≡ found.Exprs it → result ≡ Ok it }
     {
         match self {
             Found::Exprs(it) => Ok(it),
@@ -70,6 +72,7 @@ impl Found {
     pub fn into_test(self) -> Result<Boxed<Test>, ReadFault>
         ensures ok { IfOk result (λ it. self ≡ found.Test it) }
         ensures err { OnErr result (result ≡ Err NoRoom) }
+        ensures is { (it : _) → self ≡ found.Test it → result ≡ Ok it }
     {
         match self {
             Found::Test(it) => Ok(it),
@@ -81,6 +84,7 @@ impl Found {
     pub fn into_tests(self) -> Result<Items<Test>, ReadFault>
         ensures ok { IfOk result (λ it. self ≡ found.Tests it) }
         ensures err { OnErr result (result ≡ Err NoRoom) }
+        ensures is { (it : _) → self ≡ found.Tests it → result ≡ Ok it }
     {
         match self {
             Found::Tests(it) => Ok(it),
@@ -92,6 +96,7 @@ impl Found {
     pub fn into_select(self) -> Result<Boxed<Select>, ReadFault>
         ensures ok { IfOk result (λ it. self ≡ found.Select it) }
         ensures err { OnErr result (result ≡ Err NoRoom) }
+        ensures is { (it : _) → self ≡ found.Select it → result ≡ Ok it }
     {
         match self {
             Found::Select(it) => Ok(it),

@@ -1,6 +1,6 @@
 //! Tests.
 
-ghost use Rattle.std.specs.Prelude.{◌≡◌, ◌+◌, Err, IfOk, OnErr};
+ghost use Rattle.std.specs.Prelude.{◌≡◌, ◌+◌, ◌<◌, ◌^◌, Ok, Err, IfOk, OnErr};
 ghost use Rattle.tsql_grammar.specs.declared.rule.Rule.TheVariants as r;
 ghost use Rattle.tsql_grammar.specs.Trees as trees;
 ghost use Rattle.expr_reader.specs.Nests.{Nests};
@@ -438,6 +438,7 @@ impl<F: Fn(Global, &mut Lexemes<'_>, usize, Nested) -> Result<Found, ReadFault>>
 fn one_more(count: u32) -> Result<u32, ReadFault>
     ensures ok { IfOk result (λ more. more ≡ count + 1) }
     ensures err { OnErr result (result ≡ Err NoRoom) }
+    ensures fits { count + 1 < 2 ^ 32 → result ≡ Ok (count + 1) }
 {
     match count.checked_add(1) {
         Some(more) => Ok(more),
