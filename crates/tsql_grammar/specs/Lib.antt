@@ -9,4 +9,4 @@ pub mod Language  -- all of it, put together
 pub mod BasicTest  -- a test without connectives, as it is written
 pub mod PlainText  -- the grammar where a semicolon is a semicolon
 -- cited by private contracts alone
-pub mod WordSizes  -- the words by their size
+pub mod WordLetters  -- the words by their first letter

@@ -1,8 +1,8 @@
 //! The words that the grammar knows, and the kind of a lexeme.
 
-ghost use Rattle.std.specs.Prelude.{◌≡◌, map};
+ghost use Rattle.std.specs.Prelude.{◌≡◌, map, min};
 ghost use Rattle.value_types.specs.Units.{same_units};
-ghost use Rattle.tsql_grammar.specs.WordSizes.{size_class, words_of_size};
+ghost use Rattle.tsql_grammar.specs.WordLetters.{place_of, words_at};
 ghost use Rattle.tsql_grammar.specs.Words.{capital, look_up, name_kind, word_kind, system_kind, kind_of};
 
 use crate::{Function, Kind, Reserved, Word};
@@ -29,24 +29,49 @@ fn word_kind(word: &Units) -> Kind
     ensures { result ≡ word_kind word.now }
 {
     let units = word.as_slice();
-    look_up(words_of(units.len()), units, name_kind(word))
+    look_up(words_at(place_of(units)), units, name_kind(word))
 }
 
-/// The words of so many units by their capitals, and their kinds; those of nine and more stand together.
-fn words_of(count: usize) -> &'static [(&'static [u8], Kind)]
-    ensures { map (λ row. (row.0.now, row.1)) result.now ≡ words_of_size (size_class count) }
+/// The place of the letter that a word begins with, counted from A; what stands before A is at its place.
+fn place_of(word: &[u16]) -> u16
+    ensures { result ≡ place_of (map capital word.now) }
 {
-    match count {
-        0 => &OF_NONE,
-        1 => &OF_NONE,
-        2 => &OF_TWO,
-        3 => &OF_THREE,
-        4 => &OF_FOUR,
-        5 => &OF_FIVE,
-        6 => &OF_SIX,
-        7 => &OF_SEVEN,
-        8 => &OF_EIGHT,
-        _ => &OF_MORE,
+    match word.first() {
+        None => 0,
+        Some(unit) => capital(*unit).saturating_sub(LETTER_A),
+    }
+}
+
+/// The words that begin with the letter at a place by their capitals, and their kinds.
+fn words_at(place: u16) -> &'static [(&'static [u8], Kind)]
+    ensures { map (λ row. (row.0.now, row.1)) result.now ≡ words_at (min place 24) }
+{
+    match place {
+        0 => &OF_A,
+        1 => &OF_B,
+        2 => &OF_C,
+        3 => &OF_D,
+        4 => &OF_E,
+        5 => &OF_F,
+        6 => &OF_G,
+        7 => &OF_H,
+        8 => &OF_I,
+        9 => &OF_J,
+        10 => &OF_K,
+        11 => &OF_L,
+        12 => &OF_M,
+        13 => &OF_N,
+        14 => &OF_O,
+        15 => &OF_P,
+        16 => &OF_Q,
+        17 => &OF_R,
+        18 => &OF_S,
+        19 => &OF_T,
+        20 => &OF_U,
+        21 => &OF_V,
+        22 => &OF_W,
+        23 => &OF_X,
+        _ => &OF_NONE,
     }
 }
 
@@ -107,172 +132,19 @@ fn capital(unit: u16) -> u16
     }
 }
 
+/// `A`
+const LETTER_A: u16 = 0x41;
+
 /// No words.
 const OF_NONE: [(&[u8], Kind); 0] = [];
 
-/// The words of two units.
-const OF_TWO: [(&[u8], Kind); 7] = [
-    (b"AS", Kind::Reserved(Reserved::As)),
-    (b"BY", Kind::Reserved(Reserved::By)),
-    (b"IF", Kind::Reserved(Reserved::If)),
-    (b"IN", Kind::Reserved(Reserved::In)),
-    (b"IS", Kind::Reserved(Reserved::Is)),
-    (b"ON", Kind::Reserved(Reserved::On)),
-    (b"OR", Kind::Reserved(Reserved::Or)),
-];
-
-/// The words of three units.
-const OF_THREE: [(&[u8], Kind); 19] = [
+/// The words that begin with A.
+const OF_A: [(&[u8], Kind); 10] = [
     (b"AND", Kind::Reserved(Reserved::And)),
+    (b"AS", Kind::Reserved(Reserved::As)),
     (b"ASC", Kind::Reserved(Reserved::Asc)),
-    (b"END", Kind::Reserved(Reserved::End)),
-    (b"FOR", Kind::Reserved(Reserved::For)),
-    (b"KEY", Kind::Reserved(Reserved::Key)),
-    (b"NOT", Kind::Reserved(Reserved::Not)),
-    (b"SET", Kind::Reserved(Reserved::Set)),
-    (b"TOP", Kind::Reserved(Reserved::Top)),
-    (b"OUT", Kind::Word(Word::Output)),
-    (b"INT", Kind::Word(Word::Int)),
-    (b"BIT", Kind::Word(Word::Bit)),
-    (b"TRY", Kind::Word(Word::Try)),
-    (b"OFF", Kind::Word(Word::Off)),
-    (b"LOW", Kind::Word(Word::Low)),
-    (b"LEN", Kind::Function(Function::Len)),
-    (b"SUM", Kind::Function(Function::Sum)),
-    (b"AVG", Kind::Function(Function::Avg)),
-    (b"MIN", Kind::Function(Function::Min)),
-    (b"MAX", Kind::Function(Function::Max)),
-];
-
-/// The words of four units.
-const OF_FOUR: [(&[u8], Kind); 21] = [
-    (b"CASE", Kind::Reserved(Reserved::Case)),
-    (b"DESC", Kind::Reserved(Reserved::Desc)),
-    (b"DROP", Kind::Reserved(Reserved::Drop)),
-    (b"ELSE", Kind::Reserved(Reserved::Else)),
-    (b"EXEC", Kind::Reserved(Reserved::Execute)),
-    (b"FROM", Kind::Reserved(Reserved::From)),
-    (b"INTO", Kind::Reserved(Reserved::Into)),
-    (b"JOIN", Kind::Reserved(Reserved::Join)),
-    (b"LEFT", Kind::Reserved(Reserved::Left)),
-    (b"NULL", Kind::Reserved(Reserved::Null)),
-    (b"OPEN", Kind::Reserved(Reserved::Open)),
-    (b"PROC", Kind::Reserved(Reserved::Procedure)),
-    (b"SAVE", Kind::Reserved(Reserved::Save)),
-    (b"THEN", Kind::Reserved(Reserved::Then)),
-    (b"TRAN", Kind::Reserved(Reserved::Tran)),
-    (b"WHEN", Kind::Reserved(Reserved::When)),
-    (b"FULL", Kind::Reserved(Reserved::LeftOut)),
-    (b"HIGH", Kind::Word(Word::High)),
-    (b"READ", Kind::Word(Word::Read)),
-    (b"NEXT", Kind::Word(Word::Next)),
-    (b"CAST", Kind::Function(Function::Cast)),
-];
-
-/// The words of five units.
-const OF_FIVE: [(&[u8], Kind); 22] = [
-    (b"BEGIN", Kind::Reserved(Reserved::Begin)),
-    (b"BREAK", Kind::Reserved(Reserved::Break)),
-    (b"CHECK", Kind::Reserved(Reserved::Check)),
-    (b"CLOSE", Kind::Reserved(Reserved::Close)),
-    (b"CROSS", Kind::Reserved(Reserved::Cross)),
-    (b"FETCH", Kind::Reserved(Reserved::Fetch)),
-    (b"GROUP", Kind::Reserved(Reserved::Group)),
-    (b"INNER", Kind::Reserved(Reserved::Inner)),
-    (b"ORDER", Kind::Reserved(Reserved::Order)),
-    (b"OUTER", Kind::Reserved(Reserved::Outer)),
-    (b"PRINT", Kind::Reserved(Reserved::Print)),
-    (b"TABLE", Kind::Reserved(Reserved::Table)),
-    (b"THROW", Kind::Reserved(Reserved::Throw)),
-    (b"WHERE", Kind::Reserved(Reserved::Where)),
-    (b"WHILE", Kind::Reserved(Reserved::While)),
-    (b"UNION", Kind::Reserved(Reserved::LeftOut)),
-    (b"RIGHT", Kind::Reserved(Reserved::LeftOut)),
     (b"AFTER", Kind::Word(Word::After)),
-    (b"CATCH", Kind::Word(Word::Catch)),
-    (b"LEVEL", Kind::Word(Word::Level)),
-    (b"LOCAL", Kind::Word(Word::Local)),
-    (b"COUNT", Kind::Function(Function::Count)),
-];
-
-/// The words of six units.
-const OF_SIX: [(&[u8], Kind); 20] = [
-    (b"COMMIT", Kind::Reserved(Reserved::Commit)),
-    (b"CREATE", Kind::Reserved(Reserved::Create)),
-    (b"CURSOR", Kind::Reserved(Reserved::Cursor)),
-    (b"DELETE", Kind::Reserved(Reserved::Delete)),
-    (b"EXISTS", Kind::Reserved(Reserved::Exists)),
-    (b"HAVING", Kind::Reserved(Reserved::Having)),
-    (b"INSERT", Kind::Reserved(Reserved::Insert)),
-    (b"NULLIF", Kind::Reserved(Reserved::NullIf)),
-    (b"RETURN", Kind::Reserved(Reserved::Return)),
-    (b"SELECT", Kind::Reserved(Reserved::Select)),
-    (b"UNIQUE", Kind::Reserved(Reserved::Unique)),
-    (b"UPDATE", Kind::Reserved(Reserved::Update)),
-    (b"VALUES", Kind::Reserved(Reserved::Values)),
-    (b"EXCEPT", Kind::Reserved(Reserved::LeftOut)),
-    (b"OUTPUT", Kind::Word(Word::Output)),
-    (b"BIGINT", Kind::Word(Word::BigInt)),
-    (b"NORMAL", Kind::Word(Word::Normal)),
-    (b"GLOBAL", Kind::Word(Word::Global)),
-    (b"STATIC", Kind::Word(Word::Static)),
-    (b"ISNULL", Kind::Function(Function::IsNull)),
-];
-
-/// The words of seven units.
-const OF_SEVEN: [(&[u8], Kind); 9] = [
-    (b"BETWEEN", Kind::Reserved(Reserved::Between)),
-    (b"DECLARE", Kind::Reserved(Reserved::Declare)),
-    (b"EXECUTE", Kind::Reserved(Reserved::Execute)),
-    (b"FOREIGN", Kind::Reserved(Reserved::Foreign)),
-    (b"PRIMARY", Kind::Reserved(Reserved::Primary)),
-    (b"TRIGGER", Kind::Reserved(Reserved::Trigger)),
-    (b"TINYINT", Kind::Word(Word::TinyInt)),
-    (b"INTEGER", Kind::Word(Word::Int)),
-    (b"NOCOUNT", Kind::Word(Word::NoCount)),
-];
-
-/// The words of eight units.
-const OF_EIGHT: [(&[u8], Kind); 8] = [
-    (b"COALESCE", Kind::Reserved(Reserved::Coalesce)),
-    (b"CONTINUE", Kind::Reserved(Reserved::Continue)),
-    (b"DISTINCT", Kind::Reserved(Reserved::Distinct)),
-    (b"ROLLBACK", Kind::Reserved(Reserved::Rollback)),
-    (b"SMALLINT", Kind::Word(Word::SmallInt)),
-    (b"NVARCHAR", Kind::Word(Word::NVarChar)),
-    (b"TEXTSIZE", Kind::Word(Word::TextSize)),
-    (b"SNAPSHOT", Kind::Word(Word::Snapshot)),
-];
-
-/// The words of nine units and more.
-const OF_MORE: [(&[u8], Kind); 31] = [
-    (b"CONSTRAINT", Kind::Reserved(Reserved::Constraint)),
-    (b"DEALLOCATE", Kind::Reserved(Reserved::Deallocate)),
-    (b"PROCEDURE", Kind::Reserved(Reserved::Procedure)),
-    (b"RAISERROR", Kind::Reserved(Reserved::RaiseError)),
-    (b"REFERENCES", Kind::Reserved(Reserved::References)),
-    (b"TRANSACTION", Kind::Reserved(Reserved::Transaction)),
-    (b"INTERSECT", Kind::Reserved(Reserved::LeftOut)),
-    (b"XACT_ABORT", Kind::Word(Word::XactAbort)),
-    (
-        b"IMPLICIT_TRANSACTIONS",
-        Kind::Word(Word::ImplicitTransactions),
-    ),
-    (b"ISOLATION", Kind::Word(Word::Isolation)),
-    (b"LOCK_TIMEOUT", Kind::Word(Word::LockTimeout)),
-    (b"DEADLOCK_PRIORITY", Kind::Word(Word::DeadlockPriority)),
-    (b"COMMITTED", Kind::Word(Word::Committed)),
-    (b"UNCOMMITTED", Kind::Word(Word::Uncommitted)),
-    (b"REPEATABLE", Kind::Word(Word::Repeatable)),
-    (b"SERIALIZABLE", Kind::Word(Word::Serializable)),
-    (b"READ_ONLY", Kind::Word(Word::ReadOnly)),
-    (b"XACT_STATE", Kind::Function(Function::XactState)),
-    (b"ERROR_NUMBER", Kind::Function(Function::ErrorNumber)),
-    (b"ERROR_SEVERITY", Kind::Function(Function::ErrorSeverity)),
-    (b"ERROR_STATE", Kind::Function(Function::ErrorState)),
-    (b"ERROR_LINE", Kind::Function(Function::ErrorLine)),
-    (b"ERROR_MESSAGE", Kind::Function(Function::ErrorMessage)),
-    (b"ERROR_PROCEDURE", Kind::Function(Function::ErrorProcedure)),
+    (b"AVG", Kind::Function(Function::Avg)),
     (b"ANSI_NULLS", Kind::Fixed(FixedOption::AnsiNulls)),
     (
         b"ANSI_NULL_DFLT_ON",
@@ -281,14 +153,226 @@ const OF_MORE: [(&[u8], Kind); 31] = [
     (b"ANSI_PADDING", Kind::Fixed(FixedOption::AnsiPadding)),
     (b"ANSI_WARNINGS", Kind::Fixed(FixedOption::AnsiWarnings)),
     (b"ARITHABORT", Kind::Fixed(FixedOption::ArithAbort)),
+];
+
+/// The words that begin with B.
+const OF_B: [(&[u8], Kind); 6] = [
+    (b"BEGIN", Kind::Reserved(Reserved::Begin)),
+    (b"BETWEEN", Kind::Reserved(Reserved::Between)),
+    (b"BREAK", Kind::Reserved(Reserved::Break)),
+    (b"BY", Kind::Reserved(Reserved::By)),
+    (b"BIGINT", Kind::Word(Word::BigInt)),
+    (b"BIT", Kind::Word(Word::Bit)),
+];
+
+/// The words that begin with C.
+const OF_C: [(&[u8], Kind); 15] = [
+    (b"CASE", Kind::Reserved(Reserved::Case)),
+    (b"CHECK", Kind::Reserved(Reserved::Check)),
+    (b"CLOSE", Kind::Reserved(Reserved::Close)),
+    (b"COALESCE", Kind::Reserved(Reserved::Coalesce)),
+    (b"COMMIT", Kind::Reserved(Reserved::Commit)),
+    (b"CONSTRAINT", Kind::Reserved(Reserved::Constraint)),
+    (b"CONTINUE", Kind::Reserved(Reserved::Continue)),
+    (b"CREATE", Kind::Reserved(Reserved::Create)),
+    (b"CROSS", Kind::Reserved(Reserved::Cross)),
+    (b"CURSOR", Kind::Reserved(Reserved::Cursor)),
+    (b"CATCH", Kind::Word(Word::Catch)),
+    (b"COMMITTED", Kind::Word(Word::Committed)),
+    (b"CAST", Kind::Function(Function::Cast)),
+    (b"COUNT", Kind::Function(Function::Count)),
     (
         b"CONCAT_NULL_YIELDS_NULL",
         Kind::Fixed(FixedOption::ConcatNullYieldsNull),
     ),
+];
+
+/// The words that begin with D.
+const OF_D: [(&[u8], Kind); 7] = [
+    (b"DEALLOCATE", Kind::Reserved(Reserved::Deallocate)),
+    (b"DECLARE", Kind::Reserved(Reserved::Declare)),
+    (b"DELETE", Kind::Reserved(Reserved::Delete)),
+    (b"DESC", Kind::Reserved(Reserved::Desc)),
+    (b"DISTINCT", Kind::Reserved(Reserved::Distinct)),
+    (b"DROP", Kind::Reserved(Reserved::Drop)),
+    (b"DEADLOCK_PRIORITY", Kind::Word(Word::DeadlockPriority)),
+];
+
+/// The words that begin with E.
+const OF_E: [(&[u8], Kind); 12] = [
+    (b"ELSE", Kind::Reserved(Reserved::Else)),
+    (b"END", Kind::Reserved(Reserved::End)),
+    (b"EXEC", Kind::Reserved(Reserved::Execute)),
+    (b"EXECUTE", Kind::Reserved(Reserved::Execute)),
+    (b"EXISTS", Kind::Reserved(Reserved::Exists)),
+    (b"EXCEPT", Kind::Reserved(Reserved::LeftOut)),
+    (b"ERROR_NUMBER", Kind::Function(Function::ErrorNumber)),
+    (b"ERROR_SEVERITY", Kind::Function(Function::ErrorSeverity)),
+    (b"ERROR_STATE", Kind::Function(Function::ErrorState)),
+    (b"ERROR_LINE", Kind::Function(Function::ErrorLine)),
+    (b"ERROR_MESSAGE", Kind::Function(Function::ErrorMessage)),
+    (b"ERROR_PROCEDURE", Kind::Function(Function::ErrorProcedure)),
+];
+
+/// The words that begin with F.
+const OF_F: [(&[u8], Kind); 5] = [
+    (b"FETCH", Kind::Reserved(Reserved::Fetch)),
+    (b"FOR", Kind::Reserved(Reserved::For)),
+    (b"FOREIGN", Kind::Reserved(Reserved::Foreign)),
+    (b"FROM", Kind::Reserved(Reserved::From)),
+    (b"FULL", Kind::Reserved(Reserved::LeftOut)),
+];
+
+/// The words that begin with G.
+const OF_G: [(&[u8], Kind); 2] = [
+    (b"GROUP", Kind::Reserved(Reserved::Group)),
+    (b"GLOBAL", Kind::Word(Word::Global)),
+];
+
+/// The words that begin with H.
+const OF_H: [(&[u8], Kind); 2] = [
+    (b"HAVING", Kind::Reserved(Reserved::Having)),
+    (b"HIGH", Kind::Word(Word::High)),
+];
+
+/// The words that begin with I.
+const OF_I: [(&[u8], Kind); 12] = [
+    (b"IF", Kind::Reserved(Reserved::If)),
+    (b"IN", Kind::Reserved(Reserved::In)),
+    (b"INNER", Kind::Reserved(Reserved::Inner)),
+    (b"INSERT", Kind::Reserved(Reserved::Insert)),
+    (b"INTO", Kind::Reserved(Reserved::Into)),
+    (b"IS", Kind::Reserved(Reserved::Is)),
+    (b"INTERSECT", Kind::Reserved(Reserved::LeftOut)),
+    (b"INT", Kind::Word(Word::Int)),
+    (b"INTEGER", Kind::Word(Word::Int)),
     (
-        b"QUOTED_IDENTIFIER",
-        Kind::Fixed(FixedOption::QuotedIdentifier),
+        b"IMPLICIT_TRANSACTIONS",
+        Kind::Word(Word::ImplicitTransactions),
     ),
+    (b"ISOLATION", Kind::Word(Word::Isolation)),
+    (b"ISNULL", Kind::Function(Function::IsNull)),
+];
+
+/// The words that begin with J.
+const OF_J: [(&[u8], Kind); 1] = [(b"JOIN", Kind::Reserved(Reserved::Join))];
+
+/// The words that begin with K.
+const OF_K: [(&[u8], Kind); 1] = [(b"KEY", Kind::Reserved(Reserved::Key))];
+
+/// The words that begin with L.
+const OF_L: [(&[u8], Kind); 6] = [
+    (b"LEFT", Kind::Reserved(Reserved::Left)),
+    (b"LEVEL", Kind::Word(Word::Level)),
+    (b"LOCK_TIMEOUT", Kind::Word(Word::LockTimeout)),
+    (b"LOW", Kind::Word(Word::Low)),
+    (b"LOCAL", Kind::Word(Word::Local)),
+    (b"LEN", Kind::Function(Function::Len)),
+];
+
+/// The words that begin with M.
+const OF_M: [(&[u8], Kind); 2] = [
+    (b"MIN", Kind::Function(Function::Min)),
+    (b"MAX", Kind::Function(Function::Max)),
+];
+
+/// The words that begin with N.
+const OF_N: [(&[u8], Kind); 7] = [
+    (b"NOT", Kind::Reserved(Reserved::Not)),
+    (b"NULL", Kind::Reserved(Reserved::Null)),
+    (b"NULLIF", Kind::Reserved(Reserved::NullIf)),
+    (b"NVARCHAR", Kind::Word(Word::NVarChar)),
+    (b"NOCOUNT", Kind::Word(Word::NoCount)),
+    (b"NORMAL", Kind::Word(Word::Normal)),
+    (b"NEXT", Kind::Word(Word::Next)),
+];
+
+/// The words that begin with O.
+const OF_O: [(&[u8], Kind); 8] = [
+    (b"ON", Kind::Reserved(Reserved::On)),
+    (b"OPEN", Kind::Reserved(Reserved::Open)),
+    (b"OR", Kind::Reserved(Reserved::Or)),
+    (b"ORDER", Kind::Reserved(Reserved::Order)),
+    (b"OUTER", Kind::Reserved(Reserved::Outer)),
+    (b"OUT", Kind::Word(Word::Output)),
+    (b"OUTPUT", Kind::Word(Word::Output)),
+    (b"OFF", Kind::Word(Word::Off)),
+];
+
+/// The words that begin with P.
+const OF_P: [(&[u8], Kind); 4] = [
+    (b"PRIMARY", Kind::Reserved(Reserved::Primary)),
+    (b"PRINT", Kind::Reserved(Reserved::Print)),
+    (b"PROC", Kind::Reserved(Reserved::Procedure)),
+    (b"PROCEDURE", Kind::Reserved(Reserved::Procedure)),
+];
+
+/// The words that begin with Q.
+const OF_Q: [(&[u8], Kind); 1] = [(
+    b"QUOTED_IDENTIFIER",
+    Kind::Fixed(FixedOption::QuotedIdentifier),
+)];
+
+/// The words that begin with R.
+const OF_R: [(&[u8], Kind); 8] = [
+    (b"RAISERROR", Kind::Reserved(Reserved::RaiseError)),
+    (b"REFERENCES", Kind::Reserved(Reserved::References)),
+    (b"RETURN", Kind::Reserved(Reserved::Return)),
+    (b"ROLLBACK", Kind::Reserved(Reserved::Rollback)),
+    (b"RIGHT", Kind::Reserved(Reserved::LeftOut)),
+    (b"READ", Kind::Word(Word::Read)),
+    (b"REPEATABLE", Kind::Word(Word::Repeatable)),
+    (b"READ_ONLY", Kind::Word(Word::ReadOnly)),
+];
+
+/// The words that begin with S.
+const OF_S: [(&[u8], Kind); 8] = [
+    (b"SAVE", Kind::Reserved(Reserved::Save)),
+    (b"SELECT", Kind::Reserved(Reserved::Select)),
+    (b"SET", Kind::Reserved(Reserved::Set)),
+    (b"SMALLINT", Kind::Word(Word::SmallInt)),
+    (b"SNAPSHOT", Kind::Word(Word::Snapshot)),
+    (b"SERIALIZABLE", Kind::Word(Word::Serializable)),
+    (b"STATIC", Kind::Word(Word::Static)),
+    (b"SUM", Kind::Function(Function::Sum)),
+];
+
+/// The words that begin with T.
+const OF_T: [(&[u8], Kind); 10] = [
+    (b"TABLE", Kind::Reserved(Reserved::Table)),
+    (b"THEN", Kind::Reserved(Reserved::Then)),
+    (b"THROW", Kind::Reserved(Reserved::Throw)),
+    (b"TOP", Kind::Reserved(Reserved::Top)),
+    (b"TRAN", Kind::Reserved(Reserved::Tran)),
+    (b"TRANSACTION", Kind::Reserved(Reserved::Transaction)),
+    (b"TRIGGER", Kind::Reserved(Reserved::Trigger)),
+    (b"TINYINT", Kind::Word(Word::TinyInt)),
+    (b"TRY", Kind::Word(Word::Try)),
+    (b"TEXTSIZE", Kind::Word(Word::TextSize)),
+];
+
+/// The words that begin with U.
+const OF_U: [(&[u8], Kind); 4] = [
+    (b"UNIQUE", Kind::Reserved(Reserved::Unique)),
+    (b"UPDATE", Kind::Reserved(Reserved::Update)),
+    (b"UNION", Kind::Reserved(Reserved::LeftOut)),
+    (b"UNCOMMITTED", Kind::Word(Word::Uncommitted)),
+];
+
+/// The words that begin with V.
+const OF_V: [(&[u8], Kind); 1] = [(b"VALUES", Kind::Reserved(Reserved::Values))];
+
+/// The words that begin with W.
+const OF_W: [(&[u8], Kind); 3] = [
+    (b"WHEN", Kind::Reserved(Reserved::When)),
+    (b"WHERE", Kind::Reserved(Reserved::Where)),
+    (b"WHILE", Kind::Reserved(Reserved::While)),
+];
+
+/// The words that begin with X.
+const OF_X: [(&[u8], Kind); 2] = [
+    (b"XACT_ABORT", Kind::Word(Word::XactAbort)),
+    (b"XACT_STATE", Kind::Function(Function::XactState)),
 ];
 
 /// The names of the session's values by their capitals.
