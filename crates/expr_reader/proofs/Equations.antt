@@ -29,7 +29,7 @@ use Rattle.tsql_grammar.specs.Terminals.{Terminal, kind as kind_at, units, numbe
 use Rattle.tsql_grammar.specs.Trees.{sum, product}
 use Rattle.tsql_grammar.specs.Kinds.{functions}
 use Rattle.grammar_laws.specs.Grammar.Symbol.{lexeme, rule}
-use Rattle.expr_reader.specs.Parts.{case_from, pair_from, coalesce_from, arguments_from, signed_from}
+use Rattle.expr_reader.specs.Parts.{case_from, pair_from, coalesce_from, arguments_from, signed_from, chain_from}
 use Rattle.lexeme_reader.proofs.Ways.{by_order, by_certain, ordered, Skips}
 use Rattle.lexeme_reader.proofs.Front.{front_bind, front_when, front_if, if_bind, when_bind, bind_assoc, bind_same}
 use Rattle.lexeme_reader.specs.Reading.{Outcome, read, ahead, expect, sees_any, ◌>>=◌, when, applied, front}
@@ -42,6 +42,10 @@ reserved a = c.One (k.Reserved a)
 
 abbrev plain : Word → Class
 plain a = c.One (k.Word a)
+
+unless : {A : Type 0} (a b : A) (it : Bool) → it ≡ false → (if it then a else b) ≡ b
+unless a b true e = absurd (cc)
+unless a b false e = refl
 
 pub distinct_is : (w : List Terminal) → read r.Distinct w ≡ when (expect (reserved word.Distinct) w) (λ x. Some (true, x.1)) (Some (false, w))
 distinct_is w = by_order [] r.Distinct w refl
@@ -57,6 +61,12 @@ pub more_terms_on : (done : List Term) (w : List Terminal) → front done (read 
     ≡ (if sees_any adds w then (do x ← read r.AddSign w; y ← read r.Product x.1; front (done ++ roll-Term (record { sign = x.0; operand = y.0 }) ∷ []) (read r.MoreTerms y.1)) else Some (done, w))
 more_terms_on done w = ap (front done) (more_terms_is w) ∙ simp (front_if, front_bind, append_assoc, append-nil)
 
+-- a product that no sign follows
+pub expr_alone : (e : Expr) (w v : List Terminal) → read r.Product w ≡ Some (e, v) → sees_any adds v ≡ false → read r.Expr w ≡ Some (e, v)
+expr_alone e w v h f =
+    expr_is w ∙ ap (λ o. o >>= λ x. read r.MoreTerms x.1 >>= λ y. Some (sum x.0 y.0, y.1)) h
+    ∙ ap (λ o. o >>= λ y. Some (sum e y.0, y.1)) (more_terms_is v ∙ unless _ _ (sees_any adds v) f)
+
 pub add_sign_is : (w : List Terminal) → read r.AddSign w ≡ when (expect (sign s.Plus) w) (λ x. Some (add.Plus, x.1)) (do x ← expect (sign s.Minus) w; Some (add.Minus, x.1))
 add_sign_is w = by_order [] r.AddSign w refl
 
@@ -66,6 +76,26 @@ product_is w = by_order [] r.Product w refl
 pub more_factors_on : (done : List Factor) (w : List Terminal) → front done (read r.MoreFactors w)
     ≡ (if sees_any multiplies w then (do x ← read r.MultiplySign w; y ← read r.Unary x.1; front (done ++ roll-Factor (record { sign = x.0; operand = y.0 }) ∷ []) (read r.MoreFactors y.1)) else Some (done, w))
 more_factors_on done w = ap (front done) (by_order [] r.MoreFactors w refl) ∙ simp (front_if, front_bind, append_assoc, append-nil)
+
+more_factors_none : (w : List Terminal) → sees_any multiplies w ≡ false → read r.MoreFactors w ≡ Some ([], w)
+more_factors_none w f = by_order [] r.MoreFactors w refl ∙ unless _ _ (sees_any multiplies w) f
+
+-- an operand that no sign of a product follows
+pub product_alone : (e : Expr) (w v : List Terminal) → read r.Unary w ≡ Some (e, v) → sees_any multiplies v ≡ false → read r.Product w ≡ Some (e, v)
+product_alone e w v h f =
+    product_is w ∙ ap (λ o. o >>= λ x. read r.MoreFactors x.1 >>= λ y. Some (product x.0 y.0, y.1)) h
+    ∙ ap (λ o. o >>= λ y. Some (product e y.0, y.1)) (more_factors_none v f)
+
+-- an operand that neither follows
+pub chain_alone : (e : Expr) (w : List Terminal) → (sees_any multiplies w || sees_any adds w) ≡ false → chain_from e w ≡ Some (e, w)
+chain_alone e w h = go (sees_any multiplies w) (sees_any adds w) refl refl h
+  where
+    go : (a b : Bool) → sees_any multiplies w ≡ a → sees_any adds w ≡ b → (a || b) ≡ false → chain_from e w ≡ Some (e, w)
+    go true b f g h = absurd (cc)
+    go false true f g h = absurd (cc)
+    go false false f g h =
+        ap (λ o. o >>= λ x. read r.MoreTerms x.1 >>= λ y. Some (sum (product e x.0) y.0, y.1)) (more_factors_none w f)
+        ∙ ap (λ o. o >>= λ y. Some (sum e y.0, y.1)) (more_terms_is w ∙ unless _ _ (sees_any adds w) g)
 
 pub multiply_sign_is : (w : List Terminal) → read r.MultiplySign w
     ≡ when (expect (sign s.Star) w) (λ x. Some (multiply.Times, x.1)) (when (expect (sign s.Slash) w) (λ x. Some (multiply.Divide, x.1)) (do x ← expect (sign s.Percent) w; Some (multiply.Remainder, x.1)))

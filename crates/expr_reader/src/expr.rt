@@ -1,12 +1,13 @@
 //! Expressions.
 
-ghost use Rattle.std.specs.Prelude.{◌≡◌, IfOk};
+ghost use Rattle.std.specs.Prelude.{◌≡◌, ◌||◌, IfOk};
 ghost use Rattle.tsql_tree.specs.declared.query.Expr.TheVariants as tree;
 ghost use Rattle.tsql_grammar.specs.declared.rule.Rule.TheVariants as r;
 ghost use Rattle.tsql_grammar.specs.Trees as trees;
 ghost use Rattle.expr_reader.specs.Nests.{Nests};
 ghost use Rattle.expr_reader.specs.Parts.{case_from, pair_from, coalesce_from, signed_from, chain_from};
-ghost use Rattle.lexeme_reader.specs.Reading.{read, Gives};
+ghost use Rattle.lexeme_reader.specs.Reading.{read, sees_any, Gives};
+ghost use Rattle.tsql_grammar.specs.Lookahead.{adds, multiplies};
 
 use crate::nested::{Found, Nested};
 use crate::reader::Reader;
@@ -31,12 +32,15 @@ const MULTIPLIES: [Class; 3] = [
 
 impl<F: Fn(Global, &mut Lexemes<'_>, usize, Nested) -> Result<Found, ReadFault>> Reader<F> {
     /// An expression.
-    #[tactic(auto, using(crate::proofs::Equations::expr_is))]
+    #[tactic(auto, using(crate::proofs::Equations::expr_is, crate::proofs::Equations::expr_alone))]
     pub fn expr(&self, lexemes: &mut Lexemes<'_>) -> Result<Expr, ReadFault>
         requires { Nests self.now.depth (F.pre self.now.nested) (F.post self.now.nested) }
         ensures { Gives (read r.Expr lexemes.old) result lexemes.new }
     {
         let first = self.product(lexemes)?;
+        if !lexemes.sees_any(&ADDS) {
+            return Ok(first);
+        }
         let more = self.more_terms(lexemes)?;
         Ok(sum(self.alloc, first, more)?)
     }
@@ -69,12 +73,15 @@ impl<F: Fn(Global, &mut Lexemes<'_>, usize, Nested) -> Result<Found, ReadFault>>
     }
 
     /// Operands joined by `*`, `/` and `%`.
-    #[tactic(auto, using(crate::proofs::Equations::product_is))]
+    #[tactic(auto, using(crate::proofs::Equations::product_is, crate::proofs::Equations::product_alone))]
     pub(crate) fn product(&self, lexemes: &mut Lexemes<'_>) -> Result<Expr, ReadFault>
         requires { Nests self.now.depth (F.pre self.now.nested) (F.post self.now.nested) }
         ensures { Gives (read r.Product lexemes.old) result lexemes.new }
     {
         let first = self.unary(lexemes)?;
+        if !lexemes.sees_any(&MULTIPLIES) {
+            return Ok(first);
+        }
         let more = self.more_factors(lexemes)?;
         Ok(product(self.alloc, first, more)?)
     }
@@ -123,10 +130,14 @@ impl<F: Fn(Global, &mut Lexemes<'_>, usize, Nested) -> Result<Found, ReadFault>>
     }
 
     /// The operands that are joined to a first one.
+    #[tactic(auto, using(crate::proofs::Equations::chain_alone))]
     pub fn chain(&self, lexemes: &mut Lexemes<'_>, first: Expr) -> Result<Expr, ReadFault>
         requires { Nests self.now.depth (F.pre self.now.nested) (F.post self.now.nested) }
         ensures { Gives (chain_from first lexemes.old) result lexemes.new }
     {
+        if !joins(lexemes) {
+            return Ok(first);
+        }
         let factors = self.more_factors(lexemes)?;
         let terms = self.more_terms(lexemes)?;
         let first = product(self.alloc, first, factors)?;
@@ -339,6 +350,13 @@ impl<F: Fn(Global, &mut Lexemes<'_>, usize, Nested) -> Result<Found, ReadFault>>
         }
         Err(ReadFault::NoRoom)
     }
+}
+
+/// Whether a sign comes next that joins operands.
+fn joins(lexemes: &Lexemes<'_>) -> bool
+    ensures { result ≡ (sees_any multiplies lexemes.now || sees_any adds lexemes.now) }
+{
+    lexemes.sees_any(&MULTIPLIES) || lexemes.sees_any(&ADDS)
 }
 
 /// `+` or `-`.
