@@ -1,0 +1,44 @@
+-- Transact-SQL reference, "CREATE TABLE": which rows are rows of a table. A row has a value for each column, NULL or of
+-- the column's type, and stands at its own key: the values of the PRIMARY KEY's columns, in the key's order. What else
+-- stands among a table's rows is read as no row. NOT NULL is no part of this: it is a constraint.
+use Rattle.std.specs.Prelude.{ℕ, Bool, true, false, ◌&&◌, nat_eq, nat_le, List, length, map, Some}
+use Rattle.std.specs.Cmp.Lexicographic.{pointwise}
+use Rattle.std.specs.Ordering.{eq_by_cmp}
+use Rattle.value_types.specs.declared.sql_type.SqlType.{SqlType}
+use Rattle.value_types.specs.declared.sql_type.SqlType.TheVariants.{Bit as BitType, NText}
+use Rattle.value_types.specs.declared.value.Value.{Value}
+use Rattle.value_types.specs.declared.value.Value.TheVariants.{Null, Whole, Bit, Text}
+use Rattle.value_types.specs.Order.{key_cmp}
+use Rattle.convert_rules.specs.Types.{is_in_range}
+use Rattle.tsql_tree.specs.declared.definition.ColumnTree.{ColumnTree}
+use Rattle.tsql_tree.specs.declared.definition.TableTree.{TableTree}
+use Rattle.bound_tree.specs.Setting.{value_at}
+use Rattle.query_binder.specs.Scope.{key_places}
+
+-- NULL, or a value of the type: `IsOf` of `convert_rules` as a test
+abbrev pub is_value_of : SqlType → Value → Bool
+is_value_of kind Null = true
+is_value_of kind (Whole number) = is_in_range kind number
+is_value_of BitType (Bit bit) = true
+is_value_of (NText size) (Text units) = nat_le (length units) size
+is_value_of kind value = false
+
+-- a value for each column, NULL or of its type, and no more
+abbrev pub has_columns : List ColumnTree → List Value → Bool
+has_columns columns row = pointwise (λ column value. is_value_of column.kind value) columns row
+
+-- the values at places of a row
+abbrev pub values_at : List ℕ → List Value → List Value
+values_at places row = map (value_at row) places
+
+-- the row's own key
+abbrev pub key_of : TableTree → List Value → List Value
+key_of shape row = values_at (key_places (Some shape)) row
+
+-- keys that compare equal are one key
+abbrev pub same_key : List Value → List Value → Bool
+same_key = eq_by_cmp key_cmp
+
+-- A row at a key is one of the table's own part, which is part 0. There is no other part yet.
+abbrev pub row_fits : TableTree → ℕ → List Value → List Value → Bool
+row_fits shape part key row = nat_eq part 0 && (has_columns shape.columns row && same_key (key_of shape row) key)
