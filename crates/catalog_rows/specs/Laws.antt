@@ -1,6 +1,6 @@
 -- The laws: a row that fits a table has a value for each column, of its type; so an image of such rows is one of the
 -- types that queries are bound over. A definition that was written is read again, and a row says one thing.
-use Rattle.std.specs.Prelude.{◌≡◌, ◌≤◌, ◌↔◌, ℕ, IsTrue, List, All, Option, Some}
+use Rattle.std.specs.Prelude.{◌≡◌, ◌↔◌, ℕ, IsTrue, List, All, Option, Some}
 use Rattle.value_types.specs.declared.sql_type.SqlType.{SqlType}
 use Rattle.value_types.specs.declared.table_name.TableName.{TableName}
 use Rattle.value_types.specs.declared.value.Value.{Value}

@@ -1,0 +1,7 @@
+use Rattle.std.proofs.Common.{◌≡◌, ◌++◌}
+use Rattle.catalog_rows.specs.Definitions.{tables_of}
+use Rattle.catalog_rows.proofs.definitions.tables_of.Given as goal
+
+-- the tables so far, and those among what is left, are all
+abbrev pub invariant-loop-definition : goal.invariant-loop-definition
+invariant-loop-definition l = l.tables.items ++ tables_of l.definition-iterator.rest.items ≡ tables_of l.fn.definitions.items

@@ -1,0 +1,13 @@
+use Rattle.std.proofs.Common.{◌≡◌, drop}
+use Rattle.std.specs.Prelude.{filter_map}
+use Rattle.std.specs.Ordering.{eq_by_cmp}
+use Rattle.value_types.specs.Order.{key_cmp}
+use Rattle.query_binder.specs.Scope.{place_in}
+use Rattle.catalog_rows.specs.Rows.{values_at}
+use Rattle.catalog_rows.proofs.rows.has_named.Given as goal
+
+-- the names and values that are left decide
+abbrev pub invariant-loop-name : goal.invariant-loop-name
+invariant-loop-name l =
+    eq_by_cmp key_cmp (values_at (filter_map (place_in l.columns) (drop l.name-index l.names)) l.row) l.rest
+    ≡ eq_by_cmp key_cmp (values_at (filter_map (place_in l.columns) l.names) l.row) l.wanted
