@@ -1,0 +1,7 @@
+-- Read in this order; the comment behind a name says what the file is for.
+pub mod Local  -- first_local: NOT NULL and CHECK, of a row alone
+pub mod Reads  -- reads_for: what is read behind a statement's changes for UNIQUE and FOREIGN KEY
+pub mod Judged  -- judge: what the rows that were read say
+pub mod Answers  -- Finds: an answer is what is meant
+-- What private contracts alone cite.
+pub mod Inserted  -- the keys at which changes insert, as a set
