@@ -1,5 +1,5 @@
 -- The values of a key, one after another.
-use Rattle.std.proofs.Common.{◌≡◌, refl, sym, ◌∙◌, ℕ, ◌<◌, List, [], ◌∷◌, length, drop, false, arith}
+use Rattle.std.proofs.Common.{◌≡◌, refl, ◌∙◌, ℕ, ◌<◌, List, [], ◌∷◌, length, drop, false, arith}
 use Rattle.std.proofs.lemmas.List.{length-drop}
 use Rattle.std.specs.Ordering.{eq_by_cmp}
 use Rattle.value_types.specs.declared.value.Value.{Value}
