@@ -20,7 +20,7 @@ use Rattle.constraint_check.specs.Inserted.{HasSpots, spot_cmp}
 abbrev inserts_at : Spot → Planned → Bool
 inserts_at spot other = is_insert other.deed && is_at (change_of other) spot.table.now spot.key.now
 
-is_eq-then : (a b : Ordering) → is_eq (ordering_then a b) ≡ (is_eq a && is_eq b)
+pub is_eq-then : (a b : Ordering) → is_eq (ordering_then a b) ≡ (is_eq a && is_eq b)
 is_eq-then Less b = refl
 is_eq-then Equal b = refl
 is_eq-then Greater b = refl
