@@ -24,11 +24,11 @@ use Rattle.bound_tree.specs.declared.query.InnerQuery.{roll-InnerQuery}
 use Rattle.bound_tree.specs.declared.write.Bound.TheVariants as bound
 use Rattle.bound_tree.specs.declared.write.BoundWrite.TheVariants as write
 use Rattle.typed_nodes.specs.Refusals.{Refusal, unnamed}
-use Rattle.query_binder.specs.declared.operand.Selected.{Selected}
-use Rattle.query_binder.specs.Bind as bind
-use Rattle.query_binder.specs.Operands.{items_of}
-use Rattle.query_binder.specs.Progress.{begin_at, plain}
-use Rattle.query_binder.specs.Scope.{invalid_column, syntax_error}
+use Rattle.clause_binder.specs.declared.operand.Selected.{Selected}
+use Rattle.clause_binder.specs.Bind as bind
+use Rattle.clause_binder.specs.Operands.{items_of}
+use Rattle.clause_binder.specs.Progress.{begin_at, plain}
+use Rattle.clause_binder.specs.Scope.{invalid_column, syntax_error}
 use Rattle.binder.specs.Values.{query_of_items, values_query}
 use Rattle.binder.specs.Writes.{delete, inners_onto, insert, target, update, where_of, whole_table, wrong_count}
 use Rattle.binder.specs.Tables.{create_table}

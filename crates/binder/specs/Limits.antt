@@ -2,8 +2,8 @@
 use Rattle.std.specs.Prelude.{ℤ, pos, Bool, ◌||◌, nat_lt, if◌then◌else◌, Ok}
 use Rattle.bound_tree.specs.declared.write.Bound.{Bound}
 use Rattle.typed_nodes.specs.Refusals.{Outcome, unnamed}
-use Rattle.query_binder.specs.Scope.{max_inner}
-use Rattle.query_binder.specs.declared.progress.Progress.{Progress}
+use Rattle.clause_binder.specs.Scope.{max_inner}
+use Rattle.clause_binder.specs.declared.progress.Progress.{Progress}
 use Rattle.binder.specs.declared.made.Made.{Made}
 
 -- outside the limits

@@ -15,7 +15,7 @@ use Rattle.tsql_tree.specs.declared.statement.InsertRows.TheVariants.{Values, Qu
 use Rattle.tsql_tree.specs.declared.statement.Statement.{Statement, out-Statement}
 use Rattle.typed_nodes.specs.Refusals.{Outcome}
 use Rattle.table_names.specs.Contents.{Names, all_of, distinct_onto, in_expr, in_select, in_test}
-use Rattle.query_binder.specs.Scope.{invalid_object, table_of}
+use Rattle.clause_binder.specs.Scope.{invalid_object, table_of}
 
 -- a form of statements, with the statements within it as they are
 abbrev pub Layer : Type 0

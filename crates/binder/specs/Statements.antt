@@ -21,10 +21,10 @@ use Rattle.bound_tree.specs.declared.write.Bound.{Bound}
 use Rattle.bound_tree.specs.declared.write.Bound.TheVariants as bound
 use Rattle.typed_nodes.specs.Nodes.{is_kind}
 use Rattle.typed_nodes.specs.Refusals.{Outcome, after}
-use Rattle.query_binder.specs.declared.operand.Selected.{Selected}
+use Rattle.clause_binder.specs.declared.operand.Selected.{Selected}
 use Rattle.table_names.specs.Contents.{distinct_onto}
-use Rattle.query_binder.specs.Scope.{is_long, max_variables}
-use Rattle.query_binder.specs.Bind.{query_of}
+use Rattle.clause_binder.specs.Scope.{is_long, max_variables}
+use Rattle.clause_binder.specs.Bind.{query_of}
 use Rattle.binder.specs.declared.made.Made.{Made}
 use Rattle.binder.specs.Names.{Layer, all_tables, form_of, table_names}
 use Rattle.binder.specs.Limits.{is_beyond, within_limits}

@@ -1,7 +1,7 @@
 -- Transact-SQL reference, "CREATE TABLE": what is refused. A constraint's columns are the table's; a FOREIGN KEY refers to its
 -- parent's PRIMARY KEY, in its order and by columns of the same types. The constraints come by kind, PRIMARY KEY,
 -- UNIQUE, CHECK and FOREIGN KEY, each kind in the order of the text (own); limits come last.
-use Rattle.std.specs.Prelude.{ℕ, Bool, true, false, ◌&&◌, ◌||◌, ◌==◌, not, nat_eq, nat_lt, is_some, if◌then◌else◌, List, [], ◌∷◌, ◌++◌, length, map, Option, Some, None, Ok, Err}
+use Rattle.std.specs.Prelude.{ℕ, Bool, true, false, ◌&&◌, ◌||◌, ◌==◌, not, nat_eq, nat_lt, if◌then◌else◌, List, [], ◌∷◌, ◌++◌, length, map, Option, Some, None, Ok, Err}
 use Rattle.std.specs.List.{list_any}
 use Rattle.std.specs.Cmp.Lexicographic.{pointwise}
 use Rattle.value_types.specs.Units.{same_units}
@@ -17,9 +17,9 @@ use Rattle.bound_tree.specs.declared.expr.BoundTest.{BoundTest}
 use Rattle.bound_tree.specs.Kinds.{same_kind}
 use Rattle.typed_nodes.specs.Nodes.{is_kind}
 use Rattle.typed_nodes.specs.Refusals.{Outcome, after}
-use Rattle.query_binder.specs.declared.progress.Progress.{Progress}
-use Rattle.query_binder.specs.Scope.{columns_of, invalid_column, is_long, max_columns, place_in, table_of}
-use Rattle.query_binder.specs.Progress.{Binding, Context, and_then, begin_at, pure}
+use Rattle.clause_binder.specs.declared.progress.Progress.{Progress}
+use Rattle.clause_binder.specs.Scope.{columns_of, invalid_column, is_long, max_columns, table_of}
+use Rattle.clause_binder.specs.Progress.{Binding, Context, and_then, begin_at, pure}
 use Rattle.binder.specs.Limits.{is_beyond}
 use Rattle.binder.specs.Writes.{is_repeated, test_whole}
 
@@ -47,9 +47,12 @@ checks_of table = checks_onto [] [] [] table.checks (row_context table) (begin_a
 -- ---- columns of constraints
 
 -- each of the names is a column's, else the first that is none is refused
+abbrev pub has_column : List ColumnTree → List ℕ → Bool
+has_column columns name = list_any (λ column. same_units name column.name) columns
+
 abbrev pub all_columns : List ColumnTree → List (List ℕ) → Outcome (Unit {0})
 all_columns columns [] = Ok tt
-all_columns columns (name ∷ rest) = if is_some (place_in columns name) then all_columns columns rest else Err (invalid_column, name)
+all_columns columns (name ∷ rest) = if has_column columns name then all_columns columns rest else Err (invalid_column, name)
 
 abbrev pub all_keys : List ColumnTree → List KeyTree → Outcome (Unit {0})
 all_keys columns [] = Ok tt

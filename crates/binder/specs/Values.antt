@@ -15,10 +15,10 @@ use Rattle.typed_nodes.specs.declared.expr.TypedExpr.{TypedExpr}
 use Rattle.typed_nodes.specs.declared.test.TypedTest.{TypedTest}
 use Rattle.typed_nodes.specs.Nodes.{case_expr, number_expr}
 use Rattle.typed_nodes.specs.Refusals.{Outcome, after}
-use Rattle.query_binder.specs.declared.progress.Progress.{Progress}
-use Rattle.query_binder.specs.Progress.{Binding, and_then, begin_at, beyond_where, is_deep, plain, pure}
-use Rattle.query_binder.specs.Clauses.{item_of}
-use Rattle.query_binder.specs.Bind.{expr_of, test_of}
+use Rattle.clause_binder.specs.declared.progress.Progress.{Progress}
+use Rattle.clause_binder.specs.Progress.{Binding, and_then, begin_at, beyond_where, is_deep, plain, pure}
+use Rattle.clause_binder.specs.Clauses.{item_of}
+use Rattle.clause_binder.specs.Bind.{expr_of, test_of}
 use Rattle.binder.specs.declared.made.Made.{Made}
 use Rattle.binder.specs.Limits.{made_of}
 

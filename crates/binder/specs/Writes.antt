@@ -21,13 +21,13 @@ use Rattle.bound_tree.specs.declared.write.BoundRows.TheVariants as rows
 use Rattle.bound_tree.specs.declared.write.BoundSet.{BoundSet}
 use Rattle.bound_tree.specs.declared.write.BoundWrite.TheVariants as write
 use Rattle.typed_nodes.specs.Refusals.{Outcome, after, unnamed}
-use Rattle.query_binder.specs.declared.operand.Selected.{Selected}
-use Rattle.query_binder.specs.declared.progress.Progress.{Progress}
-use Rattle.query_binder.specs.Scope.{TableSource, behind, columns_of, invalid_column, max_columns, max_place, place_in, table_of}
-use Rattle.query_binder.specs.Progress.{Binding, and_then, begin_at, beyond_where, plain, pure}
-use Rattle.query_binder.specs.Operands.{items_of}
-use Rattle.query_binder.specs.Clauses.{set_aside, whole, whole_test}
-use Rattle.query_binder.specs.Bind.{expr_of, query_of, test_of}
+use Rattle.clause_binder.specs.declared.operand.Selected.{Selected}
+use Rattle.clause_binder.specs.declared.progress.Progress.{Progress}
+use Rattle.clause_binder.specs.Scope.{TableSource, behind, columns_of, invalid_column, max_columns, max_place, place_in, table_of}
+use Rattle.clause_binder.specs.Progress.{Binding, and_then, begin_at, beyond_where, plain, pure}
+use Rattle.clause_binder.specs.Operands.{items_of}
+use Rattle.clause_binder.specs.Clauses.{set_aside, whole, whole_test}
+use Rattle.clause_binder.specs.Bind.{expr_of, query_of, test_of}
 use Rattle.binder.specs.declared.made.Made.{Made}
 use Rattle.binder.specs.Limits.{made_of}
 

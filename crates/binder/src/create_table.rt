@@ -2,21 +2,22 @@
 
 ghost use Rattle.std.specs.Prelude.{◌≡◌, ◌++◌, [], map, option_map, is_some, length, OnOk, Ok};
 ghost use Rattle.std.specs.List.{list_any};
-ghost use Rattle.query_binder.specs.Scope as scope;
+ghost use Rattle.clause_binder.specs.Scope as scope;
 ghost use Rattle.typed_nodes.specs.Refusals.{Gives};
-ghost use Rattle.query_binder.specs.Answers.{GivesItemsOn};
+ghost use Rattle.clause_binder.specs.Answers.{GivesItemsOn};
 ghost use Rattle.binder.specs.Tables as spec;
 
 use crate::delete::bind_whole_test;
 use crate::fault::{INVALID_COLUMN, refused};
 use crate::limits::{is_beyond, is_kind, is_long};
-use crate::places::{is_repeated, place_in};
+use crate::places::{columns_of, is_repeated};
 use bound_tree::BoundTest;
-use query_binder::{Binder, Context, Progress, TableSource, table_of};
+use clause_binder::{ColumnsByName, Context, Progress, TableSource, TablesByName};
+use query_binder::Binder;
 use session_vars::Vars;
 use sqlite_items::Items;
 use std::alloc::Global;
-use tsql_tree::{CheckTree, ColumnTree, Definition, ForeignTree, KeyTree, TableTree};
+use tsql_tree::{CheckTree, ColumnTree, ForeignTree, KeyTree, TableTree};
 use typed_nodes::BindFault;
 use value_types::{SqlType, Units};
 
@@ -31,19 +32,19 @@ const MAX_KEY: usize = 4;
 
 /// Whether something of a table is outside a limit. Error 207 where a constraint names no column,
 /// and what a CHECK is refused for.
-pub(crate) fn create_table(
+pub(crate) fn create_table<'d>(
     alloc: Global,
-    definitions: &[Definition],
-    table: &TableTree,
+    definitions: &TablesByName<'d>,
+    table: &'d TableTree,
 ) -> Result<bool, BindFault>
     ensures { Gives result (spec.create_table definitions.now table.now) }
 {
-    let columns = table.columns.as_slice();
-    all_keys(alloc, columns, table.key.as_slice())?;
-    all_keys(alloc, columns, table.uniques.as_slice())?;
+    let columns = ColumnsByName::new(alloc, table.columns.as_slice())?;
+    all_keys(alloc, &columns, table.key.as_slice())?;
+    all_keys(alloc, &columns, table.uniques.as_slice())?;
     let mut done = Progress::begin_at(alloc, 0);
     bind_checks_of(alloc, table, &mut done)?;
-    all_foreigns(alloc, definitions, table)?;
+    all_foreigns(alloc, definitions, table, &columns)?;
     let odd = is_odd_table(alloc, definitions, table)?;
     Ok(is_beyond(&done) || odd)
 }
@@ -69,15 +70,13 @@ fn row_checks<'d>(
 ) -> Result<Vec<BoundTest>, BindFault>
     ensures { GivesItemsOn result (spec.checks_onto [] vars.now [] table.now.checks (spec.row_context table.now) done.old) done.new }
 {
+    let none = TablesByName::none(alloc);
     let binder = Binder {
         alloc,
-        definitions: &[],
+        definitions: &none,
         vars,
     };
-    let sources = [TableSource {
-        name: &table.name,
-        columns: table.columns.as_slice(),
-    }];
+    let sources = [TableSource::new(&table.name, table.columns.as_slice())];
     let at = Context {
         sources: &sources,
         groups: &[],
@@ -89,7 +88,7 @@ fn row_checks<'d>(
 }
 
 fn bind_each_check<'d>(
-    binder: &Binder<'d>,
+    binder: &Binder<'_, 'd>,
     checks: &'d [CheckTree],
     at: &Context<'_, 'd>,
     done: &mut Progress,
@@ -106,18 +105,18 @@ fn bind_each_check<'d>(
 // ---- columns of constraints
 
 /// Whether each of the names is a column's. Error 207 of the first that is none.
-fn all_columns(alloc: Global, columns: &[ColumnTree], names: &[Units]) -> Result<(), BindFault>
+fn all_columns(alloc: Global, columns: &ColumnsByName<'_>, names: &[Units]) -> Result<(), BindFault>
     ensures { Gives result (spec.all_columns columns.now names.now) }
 {
     for name in names {
-        if place_in(columns, name).is_none() {
+        if !columns.has(name) {
             return refused(alloc, INVALID_COLUMN, name);
         }
     }
     Ok(())
 }
 
-fn all_keys(alloc: Global, columns: &[ColumnTree], keys: &[KeyTree]) -> Result<(), BindFault>
+fn all_keys(alloc: Global, columns: &ColumnsByName<'_>, keys: &[KeyTree]) -> Result<(), BindFault>
     ensures { Gives result (spec.all_keys columns.now keys.now) }
 {
     for key in keys {
@@ -128,14 +127,16 @@ fn all_keys(alloc: Global, columns: &[ColumnTree], keys: &[KeyTree]) -> Result<(
 
 fn all_foreigns(
     alloc: Global,
-    definitions: &[Definition],
+    definitions: &TablesByName<'_>,
     table: &TableTree,
+    columns: &ColumnsByName<'_>,
 ) -> Result<(), BindFault>
+    requires { columns.now ≡ table.now.columns }
     ensures { Gives result (spec.all_foreigns definitions.now table.now table.now.foreigns) }
 {
     let foreigns = table.foreigns.as_slice();
     for foreign in foreigns {
-        foreign_columns(alloc, definitions, table, foreign)?;
+        foreign_columns(alloc, definitions, table, columns, foreign)?;
     }
     Ok(())
 }
@@ -143,20 +144,26 @@ fn all_foreigns(
 /// The columns that refer, then those that are referred to.
 fn foreign_columns(
     alloc: Global,
-    definitions: &[Definition],
+    definitions: &TablesByName<'_>,
     table: &TableTree,
+    columns: &ColumnsByName<'_>,
     foreign: &ForeignTree,
 ) -> Result<(), BindFault>
+    requires { columns.now ≡ table.now.columns }
     ensures { Gives result (spec.foreign_columns definitions.now table.now foreign.now) }
 {
-    all_columns(alloc, table.columns.as_slice(), foreign.columns.as_slice())?;
-    let parent = parent_of(definitions, table, foreign);
-    all_columns(alloc, columns_in(parent), foreign.parent_columns.as_slice())
+    all_columns(alloc, columns, foreign.columns.as_slice())?;
+    if foreign.parent == table.name {
+        return all_columns(alloc, columns, foreign.parent_columns.as_slice());
+    }
+    let parent = columns_of(&foreign.parent, definitions);
+    let parent = ColumnsByName::new(alloc, parent)?;
+    all_columns(alloc, &parent, foreign.parent_columns.as_slice())
 }
 
 /// The table that is referred to, which may be the one that is made.
 fn parent_of<'a>(
-    definitions: &'a [Definition],
+    definitions: &TablesByName<'a>,
     table: &'a TableTree,
     foreign: &ForeignTree,
 ) -> Option<&'a TableTree>
@@ -165,7 +172,7 @@ fn parent_of<'a>(
     if foreign.parent == table.name {
         Some(table)
     } else {
-        table_of(&foreign.parent, definitions)
+        definitions.find(&foreign.parent)
     }
 }
 
@@ -380,28 +387,35 @@ fn are_odd_keys(table: &TableTree) -> bool
         || is_any_odd_key(table.uniques.as_slice())
 }
 
-fn is_odd_foreign(definitions: &[Definition], table: &TableTree, foreign: &ForeignTree) -> bool
+fn is_odd_foreign<'d>(
+    definitions: &TablesByName<'d>,
+    table: &'d TableTree,
+    foreign: &ForeignTree,
+) -> bool
     ensures { result ≡ spec.is_odd_foreign definitions.now table.now foreign.now }
 {
     !refers_to(parent_of(definitions, table, foreign), table, foreign)
         || is_repeated(foreign.columns.as_slice())
 }
 
-fn is_any_odd_foreign(definitions: &[Definition], table: &TableTree) -> bool
+fn is_any_odd_foreign<'d>(definitions: &TablesByName<'d>, table: &'d TableTree) -> bool
     ensures { result ≡ list_any (spec.is_odd_foreign definitions.now table.now) table.now.foreigns }
 {
     let foreigns = table.foreigns.as_slice();
-    foreigns
-        .iter()
-        .any(|foreign| is_odd_foreign(definitions, table, foreign))
+    for foreign in foreigns {
+        if is_odd_foreign(definitions, table, foreign) {
+            return true;
+        }
+    }
+    false
 }
 
 /// Whether a table is outside a limit by its columns and constraints, their names and types, or the
 /// keys that are referred to.
-fn is_odd_table(
+fn is_odd_table<'d>(
     alloc: Global,
-    definitions: &[Definition],
-    table: &TableTree,
+    definitions: &TablesByName<'d>,
+    table: &'d TableTree,
 ) -> Result<bool, BindFault>
     ensures { Gives result (Ok (spec.is_odd_table definitions.now table.now)) }
 {

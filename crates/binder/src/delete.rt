@@ -2,7 +2,7 @@
 
 ghost use Rattle.std.specs.Prelude.{◌≡◌, Ok};
 ghost use Rattle.typed_nodes.specs.Refusals.{Gives};
-ghost use Rattle.query_binder.specs.Answers.{GivesOn};
+ghost use Rattle.clause_binder.specs.Answers.{GivesOn};
 ghost use Rattle.binder.specs.Writes as spec;
 
 use crate::insert::whole_table;
@@ -10,7 +10,8 @@ use crate::limits::is_beyond;
 use crate::made::Made;
 use crate::places::columns_of;
 use bound_tree::{Bound, BoundTest, BoundWrite};
-use query_binder::{Binder, Context, Progress, TableSource, is_deep};
+use clause_binder::{Context, Progress, TableSource, is_deep};
+use query_binder::Binder;
 use sqlite_items::Boxed;
 use std::alloc::Global;
 use tsql_tree::Test;
@@ -19,16 +20,13 @@ use value_types::Units;
 
 /// A DELETE from a table.
 pub(crate) fn delete<'d>(
-    binder: &Binder<'d>,
+    binder: &Binder<'_, 'd>,
     table: &'d Units,
     filter: &'d Option<Boxed<Test>>,
 ) -> Result<Made, BindFault>
     ensures { Gives result (spec.delete binder.now.definitions.now binder.now.vars.now table.now filter.now) }
 {
-    let sources = [TableSource {
-        name: table,
-        columns: columns_of(table, binder.definitions),
-    }];
+    let sources = [TableSource::new(table, columns_of(table, binder.definitions))];
     let at = Context::plain(&sources);
     let mut done = Progress::begin_at(binder.alloc, 0);
     let filter = bind_where(binder, filter, &at, &mut done)?;
@@ -37,7 +35,7 @@ pub(crate) fn delete<'d>(
 
 /// WHERE, where it stands.
 pub(crate) fn bind_where<'d>(
-    binder: &Binder<'d>,
+    binder: &Binder<'_, 'd>,
     filter: &'d Option<Boxed<Test>>,
     at: &Context<'_, 'd>,
     done: &mut Progress,
@@ -52,7 +50,7 @@ pub(crate) fn bind_where<'d>(
 
 /// A whole test.
 pub(crate) fn bind_whole_test<'d>(
-    binder: &Binder<'d>,
+    binder: &Binder<'_, 'd>,
     test: &'d Test,
     at: &Context<'_, 'd>,
     done: &mut Progress,

@@ -3,7 +3,7 @@
 ghost use Rattle.std.specs.Prelude.{◌≡◌, [], length, nat_eq, Ok};
 ghost use Rattle.std.specs.List.{list_all};
 ghost use Rattle.typed_nodes.specs.Refusals.{Gives};
-ghost use Rattle.query_binder.specs.Answers.{GivesOn};
+ghost use Rattle.clause_binder.specs.Answers.{GivesOn};
 ghost use Rattle.binder.specs.Writes as spec;
 
 use crate::fault::{WRONG_COUNT, refused_unnamed};
@@ -11,7 +11,8 @@ use crate::limits::is_beyond;
 use crate::made::Made;
 use crate::places::{all_places, columns_of, is_repeated, places_of};
 use bound_tree::{Bound, BoundExpr, BoundRows, BoundWrite};
-use query_binder::{Binder, Context, Progress, Selected, is_deep};
+use clause_binder::{Context, Progress, Selected, is_deep};
+use query_binder::Binder;
 use sqlite_items::Items;
 use std::alloc::Global;
 use tsql_tree::{ColumnTree, Expr, InsertRows};
@@ -24,7 +25,7 @@ const MAX_COLUMNS: usize = 64;
 /// An INSERT into a table. Error 207 where it has no column of a name, and 213 where a row has not
 /// as many values as there are columns.
 pub(crate) fn insert<'d>(
-    binder: &Binder<'d>,
+    binder: &Binder<'_, 'd>,
     table: &'d Units,
     names: &[Units],
     rows: &'d InsertRows,
@@ -75,7 +76,7 @@ pub(crate) fn whole_table(alloc: Global, table: &Units) -> Result<TableName, Bin
 
 /// The rows of VALUES.
 fn insert_values<'d>(
-    binder: &Binder<'d>,
+    binder: &Binder<'_, 'd>,
     table: &'d Units,
     places: Items<u16>,
     twice: bool,
@@ -124,7 +125,7 @@ fn are_as_wide(values: &[Items<Expr>], width: usize) -> bool
 
 /// Rows one after another.
 fn bind_rows<'d>(
-    binder: &Binder<'d>,
+    binder: &Binder<'_, 'd>,
     values: &'d [Items<Expr>],
     at: &Context<'_, 'd>,
     done: &mut Progress,
@@ -140,7 +141,7 @@ fn bind_rows<'d>(
 
 /// The values of a row one after another.
 fn bind_row<'d>(
-    binder: &Binder<'d>,
+    binder: &Binder<'_, 'd>,
     values: &'d [Expr],
     at: &Context<'_, 'd>,
     done: &mut Progress,
@@ -156,7 +157,7 @@ fn bind_row<'d>(
 
 /// A whole expression.
 pub(crate) fn bind_value<'d>(
-    binder: &Binder<'d>,
+    binder: &Binder<'_, 'd>,
     expr: &'d Expr,
     at: &Context<'_, 'd>,
     done: &mut Progress,

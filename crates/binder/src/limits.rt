@@ -2,10 +2,10 @@
 
 ghost use Rattle.std.specs.Prelude.{◌≡◌};
 ghost use Rattle.typed_nodes.specs.Nodes.{is_kind};
-ghost use Rattle.query_binder.specs.Scope.{is_long};
+ghost use Rattle.clause_binder.specs.Scope.{is_long};
 ghost use Rattle.binder.specs.Limits as spec;
 
-use query_binder::Progress;
+use clause_binder::Progress;
 use value_types::{SqlType, Units};
 
 /// How many units a name has at most.

@@ -8,13 +8,11 @@ ghost use Rattle.table_names.specs.Contents.{all_of, distinct_onto, in_expr};
 ghost use Rattle.binder.specs.Names as spec;
 
 use crate::fault::{INVALID_OBJECT, refused};
-use query_binder::table_of;
+use clause_binder::TablesByName;
 use sqlite_items::{Boxed, Items};
 use std::alloc::Global;
 use table_names::TableNames;
-use tsql_tree::{
-    Assignment, Declaration, Definition, Expr, ForeignTree, Form, InsertRows, Statement, Test,
-};
+use tsql_tree::{Assignment, Declaration, Expr, ForeignTree, Form, InsertRows, Statement, Test};
 use typed_nodes::BindFault;
 use value_types::{Memory, Units};
 
@@ -27,7 +25,7 @@ pub fn names_of(alloc: Global, statement: &Statement) -> Result<Vec<Units>, Memo
     let mut names = TableNames::new(alloc);
     note_tables(form, &mut names)?;
     note_objects(form, &mut names)?;
-    names.into_names()
+    Ok(names.into_names())
 }
 
 /// The tables that a statement names, in the order of the text, each once.
@@ -36,19 +34,19 @@ pub(crate) fn tables_of(alloc: Global, form: &Form) -> Result<Vec<Units>, Memory
 {
     let mut names = TableNames::new(alloc);
     note_tables(form, &mut names)?;
-    names.into_names()
+    Ok(names.into_names())
 }
 
 /// Whether each of the names is a table's. Error 208 of the first that is none.
 pub(crate) fn all_tables(
     alloc: Global,
-    definitions: &[Definition],
+    definitions: &TablesByName<'_>,
     names: &[Units],
 ) -> Result<(), BindFault>
     ensures { Gives result (spec.all_tables definitions.now names.now) }
 {
     for name in names {
-        if table_of(name, definitions).is_none() {
+        if definitions.find(name).is_none() {
             return refused(alloc, INVALID_OBJECT, name);
         }
     }

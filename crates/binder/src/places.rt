@@ -4,14 +4,14 @@ ghost use Rattle.std.specs.Prelude.{◌≡◌, [], Ok, position};
 ghost use Rattle.std.specs.List.{list_any};
 ghost use Rattle.typed_nodes.specs.Refusals.{Gives};
 ghost use Rattle.value_types.specs.Units.{same_units};
-ghost use Rattle.query_binder.specs.Scope.{columns_of, place_in, table_of};
+ghost use Rattle.clause_binder.specs.Scope.{columns_of, place_in, table_of};
 ghost use Rattle.binder.specs.Writes as spec;
 
 use crate::fault::{INVALID_COLUMN, refused};
-use query_binder::table_of;
+use clause_binder::TablesByName;
 use sqlite_items::Items;
 use std::alloc::Global;
-use tsql_tree::{ColumnTree, Definition};
+use tsql_tree::ColumnTree;
 use typed_nodes::BindFault;
 use value_types::Units;
 
@@ -19,10 +19,10 @@ use value_types::Units;
 const MAX_PLACE: usize = 65_535;
 
 /// The columns of the first table of that name; what is not defined has none.
-pub(crate) fn columns_of<'a>(table: &Units, definitions: &'a [Definition]) -> &'a [ColumnTree]
+pub(crate) fn columns_of<'a>(table: &Units, definitions: &TablesByName<'a>) -> &'a [ColumnTree]
     ensures { result.now ≡ columns_of (table_of table.now definitions.now) }
 {
-    match table_of(table, definitions) {
+    match definitions.find(table) {
         Some(table) => table.columns.as_slice(),
         None => &[],
     }

@@ -16,7 +16,8 @@ use crate::outside::names_outside;
 use crate::update::update;
 use crate::values::{initials_query, test_query, three_values_query, value_query};
 use bound_tree::{Bound, BoundTest};
-use query_binder::{Binder, Progress, Selected};
+use clause_binder::{Progress, Selected, TablesByName};
+use query_binder::Binder;
 use session_vars::Vars;
 use std::alloc::Global;
 use tsql_tree::{Definition, Form, Statement, TableTree};
@@ -35,10 +36,11 @@ pub fn bind(
 {
     let form = &statement.form;
     let names = tables_of(alloc, form)?;
-    all_tables(alloc, definitions, names.as_slice())?;
+    let tables = TablesByName::new(alloc, definitions)?;
+    all_tables(alloc, &tables, names.as_slice())?;
     let binder = Binder {
         alloc,
-        definitions,
+        definitions: &tables,
         vars,
     };
     let made = made_by(&binder, form)?;
@@ -81,7 +83,7 @@ fn select_made(select: Selected) -> Made
 }
 
 /// What is made of a statement whose tables are there.
-fn made_by<'d>(binder: &Binder<'d>, form: &'d Form) -> Result<Made, BindFault>
+fn made_by<'d>(binder: &Binder<'_, 'd>, form: &'d Form) -> Result<Made, BindFault>
     ensures { Gives result (spec.made_by binder.now.definitions.now binder.now.vars.now (out-Form form.now)) }
 {
     match form {

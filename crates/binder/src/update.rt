@@ -2,9 +2,9 @@
 
 ghost use Rattle.std.specs.Prelude.{◌≡◌, ◌∷◌, [], map, Ok, OnOk};
 ghost use Rattle.typed_nodes.specs.Refusals.{Gives};
-ghost use Rattle.query_binder.specs.Answers.{GivesOn};
-ghost use Rattle.query_binder.specs.Clauses.{set_aside};
-ghost use Rattle.query_binder.specs.Scope.{behind};
+ghost use Rattle.clause_binder.specs.Answers.{GivesOn};
+ghost use Rattle.clause_binder.specs.Clauses.{set_aside};
+ghost use Rattle.clause_binder.specs.Scope.{behind};
 ghost use Rattle.binder.specs.Writes as spec;
 
 use crate::delete::bind_where;
@@ -13,7 +13,8 @@ use crate::limits::is_beyond;
 use crate::made::Made;
 use crate::places::{column_place, columns_of, is_repeated};
 use bound_tree::{Bound, BoundSet, BoundTest, BoundWrite, InnerQuery};
-use query_binder::{Binder, Context, Progress, TableSource};
+use clause_binder::{Context, Progress, TableSource};
+use query_binder::Binder;
 use sqlite_items::{Boxed, Items};
 use std::alloc::Global;
 use std::mem;
@@ -26,7 +27,7 @@ const MAX_PLACE: usize = 65_535;
 
 /// An UPDATE of a table: WHERE, then what is set.
 pub(crate) fn update<'d>(
-    binder: &Binder<'d>,
+    binder: &Binder<'_, 'd>,
     table: &'d Units,
     sets: &'d [Assignment],
     filter: &'d Option<Boxed<Test>>,
@@ -34,10 +35,7 @@ pub(crate) fn update<'d>(
     ensures { Gives result (spec.update binder.now.definitions.now binder.now.vars.now table.now sets.now filter.now) }
 {
     let columns = columns_of(table, binder.definitions);
-    let sources = [TableSource {
-        name: table,
-        columns,
-    }];
+    let sources = [TableSource::new(table, columns)];
     let at = Context::plain(&sources);
     let mut done = Progress::begin_at(binder.alloc, inners_of(binder, sets));
     let filter = bind_where(binder, filter, &at, &mut done)?;
@@ -49,7 +47,7 @@ pub(crate) fn update<'d>(
 }
 
 /// How many inner queries stand in what is set.
-fn inners_of<'d>(binder: &Binder<'d>, sets: &'d [Assignment]) -> usize
+fn inners_of<'d>(binder: &Binder<'_, 'd>, sets: &'d [Assignment]) -> usize
     ensures { result ≡ spec.inners_onto binder.now.definitions.now binder.now.vars.now 0 sets.now }
 {
     let mut count = 0usize;
@@ -78,7 +76,7 @@ fn set_aside(alloc: Global, done: &mut Progress) -> Items<InnerQuery>
 
 /// What is set, one after another.
 fn bind_sets<'d>(
-    binder: &Binder<'d>,
+    binder: &Binder<'_, 'd>,
     columns: &[ColumnTree],
     sets: &'d [Assignment],
     at: &Context<'_, 'd>,
@@ -95,7 +93,7 @@ fn bind_sets<'d>(
 
 /// A column, then what it is set to.
 fn bind_set<'d>(
-    binder: &Binder<'d>,
+    binder: &Binder<'_, 'd>,
     columns: &[ColumnTree],
     set: &'d Assignment,
     at: &Context<'_, 'd>,

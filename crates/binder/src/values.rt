@@ -2,13 +2,14 @@
 
 ghost use Rattle.std.specs.Prelude.{◌≡◌, ◌∷◌, [], filter_map, Ok};
 ghost use Rattle.typed_nodes.specs.Refusals.{Gives};
-ghost use Rattle.query_binder.specs.Answers.{GivesOn};
+ghost use Rattle.clause_binder.specs.Answers.{GivesOn};
 ghost use Rattle.binder.specs.Values as spec;
 
 use crate::limits::is_beyond;
 use crate::made::Made;
 use bound_tree::{Bound, BoundQuery, InnerQuery, Item};
-use query_binder::{Binder, Context, Progress, is_deep};
+use clause_binder::{Context, Progress, is_deep};
+use query_binder::Binder;
 use sqlite_items::{Boxed, Items};
 use std::alloc::Global;
 use tsql_tree::{Declaration, Expr, Test};
@@ -74,7 +75,7 @@ fn with_value(
 }
 
 fn value_onto<'d>(
-    binder: &Binder<'d>,
+    binder: &Binder<'_, 'd>,
     before: Items<Item>,
     expr: &'d Expr,
     at: &Context<'_, 'd>,
@@ -87,7 +88,7 @@ fn value_onto<'d>(
 }
 
 /// One expression.
-pub(crate) fn value_query<'d>(binder: &Binder<'d>, expr: &'d Expr) -> Result<Made, BindFault>
+pub(crate) fn value_query<'d>(binder: &Binder<'_, 'd>, expr: &'d Expr) -> Result<Made, BindFault>
     ensures { Gives result (spec.values_query binder.now.definitions.now binder.now.vars.now (expr.now ∷ [])) }
 {
     let at = Context::plain(&[]);
@@ -99,7 +100,7 @@ pub(crate) fn value_query<'d>(binder: &Binder<'d>, expr: &'d Expr) -> Result<Mad
 /// Three expressions.
 #[tactic(auto, unfolding(crate::specs::Values::three_query))]
 pub(crate) fn three_values_query<'d>(
-    binder: &Binder<'d>,
+    binder: &Binder<'_, 'd>,
     first: &'d Boxed<Expr>,
     second: &'d Boxed<Expr>,
     third: &'d Boxed<Expr>,
@@ -122,7 +123,7 @@ pub(crate) fn three_values_query<'d>(
 
 /// The expressions of the variables that have one.
 pub(crate) fn initials_query<'d>(
-    binder: &Binder<'d>,
+    binder: &Binder<'_, 'd>,
     declarations: &'d [Declaration],
 ) -> Result<Made, BindFault>
     ensures { Gives result (spec.values_query binder.now.definitions.now binder.now.vars.now (filter_map (λ of. of.initial) declarations.now)) }
@@ -134,7 +135,7 @@ pub(crate) fn initials_query<'d>(
 }
 
 fn initials_onto<'d>(
-    binder: &Binder<'d>,
+    binder: &Binder<'_, 'd>,
     declarations: &'d [Declaration],
     at: &Context<'_, 'd>,
     done: &mut Progress,
@@ -151,7 +152,7 @@ fn initials_onto<'d>(
 }
 
 /// A test.
-pub(crate) fn test_query<'d>(binder: &Binder<'d>, test: &'d Test) -> Result<Made, BindFault>
+pub(crate) fn test_query<'d>(binder: &Binder<'_, 'd>, test: &'d Test) -> Result<Made, BindFault>
     ensures { Gives result (spec.test_query binder.now.definitions.now binder.now.vars.now test.now) }
 {
     let at = Context::plain(&[]);

@@ -1,9 +1,2 @@
-mod AggregateWords
-mod Columns
-mod Failing
-mod Sameness
-mod SelectFacts
-mod StandardFacts
 mod Steps
 mod TestNodes
-mod Variables

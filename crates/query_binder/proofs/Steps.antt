@@ -6,15 +6,15 @@ use Rattle.bound_tree.specs.declared.query.BoundOrder.{BoundOrder}
 use Rattle.bound_tree.specs.declared.query.OrderKey.{OrderKey}
 use Rattle.typed_nodes.specs.declared.fault.BindFault.{BindFault}
 use Rattle.typed_nodes.specs.Refusals.{Fails}
-use Rattle.query_binder.specs.declared.from.JoinedTables.{JoinedTables}
-use Rattle.query_binder.specs.declared.named.NamedItems.{NamedItems}
-use Rattle.query_binder.specs.declared.progress.Progress.{Progress}
-use Rattle.query_binder.specs.Progress.{Context}
+use Rattle.clause_binder.specs.declared.from.JoinedTables.{JoinedTables}
+use Rattle.clause_binder.specs.declared.named.NamedItems.{NamedItems}
+use Rattle.clause_binder.specs.declared.progress.Progress.{Progress}
+use Rattle.clause_binder.specs.Progress.{Context}
 use Rattle.tsql_tree.specs.declared.query.Expr.{the_lemmas}
 use Rattle.tsql_tree.specs.declared.query.OrderItem.{OrderItem}
-use Rattle.query_binder.proofs.Failing.{fails_after}
-use Rattle.query_binder.specs.Bind as bind
-use Rattle.query_binder.specs.Clauses.{ExprRead, ItemRead, JoinRead, OrderRead, item, items_onto, join_onto, joins_onto, key_of, order_onto}
+use Rattle.clause_binder.proofs.Failing.{fails_after}
+use Rattle.clause_binder.specs.Bind as bind
+use Rattle.clause_binder.specs.Clauses.{ExprRead, ItemRead, JoinRead, OrderRead, item, items_onto, join_onto, joins_onto, key_of, order_onto}
 
 -- the next part of a list
 next : {X Y : Type 0} (f : X → Y) (xs : List X) (i : ℕ) (d x : X) → i < length xs → x ≡ get_or xs i d

@@ -13,10 +13,10 @@ use Rattle.typed_nodes.specs.declared.test.Junction.TheVariants as by
 use Rattle.typed_nodes.specs.declared.test.TypedTest.{TypedTest}
 use Rattle.typed_nodes.specs.Refusals.{Gives, Outcome, after}
 use Rattle.typed_nodes.specs.Tests as tests
-use Rattle.query_binder.specs.declared.progress.Progress.{Progress}
-use Rattle.query_binder.specs.Progress.{Context, Read, and_then, bind_of, each_onto, pure, three, two}
-use Rattle.query_binder.specs.Answers.{GivesOn}
-use Rattle.query_binder.specs.Bind.{compare_op, expr_of, joined_by, test_of, tested}
+use Rattle.clause_binder.specs.declared.progress.Progress.{Progress}
+use Rattle.clause_binder.specs.Progress.{Context, Read, and_then, bind_of, each_onto, pure, three, two}
+use Rattle.clause_binder.specs.Answers.{GivesOn}
+use Rattle.clause_binder.specs.Bind.{compare_op, expr_of, joined_by, test_of, tested}
 
 pub compared : (definitions : List Definition) (vars : List Variable) (of : Test) (a b : Expr) (sign : CompareSign) (at : Context) (done behind : Progress) (x : TypedExpr)
     → of ≡ Compare a sign b → (expr_of definitions vars a).read.bind at done ≡ Ok (x, behind)

@@ -1,26 +1,24 @@
 //! Expressions.
 
 ghost use Rattle.std.specs.Prelude.{◌≡◌, map};
-ghost use Rattle.query_binder.specs.Answers.{GivesItemsOn, GivesOn, SettlesOn};
-ghost use Rattle.query_binder.specs.Progress as part;
-ghost use Rattle.query_binder.specs.Bind as spec;
+ghost use Rattle.clause_binder.specs.Answers.{GivesItemsOn, GivesOn, SettlesOn};
+ghost use Rattle.clause_binder.specs.Progress as part;
+ghost use Rattle.clause_binder.specs.Bind as spec;
 
 use crate::binder::Binder;
-use crate::operand::{
-    column, count_rows, left_out, misplaced, scalar_from, sum_of, system_expr, variable_in,
-};
-use crate::progress::{Context, Progress};
-use crate::settled::settled;
-use crate::shape::Shape;
-use crate::signs::{add_op, literal, multiply_op, signed_null, signed_number, signed_onto};
 use bound_tree::InfixOp;
+use clause_binder::{
+    Context, Progress, Shape, add_op, column, count_rows, left_out, literal, misplaced,
+    multiply_op, scalar_from, settled, signed_null, signed_number, signed_onto, sum_of,
+    system_expr, variable_in,
+};
 use tsql_tree::{Arm, Expr, Factor, Term};
 use typed_nodes::{
     BindFault, TypedArm, TypedExpr, case_expr, cast_expr, coalesce_expr, infix_expr, is_null_expr,
     length_expr, null_if_expr,
 };
 
-impl<'d> Binder<'d> {
+impl<'t, 'd> Binder<'t, 'd> {
     /// An expression.
     #[cycle(bind)]
     pub fn bind_expr(

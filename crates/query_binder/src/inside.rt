@@ -1,61 +1,14 @@
 //! What stands in a tree: how many inner queries stand in it directly, and whether an aggregate does.
 
 ghost use Rattle.std.specs.Prelude.{◌≡◌, map};
-ghost use Rattle.query_binder.specs.Bind as spec;
-ghost use Rattle.query_binder.specs.Progress as part;
+ghost use Rattle.clause_binder.specs.Bind as spec;
+ghost use Rattle.clause_binder.specs.Progress as part;
 
 use crate::binder::Binder;
-use crate::scope::behind;
+use clause_binder::Inside;
 use tsql_tree::{Arm, Expr, Factor, Term, Test};
 
-/// What stands in a part of a text, apart from what stands in its inner queries.
-#[derive(Clone, Copy, Debug, PartialEq, Eq)]
-pub struct Inside {
-    /// How many inner queries stand in it directly; those that no tree can name are counted as one.
-    pub inners: usize,
-    /// Whether an aggregate does.
-    pub summed: bool,
-}
-
-impl Inside {
-    pub(crate) fn nothing() -> Inside
-        ensures { result ≡ part.nothing }
-    {
-        Inside {
-            inners: 0,
-            summed: false,
-        }
-    }
-
-    fn an_inner_query() -> Inside
-        ensures { result ≡ part.an_inner_query }
-    {
-        Inside {
-            inners: 1,
-            summed: false,
-        }
-    }
-
-    fn an_aggregate() -> Inside
-        ensures { result ≡ part.an_aggregate }
-    {
-        Inside {
-            inners: 0,
-            summed: true,
-        }
-    }
-
-    pub(crate) fn and(self, other: Inside) -> Inside
-        ensures { result ≡ part.both self other }
-    {
-        Inside {
-            inners: behind(self.inners, other.inners),
-            summed: self.summed || other.summed,
-        }
-    }
-}
-
-impl Binder<'_> {
+impl Binder<'_, '_> {
     /// What stands in an expression.
     #[cycle(inside)]
     pub fn in_expr(&self, of: &Expr) -> Inside

@@ -1,27 +1,21 @@
 //! A select made of clauses that are bound.
 
-ghost use Rattle.std.specs.Prelude.{◌≡◌, Ok, map};
-ghost use Rattle.typed_nodes.specs.Refusals.{Gives};
-ghost use Rattle.query_binder.specs.Clauses as clause;
-ghost use Rattle.query_binder.specs.Bind as spec;
+ghost use Rattle.std.specs.Prelude.{◌≡◌, map};
+ghost use Rattle.clause_binder.specs.Clauses as clause;
+ghost use Rattle.clause_binder.specs.Bind as spec;
 
-use crate::back::BackClauses;
 use crate::binder::Binder;
-use crate::front::FrontClauses;
-use crate::inside::Inside;
-use crate::named::{MAX_COLUMNS, NamedItems};
-use crate::operand::{MAX_INNER, Selected};
-use crate::progress::Progress;
-use bound_tree::{BoundQuery, InnerQuery, Reference};
+use bound_tree::{BoundQuery, Reference};
+use clause_binder::{
+    BackClauses, FrontClauses, Inside, MAX_COLUMNS, MAX_INNER, NamedItems, Progress, Selected,
+};
 use sqlite_items::Items;
-use std::alloc::Global;
 use tsql_tree::{Item, OrderItem, Select};
-use typed_nodes::BindFault;
 
 /// How many aggregates a query has at most.
 const MAX_SUMS: usize = 10_000;
 
-impl Binder<'_> {
+impl Binder<'_, '_> {
     /// What stands in the items.
     pub(crate) fn in_items(&self, items: &[Item]) -> Inside
         ensures { result ≡ clause.in_items (map (spec.item_of self.now.definitions.now self.now.vars.now) items.now) }
@@ -123,77 +117,5 @@ fn top_of(top: Option<i64>) -> Option<u32>
     match top {
         None => None,
         Some(top) => u32::try_from(top).ok(),
-    }
-}
-
-impl Progress {
-    /// What is gathered for the items, whose inner queries have the first places, and the inner
-    /// queries that are set aside.
-    pub(crate) fn set_aside(self, alloc: Global) -> (Progress, Items<InnerQuery>)
-        ensures { result ≡ (clause.set_aside self, self.inner) }
-    {
-        let Progress {
-            inner,
-            sums,
-            count,
-            beyond,
-            ..
-        } = self;
-        let done = Progress {
-            first: 0,
-            inner: Items::new(alloc),
-            sums,
-            count,
-            beyond,
-        };
-        (done, inner)
-    }
-
-    /// What is gathered behind the items, where the list of the other clauses' inner queries goes on,
-    /// and the inner queries of the items.
-    pub(crate) fn taken_up(
-        self,
-        first: usize,
-        before: Items<InnerQuery>,
-    ) -> (Progress, Items<InnerQuery>)
-        ensures { result ≡ (clause.taken_up first before self, self.inner) }
-    {
-        let Progress {
-            inner,
-            sums,
-            count,
-            beyond,
-            ..
-        } = self;
-        let done = Progress {
-            first,
-            inner: before,
-            sums,
-            count,
-            beyond,
-        };
-        (done, inner)
-    }
-
-    /// What is gathered, with the inner queries of the items before the others.
-    pub(crate) fn behind_inner(self, of_items: Items<InnerQuery>) -> Result<Progress, BindFault>
-        ensures { Gives result (Ok (clause.behind_inner of_items self)) }
-    {
-        let Progress {
-            first,
-            inner: others,
-            sums,
-            count,
-            beyond,
-        } = self;
-        let mut inner = of_items;
-        inner.append(others)?;
-        Ok(Progress {
-            first,
-            inner,
-            sums,
-            count,
-            beyond,
-        })
     }
 }

@@ -2,29 +2,25 @@
 
 ghost use Rattle.std.specs.Prelude.{◌≡◌, Some, [], map};
 ghost use Rattle.typed_nodes.specs.Refusals.{Gives};
-ghost use Rattle.query_binder.specs.Answers.{GivesOn};
-ghost use Rattle.query_binder.specs.Progress as part;
-ghost use Rattle.query_binder.specs.Clauses as clause;
-ghost use Rattle.query_binder.specs.Bind as spec;
+ghost use Rattle.clause_binder.specs.Answers.{GivesOn};
+ghost use Rattle.clause_binder.specs.Progress as part;
+ghost use Rattle.clause_binder.specs.Clauses as clause;
+ghost use Rattle.clause_binder.specs.Bind as spec;
 
-use crate::back::BackClauses;
 use crate::binder::Binder;
-use crate::from::{JoinedTables, is_long_ref};
-use crate::front::FrontClauses;
-use crate::groups::{class_context, noted_test, whole_having};
-use crate::items::{assigned_onto, copied, is_long_alias, name_or, star_items, value_item};
-use crate::named::NamedItems;
-use crate::operand::Selected;
-use crate::order::{expr_key, item_key, named_place, number_of, numbered_key};
-use crate::progress::{Context, Progress, is_deep};
-use crate::scope::{TableSource, are_beyond};
 use bound_tree::{BoundExpr, BoundOrder, BoundTest, JoinKind, OrderKey};
+use clause_binder::{
+    BackClauses, Context, FrontClauses, JoinedTables, NamedItems, Progress, Selected, TableSource,
+    are_beyond, assigned_onto, class_context, copied, expr_key, is_deep, is_long_alias,
+    is_long_ref, item_key, name_or, named_place, noted_test, number_of, numbered_key, star_items,
+    value_item, whole_having,
+};
 use sqlite_items::Items;
 use tsql_tree::{Expr, FromClause, Item, Join, OrderItem, Select, Test};
 use typed_nodes::BindFault;
 use value_types::Units;
 
-impl<'d> Binder<'d> {
+impl<'t, 'd> Binder<'t, 'd> {
     /// A select.
     #[cycle(bind)]
     pub fn bind_select(&self, select: &'d Select) -> Result<Selected, BindFault>
@@ -165,7 +161,7 @@ impl<'d> Binder<'d> {
     ) -> Result<JoinedTables<'d>, BindFault>
         ensures { GivesOn result (clause.from_of self.now.definitions.now (Some (spec.from_of self.now.definitions.now self.now.vars.now from.now)) done.old) done.new }
     {
-        let tables = self.first_table(&from.first)?;
+        let tables = JoinedTables::first(self.alloc, &from.first, self.definitions)?;
         done.note_beyond(is_long_ref(&from.first));
         self.bind_joins(from.joins.as_slice(), tables, done)
     }
@@ -200,23 +196,51 @@ impl<'d> Binder<'d> {
         match join {
             Join::Comma(of) => {
                 let tables = before.with_source(of, self.definitions)?;
-                self.table_read(tables, of, JoinKind::Cross, None, done)
+                tables.with_read(
+                    self.alloc,
+                    of,
+                    self.definitions,
+                    JoinKind::Cross,
+                    None,
+                    done,
+                )
             }
             Join::Cross(of) => {
                 let tables = before.with_source(of, self.definitions)?;
-                self.table_read(tables, of, JoinKind::Cross, None, done)
+                tables.with_read(
+                    self.alloc,
+                    of,
+                    self.definitions,
+                    JoinKind::Cross,
+                    None,
+                    done,
+                )
             }
             Join::Inner(of, on) => {
                 let tables = before.with_source(of, self.definitions)?;
                 let on = self.bind_test(on, &Context::plain(tables.sources.as_slice()), done)?;
                 let on = noted_test(on, done);
-                self.table_read(tables, of, JoinKind::Inner, Some(on), done)
+                tables.with_read(
+                    self.alloc,
+                    of,
+                    self.definitions,
+                    JoinKind::Inner,
+                    Some(on),
+                    done,
+                )
             }
             Join::Left(of, on) => {
                 let tables = before.with_source(of, self.definitions)?;
                 let on = self.bind_test(on, &Context::plain(tables.sources.as_slice()), done)?;
                 let on = noted_test(on, done);
-                self.table_read(tables, of, JoinKind::Left, Some(on), done)
+                tables.with_read(
+                    self.alloc,
+                    of,
+                    self.definitions,
+                    JoinKind::Left,
+                    Some(on),
+                    done,
+                )
             }
         }
     }

@@ -1,26 +1,14 @@
 //! What an expression is, where a clause or a sign goes by that.
 
 ghost use Rattle.std.specs.Prelude.{◌≡◌, option_map};
-ghost use Rattle.query_binder.specs.Bind as spec;
+ghost use Rattle.clause_binder.specs.Bind as spec;
 
 use crate::binder::Binder;
+use clause_binder::Shape;
 use tsql_tree::Expr;
 use value_types::Units;
 
-/// What an expression is, where a clause or a sign goes by that.
-#[derive(Clone, Copy, Debug, PartialEq, Eq)]
-pub enum Shape {
-    /// A number without a sign.
-    Number(i64),
-    /// `NULL`
-    Null,
-    /// The name of a column, without a table's.
-    Name,
-    /// Anything else, what stands in parentheses too.
-    Node,
-}
-
-impl Binder<'_> {
+impl Binder<'_, '_> {
     /// What an expression is.
     pub fn shape(&self, of: &Expr) -> Shape
         ensures { result ≡ (spec.expr_of self.now.definitions.now self.now.vars.now of.now).shape }

@@ -2,23 +2,21 @@
 
 ghost use Rattle.std.specs.Prelude.{map};
 ghost use Rattle.typed_nodes.specs.Tests as tests;
-ghost use Rattle.query_binder.specs.Answers.{GivesOn};
-ghost use Rattle.query_binder.specs.Operands.{in_query};
-ghost use Rattle.query_binder.specs.Progress as part;
-ghost use Rattle.query_binder.specs.Bind as spec;
+ghost use Rattle.clause_binder.specs.Answers.{GivesOn};
+ghost use Rattle.clause_binder.specs.Operands.{in_query};
+ghost use Rattle.clause_binder.specs.Progress as part;
+ghost use Rattle.clause_binder.specs.Bind as spec;
 
 use crate::binder::Binder;
-use crate::operand::{exists_from, in_query_from, test_left_out};
-use crate::progress::{Context, Progress};
-use crate::signs::compare_op;
 use bound_tree::CompareOp;
+use clause_binder::{Context, Progress, compare_op, exists_from, in_query_from, test_left_out};
 use tsql_tree::{Expr, Select, Test};
 use typed_nodes::{
     BindFault, Junction, TypedExpr, TypedTest, all_joined, between_test, compare_test,
     in_list_test, is_null_test,
 };
 
-impl<'d> Binder<'d> {
+impl<'t, 'd> Binder<'t, 'd> {
     /// A test.
     #[cycle(bind)]
     pub fn bind_test(

@@ -25,23 +25,24 @@ use Rattle.typed_nodes.specs.declared.expr.TypedExpr.{TypedExpr}
 use Rattle.typed_nodes.specs.declared.test.TypedTest.{TypedTest}
 use Rattle.typed_nodes.specs.Facts.{max_depth}
 use Rattle.typed_nodes.specs.Refusals.{Outcome, after}
-use Rattle.query_binder.specs.declared.from.JoinedTables.{JoinedTables}
-use Rattle.query_binder.specs.declared.inside.Inside.{Inside}
-use Rattle.query_binder.specs.declared.named.NamedItems.{NamedItems}
-use Rattle.query_binder.specs.declared.progress.Progress.{Progress}
-use Rattle.query_binder.specs.declared.shape.Shape.{Shape}
-use Rattle.query_binder.specs.declared.shape.Shape.TheVariants as shape
-use Rattle.query_binder.specs.Same.{same_expr}
-use Rattle.query_binder.specs.Scope.{is_long, max_name, TableSource, behind, columns_in, columns_of, is_meant, key_places, max_columns, max_place, nameable, place_in, places_of, source_of, table_of}
-use Rattle.query_binder.specs.Progress.{Binding, Context, Read, all_onto, and_then, beyond_where, both, is_deep, nothing, plain}
-use Rattle.query_binder.specs.Operands.{cell, variable_of}
-use Rattle.query_binder.specs.Clauses.{ExprRead, ItemRead, JoinRead, OrderRead, alias_place, assigned, column_items, expr_key, filter_of, grouped_cell, grouped_or_refused, groups_onto, has_name, having_of, is_full, is_long_alias, is_long_ref, is_source, item, item_inside, item_key, item_of, item_place, items_onto, join_onto, key_at, key_by, key_of, looked_at, name_or, named_or, named_place, number_of, numbered_or, numbered_place, order_inside, order_onto, ordered_by, place_or, reference, source_items, star, star_items, star_of, table_items, table_read, value_item, valued, whole, whole_having, with_item, with_place, with_reference, with_source}
+use Rattle.clause_binder.specs.declared.from.JoinedTables.{JoinedTables}
+use Rattle.clause_binder.specs.declared.inside.Inside.{Inside}
+use Rattle.clause_binder.specs.declared.named.NamedItems.{NamedItems}
+use Rattle.clause_binder.specs.declared.progress.Progress.{Progress}
+use Rattle.clause_binder.specs.declared.shape.Shape.{Shape}
+use Rattle.clause_binder.specs.declared.shape.Shape.TheVariants as shape
+use Rattle.clause_binder.specs.Same.{same_expr}
+use Rattle.clause_binder.specs.Scope.{is_long, max_name, TableSource, behind, columns_in, columns_of, is_meant, key_places, max_columns, max_place, nameable, place_in, places_of, source_of, table_of, has_name}
+use Rattle.clause_binder.specs.Progress.{Binding, Context, Read, all_onto, and_then, beyond_where, both, is_deep, nothing, plain}
+use Rattle.clause_binder.specs.Operands.{cell, variable_of}
+use Rattle.clause_binder.specs.Clauses.{ExprRead, ItemRead, JoinRead, OrderRead, alias_place, assigned, column_items, expr_key, filter_of, grouped_cell, grouped_or_refused, groups_onto, having_of, is_full, is_long_alias, is_long_ref, is_source, item, item_inside, item_key, item_of, item_place, items_onto, join_onto, key_at, key_by, key_of, looked_at, name_or, named_or, named_place, number_of, numbered_or, numbered_place, order_inside, order_onto, ordered_by, place_or, reference, source_items, star, star_items, star_of, table_items, table_read, value_item, valued, whole, whole_having, with_item, with_place, with_reference, with_source}
 use Rattle.query_laws.specs.Formed.{are_formed_refs, is_formed_group, is_formed_item, is_formed_key, is_formed_order, is_formed_where, is_wide, row_kinds, types_over}
 use Rattle.query_laws.proofs.FoundKinds.{IsReal, real_or_int, HasKind, as_or_int, trans}
 use Rattle.query_laws.specs.Laws.{AllOf, IsFit}
 use Rattle.query_laws.proofs.Lists.{all_of_both, all_of_each}
 use Rattle.query_laws.specs.Columns.{kinds, tables_in, variable_kinds}
-use Rattle.query_laws.proofs.Reading.{AreSound, Binds, Bound, Grows, Reads, ReadsInner, cells, grows_not, grows_then, inner_grown, reads_before}
+use Rattle.query_laws.specs.Parts.{AreSound}
+use Rattle.query_laws.proofs.Reading.{Binds, Bound, Grows, Reads, ReadsInner, cells, grows_not, grows_then, inner_grown, reads_before}
 use Rattle.query_laws.proofs.BoundOperands.{FormedAt, FormedTestAt, cell_formed, at_middle}
 use Rattle.query_laws.proofs.BoundSums.{grows_noted, reads_noted}
 use Rattle.query_laws.proofs.BoundNodes.{GoodExpr, GoodTest, ShapeOk, settled_formed}

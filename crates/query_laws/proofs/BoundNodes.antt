@@ -14,19 +14,19 @@ use Rattle.typed_nodes.specs.declared.test.Junction.{Junction}
 use Rattle.typed_nodes.specs.Refusals.{Outcome, after}
 use Rattle.typed_nodes.specs.Nodes as node
 use Rattle.typed_nodes.specs.Tests as tests
-use Rattle.query_binder.specs.declared.inside.Inside.{Inside}
-use Rattle.query_binder.specs.declared.progress.Progress.{Progress}
-use Rattle.query_binder.specs.declared.shape.Shape.{Shape}
-use Rattle.query_binder.specs.declared.shape.Shape.TheVariants as shape
-use Rattle.query_binder.specs.Same.{same_expr}
-use Rattle.query_binder.specs.Progress.{Binding, Context, Read, all_onto, and_then, bind_of, both, each_onto, each_read, given, inside_of, is_deep, nothing, or_read, over, pure, three, two}
-use Rattle.query_binder.specs.Clauses.{ExprRead, settled}
-use Rattle.query_binder.specs.Bind.{TermRead, case_arm, case_read, chain, chain_onto, is_minus, joined_by, joined_to, negated, tested, null_read, read_of, settle, signed_by, signed_from, signed_node, signed_null, signed_onto, term_inside, unseen}
+use Rattle.clause_binder.specs.declared.inside.Inside.{Inside}
+use Rattle.clause_binder.specs.declared.progress.Progress.{Progress}
+use Rattle.clause_binder.specs.declared.shape.Shape.{Shape}
+use Rattle.clause_binder.specs.declared.shape.Shape.TheVariants as shape
+use Rattle.clause_binder.specs.Same.{same_expr}
+use Rattle.clause_binder.specs.Progress.{Binding, Context, Read, all_onto, and_then, bind_of, both, each_onto, each_read, given, inside_of, is_deep, nothing, or_read, over, pure, three, two}
+use Rattle.clause_binder.specs.Clauses.{ExprRead, settled}
+use Rattle.clause_binder.specs.Bind.{TermRead, case_arm, case_read, chain, chain_onto, is_minus, joined_by, joined_to, negated, tested, null_read, read_of, settle, signed_by, signed_from, signed_node, signed_null, signed_onto, term_inside, unseen}
 use Rattle.value_types.specs.declared.sql_type.SqlType.TheVariants.{Int, BigInt}
 use Rattle.convert_rules.specs.Types.{is_in_range}
 use Rattle.typed_nodes.specs.Facts.{alone}
-use Rattle.query_binder.specs.Operands.{left_out}
-use Rattle.query_binder.specs.Bind.{literal, signed_number}
+use Rattle.clause_binder.specs.Operands.{left_out}
+use Rattle.clause_binder.specs.Bind.{literal, signed_number}
 use Rattle.query_laws.specs.Laws.{AllOf}
 use Rattle.query_laws.proofs.Lists.{all_of_both, all_of_each}
 use Rattle.query_laws.proofs.FormedNodes.{coalesce_formed, in_list_formed, number_formed, outside_formed, FormedOutcome, IsFormed, IsFormedArm, IsFormedTest, all_joined_formed, case_formed, infix_formed, int_null_formed, negated_formed, negative_formed, null_formed}

@@ -17,13 +17,13 @@ use Rattle.typed_nodes.specs.declared.test.TypedTest.{TypedTest}
 use Rattle.typed_nodes.specs.Facts.{alone}
 use Rattle.typed_nodes.specs.Nodes.{leaf, null}
 use Rattle.typed_nodes.specs.Refusals.{Outcome, after}
-use Rattle.query_binder.specs.declared.scope.Found.{Found as Place}
-use Rattle.query_binder.specs.declared.scope.Matches.{Matches}
-use Rattle.query_binder.specs.declared.scope.Matches.TheVariants as matches
-use Rattle.query_binder.specs.declared.progress.Progress.{Progress}
-use Rattle.query_binder.specs.Progress.{Context, nothing}
-use Rattle.query_binder.specs.Scope.{TableSource, behind, column_of, columns_in, found_at as match_at, found_from, found_in, found_of as match_of, found_too, is_meant, max_place, the_one, width_of, width_onto}
-use Rattle.query_binder.specs.Operands.{cell, left_out, placed}
+use Rattle.clause_binder.specs.declared.scope.Found.{Found as Place}
+use Rattle.clause_binder.specs.declared.scope.Matches.{Matches}
+use Rattle.clause_binder.specs.declared.scope.Matches.TheVariants as matches
+use Rattle.clause_binder.specs.declared.progress.Progress.{Progress}
+use Rattle.clause_binder.specs.Progress.{Context, nothing}
+use Rattle.clause_binder.specs.Scope.{TableSource, behind, column_of, columns_in, found_at as match_at, found_from, found_in, found_of as match_of, found_too, is_meant, max_place, the_one, width_of, width_onto}
+use Rattle.clause_binder.specs.Operands.{cell, left_out, placed}
 use Rattle.tsql_tree.specs.declared.query.SystemWord.{SystemWord}
 use Rattle.tsql_tree.specs.declared.query.SystemWord.TheVariants as word
 use Rattle.bound_tree.specs.declared.query.BoundQuery.TheFolds.{fold-roll-InnerQuery}
@@ -35,17 +35,18 @@ use Rattle.bound_tree.specs.Setting.{system_place}
 use Rattle.typed_nodes.specs.Facts.{no_facts, outside}
 use Rattle.typed_nodes.specs.Nodes.{is_kind, side_kind}
 use Rattle.typed_nodes.specs.Tests.{in_query_test, test_node}
-use Rattle.query_binder.specs.declared.operand.Selected.{Selected}
-use Rattle.query_binder.specs.Progress.{an_inner_query}
-use Rattle.query_binder.specs.Scope.{is_long, max_columns, max_inner, max_variables}
-use Rattle.query_binder.specs.Operands.{column, column_in, exists, exists_from, in_query, in_query_from, in_query_with, inner_place, items_of, only_kind, scalar, scalar_from, scalar_with, system_expr, system_kind, system_value, test_left_out, test_placed, variable, variable_at, variable_from, variable_in, variable_of, variable_of_kind, with_inner}
+use Rattle.clause_binder.specs.declared.operand.Selected.{Selected}
+use Rattle.clause_binder.specs.Progress.{an_inner_query}
+use Rattle.clause_binder.specs.Scope.{is_long, max_columns, max_inner, max_variables}
+use Rattle.clause_binder.specs.Operands.{column, column_in, exists, exists_from, in_query, in_query_from, in_query_with, inner_place, items_of, only_kind, scalar, scalar_from, scalar_with, system_expr, system_kind, system_value, test_left_out, test_placed, variable, variable_at, variable_from, variable_in, variable_of, variable_of_kind, with_inner}
 use Rattle.query_laws.specs.Formed.{QueryFound, inner_found, inner_step, items_kinds, query_found, query_step}
 use Rattle.query_laws.proofs.FoundKinds.{as_side, same_self, trans}
 use Rattle.query_laws.specs.Laws.{AllOf, IsFit}
 use Rattle.query_laws.proofs.Lists.{all_of_both}
 use Rattle.query_laws.proofs.FormedNodes.{IsFormed, IsFormedTest, found_cell, found_scalar, found_system, found_variable, leaf_formed, outside_formed, test_exists, test_formed, test_in_query}
 use Rattle.query_laws.specs.Columns.{tables_in, kinds, variable_kinds}
-use Rattle.query_laws.proofs.Reading.{AreSound, IsSound, Binds, Bound, Grows, Lasts, Leads, Reads, ReadsInner, ReadsRow, binds_given, inner_kinds, cells, grows_not, reads_before, sum_kinds}
+use Rattle.query_laws.specs.Parts.{AreSound, IsSound, inner_kinds}
+use Rattle.query_laws.proofs.Reading.{Binds, Bound, Grows, Lasts, Leads, Reads, ReadsInner, ReadsRow, binds_given, cells, grows_not, reads_before, sum_kinds}
 
 -- ---- places in lists
 

@@ -17,16 +17,16 @@ use Rattle.bound_tree.specs.declared.query.JoinKind.TheVariants as joined
 use Rattle.bound_tree.specs.declared.query.Sum.{Sum}
 use Rattle.bound_tree.specs.Typed.{SettingTypes}
 use Rattle.typed_nodes.specs.Refusals.{Outcome, after}
-use Rattle.query_binder.specs.declared.back.BackClauses.{BackClauses}
-use Rattle.query_binder.specs.declared.from.JoinedTables.{JoinedTables}
-use Rattle.query_binder.specs.declared.front.FrontClauses.{FrontClauses}
-use Rattle.query_binder.specs.declared.inside.Inside.{Inside}
-use Rattle.query_binder.specs.declared.named.NamedItems.{NamedItems}
-use Rattle.query_binder.specs.declared.progress.Progress.{Progress}
-use Rattle.query_binder.specs.Scope.{is_long, is_odd_column, is_odd_source, max_name, max_sums, TableSource, are_beyond, has_twice, max_columns, max_inner, max_place, max_references}
-use Rattle.query_binder.specs.Progress.{Context, all_onto, begin_at, beyond_where, nothing, plain}
-use Rattle.query_binder.specs.Operands.{items_of, within_sum}
-use Rattle.query_binder.specs.Clauses.{FromRead, JoinRead, SelectRead, back_of, behind_inner, class_context, filter_of, first_table, from_of, front_of, groups_onto, has_limit, having_of, in_items, in_order, is_grouped, is_long_ref, is_many, items_onto, join_onto, joins_onto, no_items, no_tables, order_onto, query_from, select_of, select_over, set_aside, taken_up, top_of, with_source}
+use Rattle.clause_binder.specs.declared.back.BackClauses.{BackClauses}
+use Rattle.clause_binder.specs.declared.from.JoinedTables.{JoinedTables}
+use Rattle.clause_binder.specs.declared.front.FrontClauses.{FrontClauses}
+use Rattle.clause_binder.specs.declared.inside.Inside.{Inside}
+use Rattle.clause_binder.specs.declared.named.NamedItems.{NamedItems}
+use Rattle.clause_binder.specs.declared.progress.Progress.{Progress}
+use Rattle.clause_binder.specs.Scope.{is_long, is_odd_column, is_odd_source, max_name, max_sums, TableSource, are_beyond, has_twice, max_columns, max_inner, max_place, max_references}
+use Rattle.clause_binder.specs.Progress.{Context, all_onto, begin_at, beyond_where, nothing, plain}
+use Rattle.clause_binder.specs.Operands.{items_of, within_sum}
+use Rattle.clause_binder.specs.Clauses.{FromRead, JoinRead, SelectRead, back_of, behind_inner, class_context, filter_of, first_table, from_of, front_of, groups_onto, has_limit, having_of, in_items, in_order, is_grouped, is_long_ref, is_many, items_onto, join_onto, joins_onto, no_items, no_tables, order_onto, query_from, select_of, select_over, set_aside, taken_up, top_of, with_source}
 use Rattle.query_laws.specs.Formed.{QueryFound, are_formed_clauses, are_formed_refs, class_kinds, inner_found, inner_step, is_formed_group, is_formed_item, is_formed_order, is_formed_sum, is_formed_where, items_kinds, query_found, query_step, row_kinds, types_over}
 use Rattle.query_laws.proofs.FoundKinds.{trans}
 use Rattle.tsql_tree.specs.declared.definition.ColumnTree.{ColumnTree}
@@ -35,7 +35,8 @@ use Rattle.query_laws.specs.Laws.{AllOf, IsFit}
 use Rattle.query_laws.proofs.Lists.{all_of_both, all_of_each}
 use Rattle.query_laws.proofs.FormedNodes.{map_map}
 use Rattle.query_laws.specs.Columns.{tables_in, variable_kinds}
-use Rattle.query_laws.proofs.Reading.{AreSound, IsSound, Bound, Grows, IsFormedInner, IsFormedSum, Reads, ReadsInner, ReadsRow, cells, grows_not, inner_grown, inner_kinds, reads_back, sum_kinds}
+use Rattle.query_laws.specs.Parts.{AreSound, IsSound, inner_kinds}
+use Rattle.query_laws.proofs.Reading.{Bound, Grows, IsFormedInner, IsFormedSum, Reads, ReadsInner, ReadsRow, cells, grows_not, inner_grown, reads_back, sum_kinds}
 use Rattle.query_laws.proofs.BoundOperands.{GoodSelect, GoodSelected}
 use Rattle.query_laws.proofs.BoundNodes.{GoodExpr}
 use Rattle.query_laws.proofs.BoundClauses.{GoodItem, GoodJoin, JoinBound, join_inside, where_inside, GoodWhere, GroupsAt, ItemsAt, JoinedAt, OrdersAt, WhereAt, filter_binds, groups_from, having_binds, items_from, join_bound, orders_from, table_joined}

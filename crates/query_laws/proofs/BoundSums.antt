@@ -16,11 +16,11 @@ use Rattle.typed_nodes.specs.declared.expr.TypedExpr.{TypedExpr}
 use Rattle.typed_nodes.specs.Facts.{max_depth, or_int}
 use Rattle.typed_nodes.specs.Nodes.{is_kind}
 use Rattle.typed_nodes.specs.Refusals.{Outcome, after}
-use Rattle.query_binder.specs.declared.inside.Inside.{Inside}
-use Rattle.query_binder.specs.declared.progress.Progress.{Progress}
-use Rattle.query_binder.specs.Progress.{Binding, Context, beyond_where, is_deep, nothing}
-use Rattle.query_binder.specs.Scope.{behind, max_place, width_of}
-use Rattle.query_binder.specs.Operands.{aggregate, aggregate_from, aggregate_kind, extreme_kind, total_kind, count_rows, count_rows_from, placed, sum_kind, sum_of, sum_with, within_sum}
+use Rattle.clause_binder.specs.declared.inside.Inside.{Inside}
+use Rattle.clause_binder.specs.declared.progress.Progress.{Progress}
+use Rattle.clause_binder.specs.Progress.{Binding, Context, beyond_where, is_deep, nothing}
+use Rattle.clause_binder.specs.Scope.{behind, max_place, width_of}
+use Rattle.clause_binder.specs.Operands.{aggregate, aggregate_from, aggregate_kind, extreme_kind, total_kind, count_rows, count_rows_from, placed, sum_kind, sum_of, sum_with, within_sum}
 use Rattle.query_laws.specs.Formed.{sum_found}
 use Rattle.query_laws.proofs.FoundKinds.{IsReal, real_or_int, HasKind, as_self, trans}
 use Rattle.query_laws.proofs.Lists.{all_of_both, all_of_each}

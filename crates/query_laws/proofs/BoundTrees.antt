@@ -22,11 +22,11 @@ use Rattle.typed_nodes.specs.declared.test.TypedTest.{TypedTest}
 use Rattle.typed_nodes.specs.Refusals.{Outcome}
 use Rattle.typed_nodes.specs.Nodes as node
 use Rattle.typed_nodes.specs.Tests as tests
-use Rattle.query_binder.specs.declared.operand.Selected.{Selected}
-use Rattle.query_binder.specs.Progress.{Read, an_inner_query, and_then, both, just, over, pure, two}
-use Rattle.query_binder.specs.Operands.{aggregate, column, count_rows, in_query, scalar, system_expr, variable}
-use Rattle.query_binder.specs.Clauses.{ExprRead, FromRead, ItemRead, JoinRead, OrderRead}
-use Rattle.query_binder.specs.Bind.{TermRead, expr_of, item_of, join_of, test_of, arm_of, factor_of, from_of, order_of, query_of, term_of, expr_step, item_step, join_step, test_step, arm_step, factor_step, from_step, order_step, select_step, term_step, compare_op, inner, is_odd, literal, settle, summed}
+use Rattle.clause_binder.specs.declared.operand.Selected.{Selected}
+use Rattle.clause_binder.specs.Progress.{Read, an_inner_query, and_then, both, just, over, pure, two}
+use Rattle.clause_binder.specs.Operands.{aggregate, column, count_rows, in_query, scalar, system_expr, variable}
+use Rattle.clause_binder.specs.Clauses.{ExprRead, FromRead, ItemRead, JoinRead, OrderRead}
+use Rattle.clause_binder.specs.Bind.{TermRead, expr_of, item_of, join_of, test_of, arm_of, factor_of, from_of, order_of, query_of, term_of, expr_step, item_step, join_step, test_step, arm_step, factor_step, from_step, order_step, select_step, term_step, compare_op, inner, is_odd, literal, settle, summed}
 use Rattle.query_laws.specs.Laws.{AllOf}
 use Rattle.query_laws.proofs.FormedNodes.{between_formed, cast_formed, compare_formed, is_null_formed, is_null_test_formed, length_formed, negated_formed, null_formed, null_if_formed, text_formed}
 use Rattle.query_laws.proofs.Reading.{ReadsAs, binds_pure, binds_then}

@@ -10,7 +10,7 @@ use Rattle.bound_tree.specs.declared.query.BoundQuery.{BoundQuery}
 use Rattle.bound_tree.specs.declared.query.BoundQuery.TheFolds.{fold_out-BoundQuery}
 use Rattle.bound_tree.specs.Typed.{AreOf}
 use Rattle.scalar_eval.specs.Scopes.{values_of}
-use Rattle.query_binder.specs.Operands.{items_of}
+use Rattle.clause_binder.specs.Operands.{items_of}
 use Rattle.query_laws.specs.Formed as form
 use Rattle.query_laws.specs.Formed.{QueryFound, items_kinds, query_found}
 use Rattle.query_laws.specs.Columns.{tables_in, variable_kinds}

@@ -11,3 +11,7 @@ pub mod BoundSelects  -- a select is bound to a well-formed query, if its parts 
 pub mod BoundTrees  -- so it is for every tree
 pub mod AnswerTypes  -- what a well-formed query answers is of its items' types
 pub mod Laws  -- the laws
+pub mod KeptNames  -- what clauses are bound to reads tables of given names alone
+pub mod NamedTables  -- so it is for every tree
+pub mod FormedParts  -- expressions and tests by themselves
+pub mod KeptPlaces  -- items are assigned to variables that there are

@@ -4,30 +4,22 @@ use Rattle.std.proofs.lemmas.List.{append_assoc, append-nil, map-append, length-
 use Rattle.std.proofs.Common.{◌≡◌, ◌⊎◌, inl, inr, refl, sym, ap, subst, ℕ, suc, ◌+◌, ◌≤◌, ◌<◌, min, List, [], ◌++◌, map, length, true, false, Option, Some, None, Ok, Err, arith}
 use Rattle.value_types.specs.declared.sql_type.SqlType.{SqlType}
 use Rattle.session_vars.specs.declared.Variable.{Variable}
-use Rattle.tsql_tree.specs.declared.definition.ColumnTree.{ColumnTree}
 use Rattle.tsql_tree.specs.declared.definition.Definition.{Definition}
 use Rattle.bound_tree.specs.declared.query.InnerQuery.{InnerQuery}
 use Rattle.bound_tree.specs.declared.query.Sum.{Sum}
 use Rattle.bound_tree.specs.Typed.{SettingTypes, system_kinds}
-use Rattle.typed_nodes.specs.Nodes.{is_kind}
 use Rattle.typed_nodes.specs.Refusals.{Outcome, after}
-use Rattle.query_binder.specs.declared.inside.Inside.{Inside}
-use Rattle.query_binder.specs.declared.progress.Progress.{Progress}
-use Rattle.query_binder.specs.Progress.{Binding, Context, Read, and_then, both, given, nothing, pure}
-use Rattle.query_binder.specs.Operands.{within_sum}
-use Rattle.query_binder.specs.Scope.{TableSource, max_columns, max_name, columns_in, max_inner, max_place, width_of}
+use Rattle.clause_binder.specs.declared.inside.Inside.{Inside}
+use Rattle.clause_binder.specs.declared.progress.Progress.{Progress}
+use Rattle.clause_binder.specs.Progress.{Binding, Context, Read, and_then, both, given, nothing, pure}
+use Rattle.clause_binder.specs.Operands.{within_sum}
+use Rattle.clause_binder.specs.Scope.{TableSource, columns_in, max_inner, max_place, width_of}
 use Rattle.query_laws.specs.Formed.{inner_found, is_formed_sum}
 use Rattle.query_laws.specs.Columns.{kinds, tables_in, variable_kinds}
 use Rattle.query_laws.specs.Laws.{AllOf}
+use Rattle.query_laws.specs.Parts.{AreSound, inner_kinds}
 use Rattle.query_laws.proofs.Lists.{all_of_both, all_of_each}
 use Rattle.query_laws.proofs.FoundKinds.{trans}
-
--- no table has more columns than an answer may have, and each has a type that there is and a name that is not too long
-abbrev pub IsSound : ColumnTree → Type 0
-IsSound column = (is_kind column.kind ≡ true) × (length column.name ≤ max_name)
-
-abbrev pub AreSound : List TableSource → Type 0
-AreSound sources = AllOf (λ source. (length source.columns ≤ max_columns) × AllOf IsSound source.columns) sources
 
 -- the types of the cells of a row of tables
 abbrev pub cells : List TableSource → List SqlType
@@ -37,9 +29,6 @@ abbrev pub sum_kinds : List Sum → List SqlType
 sum_kinds sums = map (λ sum. sum.to) sums
 
 module _ (definitions : List Definition) (vars : List Variable) where
-  abbrev pub inner_kinds : List InnerQuery → List (List SqlType)
-  inner_kinds inner = map (λ q. (inner_found (tables_in definitions) (variable_kinds vars) q).1) inner
-
   abbrev pub IsFormedInner : InnerQuery → Type 0
   IsFormedInner q = (inner_found (tables_in definitions) (variable_kinds vars) q).0 ≡ true
 
@@ -50,7 +39,7 @@ module _ (definitions : List Definition) (vars : List Variable) where
 
   -- so many inner queries, and behind them those that were gathered
   abbrev pub ReadsInner : ℕ → List InnerQuery → List (List SqlType) → Type 0
-  ReadsInner first inner all = (before : List (List SqlType)) × (more : List (List SqlType)) × (length before ≡ first) × (all ≡ before ++ (inner_kinds inner ++ more))
+  ReadsInner first inner all = (before : List (List SqlType)) × (more : List (List SqlType)) × (length before ≡ first) × (all ≡ before ++ (inner_kinds definitions vars inner ++ more))
 
   -- what may be read at a place of a text, behind what was gathered, and whatever is gathered later
   pub record Reads (at : Context) (done : Progress) (types : SettingTypes) : Type 0 where
@@ -97,9 +86,9 @@ module _ (definitions : List Definition) (vars : List Variable) where
   pub inner_grown : (first : ℕ) (inner more : List InnerQuery) (all : List (List SqlType)) → ReadsInner first (inner ++ more) all → ReadsInner first inner all
   inner_grown first inner more all h = (
     h.0,
-    inner_kinds more ++ h.1,
+    inner_kinds definitions vars more ++ h.1,
     h.2,
-    trans h.3 (ap (λ x. h.0 ++ x) (trans (ap (λ x. x ++ h.1) (map-append (λ q. (inner_found (tables_in definitions) (variable_kinds vars) q).1) inner more)) (append_assoc (inner_kinds inner) (inner_kinds more) h.1))),
+    trans h.3 (ap (λ x. h.0 ++ x) (trans (ap (λ x. x ++ h.1) (map-append (λ q. (inner_found (tables_in definitions) (variable_kinds vars) q).1) inner more)) (append_assoc (inner_kinds definitions vars inner) (inner_kinds definitions vars more) h.1))),
   )
 
   row_grown : (from : Option ℕ) (sources : List TableSource) (sums more : List Sum) (row : List SqlType) → ReadsRow from sources (sums ++ more) row → ReadsRow from sources sums row

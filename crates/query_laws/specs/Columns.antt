@@ -5,7 +5,7 @@ use Rattle.value_types.specs.declared.table_name.TableName.{TableName}
 use Rattle.session_vars.specs.declared.Variable.{Variable}
 use Rattle.tsql_tree.specs.declared.definition.ColumnTree.{ColumnTree}
 use Rattle.tsql_tree.specs.declared.definition.Definition.{Definition}
-use Rattle.query_binder.specs.Scope.{columns_of, table_of}
+use Rattle.clause_binder.specs.Scope.{columns_of, table_of}
 
 abbrev pub kinds : List ColumnTree → List SqlType
 kinds columns = map (λ column. column.kind) columns

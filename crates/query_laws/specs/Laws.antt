@@ -12,14 +12,14 @@ use Rattle.tsql_tree.specs.declared.query.Select.{Select}
 use Rattle.bound_tree.specs.declared.query.BoundQuery.{BoundQuery}
 use Rattle.bound_tree.specs.declared.query.Item.{Item}
 use Rattle.typed_nodes.specs.Nodes.{is_kind}
-use Rattle.query_binder.specs.Scope.{max_columns, max_name}
-use Rattle.query_binder.specs.Operands.{items_of}
+use Rattle.clause_binder.specs.Scope.{max_columns, max_name}
+use Rattle.clause_binder.specs.Operands.{items_of}
 use Rattle.bound_tree.specs.declared.query.Reference.{Reference}
 use Rattle.bound_tree.specs.Typed.{AreOf, system_kinds}
 use Rattle.join_rows.specs.Joined.{Row}
 use Rattle.scalar_eval.specs.Scopes.{values_of}
-use Rattle.query_binder.specs.declared.operand.Selected.{Selected}
-use Rattle.query_binder.specs.Bind.{query_of}
+use Rattle.clause_binder.specs.declared.operand.Selected.{Selected}
+use Rattle.clause_binder.specs.Bind.{query_of}
 use Rattle.query_eval.specs.Joining.{image_of, images_behind}
 use Rattle.query_eval.specs.Ans.{Ans, references_of}
 use Rattle.query_laws.specs.Formed.{is_formed_query, items_kinds}

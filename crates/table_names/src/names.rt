@@ -1,28 +1,33 @@
 //! The tables that a tree names.
 
-ghost use Rattle.std.specs.Prelude.{◌≡◌, [], ◌∷◌, map, option_map, IfOk, OnOk};
+ghost use Rattle.std.specs.Prelude.{◌≡◌, [], ◌∷◌, map, option_map, OnOk};
 ghost use Rattle.table_names.specs.Contents as spec;
 
-use indexmap::IndexSet;
 use sqlite_items::Boxed;
 use std::alloc::Global;
+use std::collections::BTreeSet;
 use std::marker::Model;
 use tsql_tree::{Arm, Expr, FromClause, Item, Join, Select, Test};
 use value_types::{Memory, Units};
 
-/// Names of tables, each once, in the order in which they were noted first.
+/// Names of tables, each once, in the order in which they were noted first. After an `Err` those of a
+/// part of what was to be noted may be among them.
 #[derive(Drop)]
 pub struct TableNames {
     alloc: Global,
-    names: IndexSet<Vec<u16>>,
+    names: Vec<Units>,
+    seen: BTreeSet<Units>,
 }
 
 impl Model for TableNames {
-    ghost use Rattle.std.specs.Prelude.{ℕ, List, map};
+    ghost use Rattle.std.specs.Prelude.{ℕ, List};
+    ghost use Rattle.table_names.specs.Seen.{AreSeen};
 
     ghost Value = { List (List ℕ) };
 
-    ghost view = { λ of. map (λ key. key.items) of.names.keys };
+    ghost view = { λ of. of.names.items };
+
+    ghost invariant = { λ of. AreSeen of.seen of.names.items };
 }
 
 impl TableNames {
@@ -32,24 +37,30 @@ impl TableNames {
     {
         TableNames {
             alloc,
-            names: IndexSet::new(alloc),
+            names: Vec::new(alloc),
+            seen: BTreeSet::new(alloc),
         }
     }
 
     /// The names.
-    pub fn into_names(self) -> Result<Vec<Units>, Memory>
-        ensures { IfOk result (λ names. names.items ≡ self) }
+    pub fn into_names(self) -> Vec<Units>
+        ensures { result.items ≡ self }
     {
-        let names = self.names.into_iter().map(|key| Units::from(key));
-        Ok(names.collect(self.alloc)?)
+        self.names
     }
 
     /// Notes a name.
     pub fn note(&mut self, name: &Units) -> Result<(), Memory>
         ensures { OnOk result (self.new ≡ spec.distinct_onto self.old (name.now ∷ [])) }
     {
-        let key = Vec::from_slice(self.alloc, name.as_slice())?;
-        self.names.insert(key)?;
+        if self.seen.contains(name) {
+            return Ok(());
+        }
+        let copy = name.copy(self.alloc)?;
+        let key = name.copy(self.alloc)?;
+        self.names.reserve(1)?;
+        self.seen.insert(key)?;
+        self.names.push(copy)?;
         Ok(())
     }
 

@@ -1,16 +1,16 @@
 use Rattle.std.proofs.Common.{◌∙◌, List, rules, subst, sym}
 use Rattle.bound_tree.specs.declared.query.BoundOrder.{BoundOrder}
 use Rattle.typed_nodes.specs.Refusals.{Outcome, Fails}
-use Rattle.query_binder.specs.declared.progress.Progress.{Progress}
-use Rattle.query_binder.specs.Answers.{GivesOn}
-use Rattle.query_binder.specs.Bind as spec
-use Rattle.query_binder.specs.Progress as part
+use Rattle.clause_binder.specs.declared.progress.Progress.{Progress}
+use Rattle.clause_binder.specs.Answers.{GivesOn}
+use Rattle.clause_binder.specs.Bind as spec
+use Rattle.clause_binder.specs.Progress as part
 use Rattle.bound_tree.specs.declared.expr.CompareOp.{CompareOp}
 use Rattle.tsql_tree.specs.declared.query.Test.{And, Between, Compare, Or}
 use Rattle.typed_nodes.specs.declared.test.TypedTest.{TypedTest}
 use Rattle.typed_nodes.specs.Tests as tests
 use Rattle.query_binder.proofs.TestNodes.{all_bound, between, compared, given_on, joined_and, joined_or}
-use Rattle.query_binder.proofs.Steps.{failed_key, next_item, next_key, order_is}
+use Rattle.query_binder.proofs.Steps.{failed_key, next_item, next_join, next_key, order_is}
 use Rattle.query_binder.proofs.binder.Binder.+bind.Goals as goal
 
 pub bind_test-returns-in_ok-a-in-Compare : goal.bind_test-returns-in_ok-a-in-Compare
@@ -70,3 +70,10 @@ bind_order-returns-in_err-key t c =
     c.by-item.result c.by-item.result _ _ c.loop-by.bound c.in_err-key.field-0.0 c.args.at.now c.loop-by.done
     c.loop-by-test.true c.by-item.is (order_is c.args.self.now.definitions.now c.args.self.now.vars.now c.by-item.result) c.in_err-key.ensures) in
     search (rules, failed)
+
+pub bind_joins-loop-join-preserved : goal.bind_joins-loop-join-preserved
+bind_joins-loop-join-preserved t c =
+    next_join c.args.self.now.definitions.now (spec.join_of c.args.self.now.definitions.now c.args.self.now.vars.now) c.args.joins.now c.loop-join.join-index
+    c.join-item.result c.join-item.result c.loop-join.tables c.in_ok-tables.tables c.loop-join.done c.bind_join.new.done
+    c.loop-join-test.true c.join-item.is c.in_ok-tables.ensures
+    ∙ c.loop-join.invariant

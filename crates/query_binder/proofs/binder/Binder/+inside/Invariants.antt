@@ -1,6 +1,6 @@
 use Rattle.std.proofs.Common.{◌≡◌, map, drop}
-use Rattle.query_binder.specs.Bind as spec
-use Rattle.query_binder.specs.Progress as part
+use Rattle.clause_binder.specs.Bind as spec
+use Rattle.clause_binder.specs.Progress as part
 use Rattle.query_binder.proofs.binder.Binder.+inside.Given as goal
 
 abbrev pub invariant-in_exprs-loop-item : goal.invariant-in_exprs-loop-item

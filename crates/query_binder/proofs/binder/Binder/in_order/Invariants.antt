@@ -1,7 +1,7 @@
 use Rattle.std.proofs.Common.{◌≡◌, map, drop}
-use Rattle.query_binder.specs.Bind as spec
-use Rattle.query_binder.specs.Clauses as clause
-use Rattle.query_binder.specs.Progress as part
+use Rattle.clause_binder.specs.Bind as spec
+use Rattle.clause_binder.specs.Clauses as clause
+use Rattle.clause_binder.specs.Progress as part
 use Rattle.query_binder.proofs.binder.Binder.in_order.Given as goal
 
 abbrev pub invariant-loop-by : goal.invariant-loop-by

@@ -1,6 +1,0 @@
-use Rattle.std.proofs.Common.{◌≡◌, drop}
-use Rattle.query_binder.specs.Scope as spec
-use Rattle.query_binder.proofs.scope.table_of.Given as goal
-
-abbrev pub invariant-loop-of : goal.invariant-loop-of
-invariant-loop-of l = spec.table_of l.name (drop l.of-index l.definitions) ≡ spec.table_of l.name l.definitions

@@ -1,6 +1,0 @@
-use Rattle.std.proofs.Common.{◌≡◌, drop}
-use Rattle.query_binder.specs.Bind as spec
-use Rattle.query_binder.proofs.signs.signed_onto.Given as goal
-
-abbrev pub invariant-loop-sign : goal.invariant-loop-sign
-invariant-loop-sign l = spec.signed_onto l.groups l.a (drop l.sign-index l.signs) ≡ spec.signed_onto l.groups l.initial.a l.signs
