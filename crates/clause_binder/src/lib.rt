@@ -53,4 +53,4 @@ pub use shape::Shape;
 pub use signs::{
     add_op, compare_op, literal, multiply_op, signed_null, signed_number, signed_onto,
 };
-pub use tables::TablesByName;
+pub use tables::{TablesByName, table_of};

@@ -69,6 +69,20 @@ impl<'a> TablesByName<'a> {
     }
 }
 
+/// The first table of that name, found by a walk: of many names ask [`TablesByName`].
+pub fn table_of<'a>(name: &Units, definitions: &'a [Definition]) -> Option<&'a TableTree>
+    ensures { option_map (λ table. table.now) result ≡ spec.table_of name.now definitions.now }
+{
+    for of in definitions {
+        if let Definition::Table(table) = of {
+            if *name == table.name {
+                return Some(table);
+            }
+        }
+    }
+    None
+}
+
 /// Adds a table, unless there is one of its name.
 fn add_first<'a>(
     first: &mut BTreeMap<&'a [u16], &'a TableTree>,
