@@ -11,7 +11,7 @@ use Rattle.value_types.specs.Order.{key_cmp}
 use Rattle.convert_rules.specs.Types.{IsOf}
 use Rattle.tsql_tree.specs.declared.definition.ColumnTree.{ColumnTree}
 use Rattle.tsql_tree.specs.declared.definition.TableTree.{TableTree}
-use Rattle.query_binder.specs.Scope.{columns_of}
+use Rattle.clause_binder.specs.Scope.{columns_of}
 use Rattle.query_laws.specs.Columns.{kinds}
 use Rattle.query_laws.specs.Laws.{AreExactly, RowsOf}
 use Rattle.catalog_rows.specs.Rows.{has_columns, is_value_of, key_of}

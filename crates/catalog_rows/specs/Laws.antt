@@ -7,7 +7,7 @@ use Rattle.value_types.specs.declared.value.Value.{Value}
 use Rattle.convert_rules.specs.Types.{IsOf}
 use Rattle.tsql_tree.specs.declared.definition.TableTree.{TableTree}
 use Rattle.tsql_tree.specs.declared.definition.Definition.{Definition}
-use Rattle.query_binder.specs.Scope.{table_of}
+use Rattle.clause_binder.specs.Scope.{table_of}
 use Rattle.query_laws.specs.Columns.{kinds, tables_in}
 use Rattle.query_laws.specs.Laws.{AreExactly, RowsOf}
 use Rattle.catalog_rows.specs.Rows.{has_columns, is_value_of, row_fits}

@@ -13,7 +13,7 @@ use Rattle.convert_rules.specs.Types.{is_in_range}
 use Rattle.tsql_tree.specs.declared.definition.ColumnTree.{ColumnTree}
 use Rattle.tsql_tree.specs.declared.definition.TableTree.{TableTree}
 use Rattle.bound_tree.specs.Setting.{value_at}
-use Rattle.query_binder.specs.Scope.{key_places}
+use Rattle.clause_binder.specs.Scope.{key_places}
 
 -- NULL, or a value of the type: `IsOf` of `convert_rules` as a test
 abbrev pub is_value_of : SqlType → Value → Bool

@@ -12,7 +12,7 @@ use Rattle.tsql_tree.specs.declared.definition.ForeignTree.{ForeignTree}
 use Rattle.tsql_tree.specs.declared.definition.KeyTree.{KeyTree}
 use Rattle.tsql_tree.specs.declared.definition.TableTree.{TableTree}
 use Rattle.bound_tree.specs.Meaning.{is_null}
-use Rattle.query_binder.specs.Scope.{key_places, place_in}
+use Rattle.clause_binder.specs.Scope.{key_places, place_in}
 use Rattle.step_model.specs.declared.change.Deed.{Deed}
 use Rattle.step_model.specs.declared.change.Deed.TheVariants.{Erase, Replace, Insert}
 use Rattle.step_model.specs.declared.change.Planned.{Planned}

@@ -5,7 +5,7 @@ ghost use Rattle.std.specs.List.{flat_map, list_any};
 ghost use Rattle.bound_tree.specs.Meaning.{is_null};
 ghost use Rattle.bound_tree.specs.Setting.{value_at};
 ghost use Rattle.step_model.specs.Own.{row_of};
-ghost use Rattle.query_binder.specs.Scope.{key_places, place_in};
+ghost use Rattle.clause_binder.specs.Scope.{key_places, place_in};
 ghost use Rattle.catalog_rows.specs.Rows.{values_at};
 ghost use Rattle.constraint_check.specs.Reads as spec;
 
