@@ -26,7 +26,7 @@ use Rattle.step_model.specs.declared.range.Stop.TheVariants.{Within}
 use Rattle.step_model.specs.Database.{Database, In, With, is_at, is_within}
 use Rattle.step_model.proofs.Databases.{With-append}
 use Rattle.step_model.specs.Own.{change_of, is_insert, row_of}
-use Rattle.query_binder.specs.Scope.{key_places}
+use Rattle.clause_binder.specs.Scope.{key_places}
 use Rattle.catalog_rows.specs.Rows.{has_columns, key_of, row_fits, values_at}
 use Rattle.constraint_check.specs.declared.check_read.CheckRead.{CheckRead}
 use Rattle.constraint_check.specs.Local.{broken_among, check_fault, first_given, null_fault, null_in, row_setting}
