@@ -217,10 +217,11 @@ module _ (definitions : List Definition) (vars : List Variable) where
       of_value v r (Ok s) is k m = λ n.
           let both : (done.beyond ≡ false) × (is_deep v.facts ≡ false) = or_parts done.beyond (is_deep v.facts) (k (m.0 n)) in
           let counted : length (before.places ++ clause.place_or v.expr ∷ []) ≡ length before.places + 1 = length-append before.places (clause.place_or v.expr ∷ []) in
-          let placed : length s.0.places ≡ length (before.places ++ clause.place_or v.expr ∷ []) = ap length m.1 in
-          (both.0,
-          λ below. subst (λ places. AllOf (λ place. place < length vars) places) (sym m.1) (all_of_both (λ place. place < length vars) before.places (clause.place_or v.expr ∷ []) below (variable_below name v is both.1, tt)),
-          λ e same. omega (arith, counted, placed, m.2, same))
+          let placed : length s.0.places ≡ length (before.places ++ clause.place_or v.expr ∷ []) = ap length m.1 in (
+            both.0,
+            λ below. subst (λ places. AllOf (λ place. place < length vars) places) (sym m.1) (all_of_both (λ place. place < length vars) before.places (clause.place_or v.expr ∷ []) below (variable_below name v is both.1, tt)),
+            λ e same. omega (arith, counted, placed, m.2, same),
+          )
       of_value v r (Err refusal) is k m = tt
 
       of_expr : (v : TypedExpr) → operand.variable_of vars name ≡ Ok v → (o : Outcome (TypedExpr × Progress)) → Calm (beyond_where (is_deep v.facts) done) o
@@ -311,7 +312,7 @@ module _ (definitions : List Definition) (vars : List Variable) where
 
       of_items : (at : Context) (done : Progress) (refs : List Reference) (front : FrontClauses) (o : Outcome (NamedItems × Progress)) → Fits (all_assign x) clause.no_items (clause.set_aside done) o
           → Found (all_assign x) (after (after o (λ items. after (clause.order_onto select.distinct items.0 [] select.order at (clause.taken_up done.first done.inner items.1)) (λ order.
-            Ok (record { items = items.0; order = order.0; done = clause.behind_inner items.1.inner order.1 })))) (query refs front))
+          Ok (record { items = items.0; order = order.0; done = clause.behind_inner items.1.inner order.1 })))) (query refs front))
       of_items at done refs front (Ok items) k = of_order at done refs front items (clause.order_onto select.distinct items.0 [] select.order at (clause.taken_up done.first done.inner items.1)) k
           (order_calm select.distinct items.0 (out-Select x).order [] at (clause.taken_up done.first done.inner items.1))
       of_items at done refs front (Err refusal) k = tt
