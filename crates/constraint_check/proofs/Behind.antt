@@ -134,7 +134,7 @@ module _ (name : List ℕ) where
 
 -- ---- keys stay one
 
-one_with : (db : Database) → KeysAreOne db → (change : Change) → KeysAreOne (with_change db change)
+pub one_with : (db : Database) → KeysAreOne db → (change : Change) → KeysAreOne (with_change db change)
 one_with db one change table key other is =
     let at : same change.key key ≡ same change.key other = key_laws.symm change.key key ∙ key_laws.congr key other change.key is ∙ key_laws.symm other change.key in
     λ i. if is_eq (table_cmp change.table table) && at i then change.row else one table key other is i
