@@ -1,8 +1,9 @@
 -- What a row of `objects` defines.
-use Rattle.std.proofs.Common.{◌≡◌, ◌≤◌, ◌<◌, ℤ, arith, refl, sym, ◌∙◌, ap, subst, ℕ, Bool, true, false, List, [], ◌∷◌, length, Option, Some, None, Result, Ok, Err, if◌then◌else◌}
+use Rattle.std.proofs.Common.{◌≡◌, ◌≤◌, ◌<◌, ℤ, arith, refl, sym, ◌∙◌, ap, subst, ℕ, Bool, true, false, List, [], ◌∷◌, length, Option, Some, None, Result, Ok, Err, IfOk, if◌then◌else◌}
 use Rattle.std.proofs.lemmas.Bool.{false≢true}
 use Rattle.std.specs.Cmp.Lexicographic.{bytes_decides}
 use Rattle.value_types.specs.Units.{same_units}
+use Rattle.value_types.specs.declared.memory.Memory.{Memory}
 use Rattle.value_types.specs.declared.value.Value.{Value}
 use Rattle.value_types.specs.declared.value.Value.TheVariants.{Null, Whole, Bit, Text}
 use Rattle.tsql_tree.specs.declared.definition.Definition.{Definition}
@@ -10,7 +11,7 @@ use Rattle.query_parser.specs.declared.fault.ParseFault.{ParseFault}
 use Rattle.query_parser.specs.declared.fault.ParseFault.TheVariants as fault
 use Rattle.stmt_parser.specs.Parsed.{DefinitionOf}
 use Rattle.stmt_parser.proofs.OneOutcome.{one_definition as one_outcome}
-use Rattle.catalog_rows.specs.Definitions.{Defines, IsDefinitionOf, defined_name, longest_text, only_named, row_of, text_in}
+use Rattle.catalog_rows.specs.Definitions.{Defines, IsDefinitionAt, IsDefinitionOf, IsOfName, defined_name, longest_text, name_in, only_named, row_of, text_in}
 use Rattle.catalog_rows.specs.Laws.{OneDefinition, WrittenRead}
 
 pub written_read : WrittenRead
@@ -138,3 +139,15 @@ one_definition name row (Some a) (Some b) x y =
 one_definition name row (Some a) None x y = absurd (y x.0 a x.1 x.2)
 one_definition name row None (Some b) x y = absurd (x y.0 b y.1 y.2)
 one_definition name row None None x y = refl
+
+-- ---- keys
+
+-- what a row defines for the name that its key is
+pub at_name : (key : List Value) (name : List ℕ) (row : List Value) (result : Result (Option Definition) Memory)
+    → name_in key ≡ Some name → IfOk result (λ (found : Option Definition). IsDefinitionOf name row found)
+    → IfOk result (λ (found : Option Definition). IsDefinitionAt key row found)
+at_name key name row result same is =
+    subst (λ (n : Option (List ℕ)). IfOk result (λ (found : Option Definition). IsOfName n row found)) (sym same) is
+
+pub at_none : (key row : List Value) → name_in key ≡ None → IsDefinitionAt key row None
+at_none key row none = subst (λ (n : Option (List ℕ)). IsOfName n row None) (sym none) refl

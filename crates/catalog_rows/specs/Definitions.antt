@@ -50,10 +50,18 @@ abbrev pub IsDefinitionOf : List ℕ → List Value → Option Definition → Ty
 IsDefinitionOf name row (Some definition) = (text : List ℕ) × (row ≡ row_of name text) × Defines name text definition
 IsDefinitionOf name row None = (text : List ℕ) (definition : Definition) → row ≡ row_of name text → Defines name text definition → ⊥
 
--- The same of a row that stands at a key: it defines the key's name. A key of another shape has no name.
+-- the name that a key is; a key of another shape has none
+abbrev pub name_in : List Value → Option (List ℕ)
+name_in (Text name ∷ []) = Some name
+name_in key = None
+
+abbrev pub IsOfName : Option (List ℕ) → List Value → Option Definition → Type 0
+IsOfName (Some name) row outcome = IsDefinitionOf name row outcome
+IsOfName None row outcome = outcome ≡ None
+
+-- The same of a row that stands at a key: it defines the key's name.
 abbrev pub IsDefinitionAt : List Value → List Value → Option Definition → Type 0
-IsDefinitionAt (Text name ∷ []) row outcome = IsDefinitionOf name row outcome
-IsDefinitionAt key row outcome = outcome ≡ None
+IsDefinitionAt key row outcome = IsOfName (name_in key) row outcome
 
 -- Private contracts alone cite these: the text in a row of this name, and a definition where it is one of the name.
 abbrev pub text_in : List ℕ → List Value → Option (List ℕ)

@@ -66,12 +66,23 @@ fn text_in<'a>(name: &Units, row: &'a Row) -> Option<&'a Units>
 }
 
 /// What a row of `objects` defines for the name in the key at which it stands.
+#[tactic(auto, using(crate::proofs::Defining::at_name, crate::proofs::Defining::at_none))]
 pub fn definition_at(alloc: Global, key: &Key, row: &Row) -> Result<Option<Definition>, Memory>
     ensures { IfOk result (λ found. spec.IsDefinitionAt key.now row.now found) }
 {
+    match name_in(key) {
+        Some(name) => definition_of(alloc, name, row),
+        None => Ok(None),
+    }
+}
+
+/// The name that a key is.
+fn name_in(key: &Key) -> Option<&Units>
+    ensures { option_map (λ name. name.now) result ≡ spec.name_in key.now }
+{
     match key.as_slice() {
-        [Value::Text(name)] => definition_of(alloc, name, row),
-        _ => Ok(None),
+        [Value::Text(name)] => Some(name),
+        _ => None,
     }
 }
 
