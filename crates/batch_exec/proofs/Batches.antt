@@ -3,9 +3,10 @@ use Rattle.std.proofs.Common.{◌≡◌, ℕ, suc, ◌+◌, ◌<◌, ◌≤◌, 
 use Rattle.std.proofs.Math.Seq.{drop-cons}
 use Rattle.std.proofs.lemmas.List.{drop_all}
 use Rattle.step_model.specs.Port.{PortPast}
-use Rattle.batch_meaning.specs.declared.effect.Exit.{Exit}
-use Rattle.batch_meaning.specs.declared.effect.Exit.TheVariants.{On}
+use Rattle.batch_meaning.specs.declared.exit.Exit.{Exit}
+use Rattle.batch_meaning.specs.declared.exit.Exit.TheVariants.{On}
 use Rattle.batch_meaning.specs.declared.form.Served.{Served}
+use Rattle.batch_meaning.specs.Failures.{plain}
 use Rattle.batch_meaning.specs.Progress.{SessionProgress, counts, made}
 use Rattle.batch_meaning.specs.Doing.{Doing, ◌then◌, Did, Leads}
 use Rattle.batch_meaning.specs.Meaning.{acted, means, goes_on, each_of, statements_spent}
@@ -16,7 +17,7 @@ next_item l i item is within = drop-cons l i item within ∙ ap (λ (x : Served)
 
 module _ {before now : PortPast} {whole : Doing Exit} {old mid : SessionProgress} (rest : List Served) (statement : Served) (others : List Served) (is : rest ≡ statement ∷ others) where
   -- no statement may begin
-  pub next_spent : true ≡ nat_eq mid.left 0 → Leads before now whole old (each_of rest) mid → Leads before now whole old (acted statement statements_spent) mid
+  pub next_spent : true ≡ nat_eq mid.left 0 → Leads before now whole old (each_of rest) mid → Leads before now whole old (acted statement (plain statements_spent)) mid
   unfolding each_of
   next_spent spent leads = leads_yes _ _ _ (sym spent) (leads_reads (rw is at leads))
 

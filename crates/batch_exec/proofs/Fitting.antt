@@ -1,21 +1,47 @@
 -- The tokens that are sent have bytes: counts, texts and values fit their fields.
-use Rattle.std.proofs.Common.{◌≡◌, ℕ, ℤ, pos, negsuc, ◌+◌, ◌^◌, ◌<◌, ◌≤◌, ◌&&◌, Bool, true, false, if◌then◌else◌, List, [], ◌∷◌, ◌++◌, length, take, Option, Result, Ok, Err, FitsSigned, IfOk, IsTrue, refl, sym, subst, length-take, rules, arith}
+use Rattle.std.proofs.Common.{◌≡◌, ℕ, ℤ, pos, negsuc, ◌+◌, ◌^◌, ◌<◌, ◌≤◌, ◌&&◌, ◌||◌, Bool, true, false, if◌then◌else◌, List, [], ◌∷◌, ◌++◌, length, map, take, Option, Result, Ok, Err, FitsSigned, IfOk, IsTrue, refl, sym, subst, length-take, rules, arith, All, suc, ap, T}
 use Rattle.std.specs.Prelude.{nat_le}
 use Rattle.std.specs.Int.{w32, w64}
-use Rattle.std.proofs.lemmas.Bool.{leb-true, and_parts}
+use Rattle.std.proofs.lemmas.Bool.{leb-true, le-leb, and_parts}
 use Rattle.std.proofs.lemmas.List.Elements.{All-head, All-tail, All-cons, All-nil}
 use Rattle.std.specs.declared.alloc.Global.{Global}
 use Rattle.std.specs.declared.vec.Vec.{Vec}
 use Rattle.error_table.specs.declared.action.Action.{Action}
-use Rattle.error_table.specs.declared.action.Action.TheVariants.{Statement, Batch, BatchAndTransaction, Doom}
+use Rattle.error_table.specs.declared.action.Action.TheVariants.{Statement as EndsStatement, Batch, BatchAndTransaction, Doom}
 use Rattle.error_table.specs.Table.{ErrorLine, row_of}
-use Rattle.value_types.specs.declared.sql_type.SqlType.TheVariants.{Int, BigInt}
+use Rattle.value_types.specs.declared.sql_type.SqlType.{SqlType}
+use Rattle.value_types.specs.declared.sql_type.SqlType.TheVariants.{TinyInt, SmallInt, Int, BigInt, Bit as BitType, NText}
+use Rattle.convert_rules.specs.Types.{IsOf}
+use Rattle.session_vars.specs.Variables.{HasItsType}
+use Rattle.tsql_tree.specs.declared.definition.Definition.{Definition}
+use Rattle.tsql_tree.specs.declared.query.Select.{Select}
+use Rattle.tsql_tree.specs.declared.statement.Form.{Form-F}
+use Rattle.tsql_tree.specs.declared.statement.Statement.{Statement}
+use Rattle.bound_tree.specs.declared.query.BoundQuery.{BoundQuery}
+use Rattle.bound_tree.specs.declared.query.Item.{Item}
+use Rattle.bound_tree.specs.declared.query.Reference.{Reference}
+use Rattle.bound_tree.specs.declared.write.Bound.TheVariants as bound
+use Rattle.typed_nodes.specs.Nodes.{is_kind}
+use Rattle.typed_nodes.specs.Refusals.{Outcome, after}
+use Rattle.clause_binder.specs.declared.operand.Selected.{Selected}
+use Rattle.clause_binder.specs.Bind.{query_of}
+use Rattle.clause_binder.specs.Operands.{items_of}
+use Rattle.query_eval.specs.Ans.{Ans, references_of}
+use Rattle.query_eval.specs.Given.{tables_read}
+use Rattle.query_laws.specs.Columns.{tables_in}
+use Rattle.query_laws.specs.Formed.{items_kinds}
+use Rattle.query_laws.specs.Laws.{AllOf, AreExactly, ImagesOf, IsFit as IsNamed, RowsOf}
+use Rattle.query_laws.proofs.Laws.{select_formed, select_typed}
+use Rattle.binder.specs.Limits.{within_limits}
+use Rattle.binder.specs.Names.{Layer, form_of}
+use Rattle.binder.specs.Statements.{bind_form, select_made}
+use Rattle.step_model.specs.Ranges.{Rows}
 use Rattle.value_types.specs.declared.value.Value.{Value}
 use Rattle.value_types.specs.declared.value.Value.TheVariants.{Null, Whole, Bit, Text}
 use Rattle.value_types.specs.declared.memory.Memory.{Memory}
 use Rattle.tds_tokens.specs.declared.columns.ColumnInfo.{ColumnInfo}
 use Rattle.tds_tokens.specs.declared.notice.Notice.{Notice}
-use Rattle.tds_tokens.specs.Numbers.{done_final, done_more, done_error, command_none}
+use Rattle.tds_tokens.specs.Numbers.{done_final, done_more, done_error, done_count, command_none, command_select, command_insert}
 use Rattle.tds_tokens.specs.declared.token.DoneKind.{DoneKind}
 use Rattle.tds_tokens.specs.declared.token.DoneKind.TheVariants.{Done}
 use Rattle.tds_tokens.specs.declared.token.Token.{Token}
@@ -23,15 +49,17 @@ use Rattle.tds_tokens.specs.declared.token.Token.TheVariants.{Finished}
 use Rattle.tds_tokens.specs.Fit.{FitsType, FitsKind, FitsColumns, FitsNotice, FitsToken, FitTokens}
 use Rattle.tds_tokens.specs.Spelling.{columns_after}
 use Rattle.tds_tokens.proofs.Lengths.{length-notice_bytes}
-use Rattle.batch_meaning.specs.declared.effect.Effect.{Effect}
-use Rattle.batch_meaning.specs.declared.effect.Effect.TheVariants.{Number, Created, Inserted, Selected}
-use Rattle.batch_meaning.specs.declared.effect.Exit.{Exit}
-use Rattle.batch_meaning.specs.declared.effect.Exit.TheVariants.{On, End}
+use Rattle.batch_meaning.specs.declared.exit.Exit.{Exit}
+use Rattle.batch_meaning.specs.declared.exit.Exit.TheVariants.{On, End}
+use Rattle.batch_meaning.specs.declared.failure.Failure.{Failure}
 use Rattle.batch_meaning.specs.declared.form.Form.{Form}
 use Rattle.batch_meaning.specs.declared.form.Served.{Served}
-use Rattle.batch_meaning.specs.Tables.{is_int, is_same, row_fits}
-use Rattle.batch_exec.specs.Sendable.{IsFit, is_table_row, AreTableRows, IsSendable}
-use Rattle.batch_meaning.specs.Tokens.{subject_of, command_of, class_of, message_of, error_of, number_type, table_columns, row_tokens, statement_done, batch_done, effect_tokens, failure_tokens}
+use Rattle.batch_meaning.specs.Failures.{plain}
+use Rattle.batch_meaning.specs.Statements.{is_select_step}
+use Rattle.batch_meaning.specs.Selecting.{bound_as, columns_of, first_system, not_built}
+use Rattle.batch_exec.specs.Sendable.{IsFit, IsResult}
+use Rattle.batch_exec.specs.Selected.{AnswerFits, ImagesFit, IsBound}
+use Rattle.batch_meaning.specs.Tokens.{subject_of, command_of, class_of, message_of, error_of, row_tokens, result_tokens, inserted_tokens, statement_done, batch_done, failure_tokens}
 
 -- ---- one list behind another
 
@@ -47,61 +75,135 @@ pub fit_none : IsFit []
 unfolding FitTokens
 fit_none = λ columns. tt
 
--- ---- rows
+-- ---- values
 
-int_fits : (number : ℤ) → is_int (Whole number) ≡ true → FitsSigned w32 number
-int_fits (pos n) h = let most : n ≤ 2147483647 = leb-true n 2147483647 h in record { sfits = omega arith }
-int_fits (negsuc n) h = let parts = and_parts (nat_le n 2147483647) true h in let most : n ≤ 2147483647 = leb-true n 2147483647 parts.0 in record { sfits = omega arith }
+value_fits : (kind : SqlType) (value : Value) → is_kind kind ≡ true → IsOf kind value → FitsType kind value
+value_fits kind Null real of = tt
+value_fits TinyInt (Whole (pos n)) real of = let most : n ≤ 255 = leb-true n 255 (and_parts (nat_le 0 n) (nat_le n 255) of).1 in (record { le = subst T (sym (le-leb 0 n (omega arith))) tt }, record { le = subst T (sym (le-leb n 255 most)) tt })
+value_fits TinyInt (Whole (negsuc n)) real of = absurd cc
+value_fits SmallInt (Whole (pos n)) real of = let most : n ≤ 32767 = leb-true n 32767 of in record { sfits = omega arith }
+value_fits SmallInt (Whole (negsuc n)) real of = let most : n ≤ 32767 = leb-true n 32767 (and_parts (nat_le n 32767) true of).0 in record { sfits = omega arith }
+value_fits Int (Whole (pos n)) real of = let most : n ≤ 2147483647 = leb-true n 2147483647 of in record { sfits = omega arith }
+value_fits Int (Whole (negsuc n)) real of = let most : n ≤ 2147483647 = leb-true n 2147483647 (and_parts (nat_le n 2147483647) true of).0 in record { sfits = omega arith }
+value_fits BigInt (Whole (pos n)) real of = let most : n ≤ 9223372036854775807 = leb-true n 9223372036854775807 of in record { sfits = omega arith }
+value_fits BigInt (Whole (negsuc n)) real of = let most : n ≤ 9223372036854775807 = leb-true n 9223372036854775807 (and_parts (nat_le n 9223372036854775807) true of).0 in record { sfits = omega arith }
+value_fits BitType (Bit bit) real of = tt
+value_fits (NText size) (Text units) real of =
+    let small : size ≤ 4000 = leb-true size 4000 (and_parts (nat_le 1 size) (nat_le size 4000) real).1 in (of, omega (arith, small, of))
+value_fits BitType (Whole number) real of = absurd cc
+value_fits (NText size) (Whole number) real of = absurd cc
+value_fits kind value real of = absurd of
 
-value_fits : (value : Value) → is_int value ≡ true → FitsType Int value
-value_fits Null h = tt
-value_fits (Whole number) h = int_fits number h
-value_fits (Bit bit) h = absurd cc
-value_fits (Text units) h = absurd cc
+kind_fits : (kind : SqlType) → is_kind kind ≡ true → FitsKind kind
+kind_fits (NText size) real = let small : size ≤ 4000 = leb-true size 4000 (and_parts (nat_le 1 size) (nat_le size 4000) real).1 in omega (arith, small)
+kind_fits kind real = tt
 
-table_row_fits : (row : List Value) → IsTrue (is_table_row row) → FitsColumns table_columns row
-table_row_fits (key ∷ value ∷ []) h = let parts = and_parts (is_int key) (is_int value) h in (value_fits key parts.0, (value_fits value parts.1, tt))
-table_row_fits row h = absurd (let no_row : false ≡ true = h in cc)
+-- ---- results
 
-rows_fit : (rows : List (List Value)) (behind : List Token) → AreTableRows rows → FitTokens table_columns behind → FitTokens table_columns (row_tokens rows ++ behind)
-unfolding FitTokens
-rows_fit [] behind all fits = fits
-rows_fit (row ∷ rows) behind all fits = (table_row_fits row (All-head (λ (r : List Value). IsTrue (is_table_row r)) row rows all), rows_fit rows behind (All-tail (λ (r : List Value). IsTrue (is_table_row r)) row rows all) fits)
-
-first_holds : (a b : Bool) → a && b ≡ true → a ≡ true
-first_holds true b both = refl
-first_holds false b both = both
-
--- a row that is read as one of a table has its values
-pub kept_row : (key row : List Value) → row_fits (key, row) ≡ true → IsTrue (is_table_row row)
-kept_row (k ∷ []) (key ∷ value ∷ []) fit = first_holds (is_int key && is_int value) (is_same k key) fit
-kept_row key row fit = absurd (let no_row : false ≡ true = fit in cc)
-
--- ---- what a statement sends
-
-number_fits : (number : ℤ) → FitsSigned w64 number → FitsType (number_type number) (Whole number)
-number_fits number fits = by_test (is_int (Whole number)) refl
-  where
-    by_test : (test : Bool) → is_int (Whole number) ≡ test → FitsType (if test then Int else BigInt) (Whole number)
-    by_test true is = int_fits number is
-    by_test false is = fits
+abbrev column_of : Item → ColumnInfo
+column_of item = record { kind = item.kind; name = item.name }
 
 abbrev FitsColumn : ColumnInfo → Type 0
 FitsColumn column = FitsKind column.kind × (length column.name < 2 ^ 8)
 
-number_kind : (number : ℤ) → FitsKind (number_type number)
-number_kind number = by_test (is_int (Whole number))
-  where
-    by_test : (test : Bool) → FitsKind (if test then Int else BigInt)
-    by_test true = tt
-    by_test false = tt
+columns_fit : (items : List Item) → AllOf IsNamed items → All FitsColumn (map column_of items)
+columns_fit [] fit = All-nil FitsColumn
+columns_fit (item ∷ items) fit = All-cons FitsColumn (column_of item) (map column_of items) (kind_fits item.kind fit.0.0, (let short : length item.name ≤ 128 = fit.0.1 in omega (arith, short))) (columns_fit items fit.1)
 
-pub effect_fits : (statement : Form) (effect : Effect) → IsSendable effect → IsFit (effect_tokens statement effect)
+row_fits : (items : List Item) (row : List Value) → AllOf IsNamed items → AreExactly (items_kinds items) row → FitsColumns (map column_of items) row
+row_fits [] [] fit are = tt
+row_fits [] (value ∷ values) fit are = absurd are
+row_fits (item ∷ items) [] fit are = absurd are
+row_fits (item ∷ items) (value ∷ values) fit are = (value_fits item.kind value fit.0.0 are.0, row_fits items values fit.1 are.1)
+
+rows_fit : (items : List Item) (rows : List (List Value)) (behind : List Token) → AllOf IsNamed items → RowsOf (items_kinds items) rows → FitTokens (map column_of items) behind → FitTokens (map column_of items) (row_tokens rows ++ behind)
 unfolding FitTokens
-effect_fits statement (Number number) fits = λ columns. ((omega arith, All-cons FitsColumn (record { kind = number_type number; name = [] }) [] (number_kind number, omega arith) (All-nil FitsColumn)), ((number_fits number fits, tt), (tt, tt)))
-effect_fits statement Created sendable = λ columns. tt
-effect_fits statement Inserted sendable = λ columns. (tt, tt)
-effect_fits statement (Selected rows) all = λ columns. ((omega arith, search rules), rows_fit rows (statement_done statement (length rows) ∷ []) all (tt, tt))
+rows_fit items [] behind fit are fits = fits
+rows_fit items (row ∷ rows) behind fit are fits = (row_fits items row fit are.0, rows_fit items rows behind fit are.1 fits)
+
+columns_many : (items : List Item) → length (map column_of items) ≡ length items
+columns_many [] = refl
+columns_many (item ∷ items) = ap suc (columns_many items)
+
+-- a result whose rows are of its items' types
+result_fits : (items : List Item) (rows : List (List Value)) → AllOf IsNamed items → length items ≤ 64 → RowsOf (items_kinds items) rows → IsFit (result_tokens (map column_of items) rows)
+unfolding FitTokens
+result_fits items rows fit few are = λ columns.
+    ((let same : length (map column_of items) ≡ length items = columns_many items in omega (arith, same, few), columns_fit items fit), rows_fit items rows (statement_done command_select (length rows) ∷ []) fit are (tt, tt))
+
+-- ---- what a SELECT is bound to
+
+-- what was made of it, where nothing is outside a limit
+made_query : (beyond outside assigns : Bool) (q : BoundQuery) (places : List ℕ) (query : BoundQuery)
+    → bound_as (within_limits (beyond || outside) (if assigns then bound.Assign q places else bound.Query q)) ≡ Ok query → (beyond ≡ false) × (assigns ≡ false) × (q ≡ query)
+made_query true outside assigns q places query is = absurd cc
+made_query false true assigns q places query is = absurd cc
+made_query false false true q places query is = absurd cc
+made_query false false false q places query is = (refl, refl, (let same : q ≡ query = cc in same))
+
+-- the select of a statement, and what it is bound to
+pub record BoundSelect (definitions : List Definition) (query : BoundQuery) : Type 0 where
+  pub select : Select
+  pub selected : Selected
+  pub is : query_of definitions [] select ≡ Ok selected
+  pub within : selected.beyond ≡ false
+  pub plain : selected.assigns ≡ false
+  pub same : selected.query ≡ query
+
+behind_select : (definitions : List Definition) (select : Select) (query : BoundQuery) (outcome : Outcome Selected) → query_of definitions [] select ≡ outcome
+    → bound_as (after (after outcome (λ s. Ok (select_made s))) (λ made. within_limits (made.beyond || false) made.bound)) ≡ Ok query → BoundSelect definitions query
+behind_select definitions select query (Ok s) of is =
+    let parts = made_query s.beyond false s.assigns s.query s.places query is in
+    record { select = select; selected = s; is = of; within = parts.0; plain = parts.1; same = parts.2 }
+behind_select definitions select query (Err refusal) of is = absurd cc
+
+behind_tables : (definitions : List Definition) (select : Select) (query : BoundQuery) (known : Outcome (Unit {0}))
+    → bound_as (after known (λ known. after (after (query_of definitions [] select) (λ s. Ok (select_made s))) (λ made. within_limits (made.beyond || false) made.bound))) ≡ Ok query → BoundSelect definitions query
+behind_tables definitions select query (Ok known) is = behind_select definitions select query (query_of definitions [] select) refl is
+behind_tables definitions select query (Err refusal) is = absurd cc
+
+by_form : (definitions : List Definition) (query : BoundQuery) (form : Layer) → (if is_select_step form then bound_as (bind_form definitions [] form) else Err (plain not_built)) ≡ Ok query → BoundSelect definitions query
+by_form definitions query (Form-F.Select select) is = behind_tables definitions select query _ is
+by_form definitions query form is = absurd cc
+
+pub bound_select : (definitions : List Definition) (statement : Statement) (query : BoundQuery) → IsBound definitions statement query → BoundSelect definitions query
+bound_select definitions statement query is = by_form definitions query (form_of statement) is
+
+-- ---- what it answers
+
+-- the images of its references are those of the tables that are read
+images_of : (definitions : List Definition) (refs : List Reference) (images : List Rows) → ImagesFit definitions (map (λ ref. ref.table) refs) images → ImagesOf (tables_in definitions) refs images
+images_of definitions [] images fit = tt
+images_of definitions (ref ∷ refs) [] fit = absurd fit
+images_of definitions (ref ∷ refs) (rows ∷ images) fit = (fit.0, images_of definitions refs images fit.1)
+
+pub answer_fits : (definitions : List Definition) (statement : Statement) (query : BoundQuery) (images : List Rows) → IsBound definitions statement query → ImagesFit definitions (tables_read query) images → AnswerFits query images
+answer_fits definitions statement query images is fit rows answers = by_select (bound_select definitions statement query is)
+  where
+    by_select : BoundSelect definitions query → IsResult (columns_of query) rows
+    by_select b =
+        let formed = select_formed definitions [] b.select b.selected b.is b.within in
+        let same : b.selected.query ≡ query = b.same in
+        let typed = select_typed definitions [] b.select b.selected b.is b.within (All-nil HasItsType) first_system (refl, (refl, (refl, (refl, (refl, (tt, (tt, (tt, (tt, (tt, (tt, tt))))))))))) images rows
+            (subst (λ (q : BoundQuery). ImagesOf (tables_in definitions) (references_of q) images) (sym same) (images_of definitions (references_of query) images fit))
+            (subst (λ (q : BoundQuery). Ans [] first_system q images ≡ Ok rows) (sym same) answers) in
+        subst (λ (q : BoundQuery). IsResult (columns_of q) rows) same (result_fits (items_of b.selected.query) rows formed.1 (formed.2 b.plain) typed)
+
+-- of what is bound over no table no image is read
+pub alone_fits : (statement : Statement) (query : BoundQuery) → IsBound [] statement query → AnswerFits query []
+alone_fits statement query is rows answers = by_select (bound_select [] statement query is)
+  where
+    none : (refs : List Reference) → ImagesOf (tables_in []) refs []
+    none [] = tt
+    none (ref ∷ refs) = (tt, none refs)
+
+    by_select : BoundSelect [] query → IsResult (columns_of query) rows
+    by_select b =
+        let formed = select_formed [] [] b.select b.selected b.is b.within in
+        let same : b.selected.query ≡ query = b.same in
+        let typed = select_typed [] [] b.select b.selected b.is b.within (All-nil HasItsType) first_system (refl, (refl, (refl, (refl, (refl, (tt, (tt, (tt, (tt, (tt, (tt, tt))))))))))) [] rows
+            (none (references_of b.selected.query)) (subst (λ (q : BoundQuery). Ans [] first_system q [] ≡ Ok rows) (sym same) answers) in
+        subst (λ (q : BoundQuery). IsResult (columns_of q) rows) same (result_fits (items_of b.selected.query) rows formed.1 (formed.2 b.plain) typed)
 
 -- ---- errors
 
@@ -135,12 +237,16 @@ pub batch_done_fit : (exit : Exit) → IsFit (batch_done exit ∷ [])
 batch_done_fit On = done_fit Done done_final command_none 0
 batch_done_fit End = done_fit Done done_error command_none 0
 
+-- a row was inserted
+pub inserted_fit : IsFit inserted_tokens
+inserted_fit = done_fit Done (done_more + done_count) command_insert 1
+
 -- what a statement sends where it fails
-pub failure_fits : (statement : Served) (number : ℕ) (action : Action) → IsFit (failure_tokens statement number action)
-failure_fits statement number Batch = error_fit (pos number) (row_of (pos number)) (subject_of statement.form number) statement.line
-failure_fits statement number BatchAndTransaction = error_fit (pos number) (row_of (pos number)) (subject_of statement.form number) statement.line
-failure_fits statement number Statement = error_done_fit (pos number) (row_of (pos number)) (subject_of statement.form number) statement.line Done (done_more + done_error) (command_of statement.form) 0
-failure_fits statement number Doom = error_done_fit (pos number) (row_of (pos number)) (subject_of statement.form number) statement.line Done (done_more + done_error) (command_of statement.form) 0
+pub failure_fits : (statement : Served) (failure : Failure) (action : Action) → IsFit (failure_tokens statement failure action)
+failure_fits statement failure Batch = error_fit failure.number (row_of failure.number) (subject_of statement.form failure) statement.line
+failure_fits statement failure BatchAndTransaction = error_fit failure.number (row_of failure.number) (subject_of statement.form failure) statement.line
+failure_fits statement failure EndsStatement = error_done_fit failure.number (row_of failure.number) (subject_of statement.form failure) statement.line Done (done_more + done_error) (command_of statement.form) 0
+failure_fits statement failure Doom = error_done_fit failure.number (row_of failure.number) (subject_of statement.form failure) statement.line Done (done_more + done_error) (command_of statement.form) 0
 
 -- ---- by what was made
 

@@ -1,4 +1,4 @@
 pub mod Batches
 pub mod Fitting
 pub mod RangeReading
-pub mod Definitions
+pub mod Selects

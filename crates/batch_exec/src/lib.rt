@@ -7,11 +7,13 @@
 //! said to be wanting where there is enough.
 #![tactic(auto)]
 
+mod look_up;
 mod numbers;
+mod query;
 mod ranges;
+mod sendable;
 mod state;
 mod statement;
-mod tables;
 mod tokens;
 
 pub use state::SessionState;

@@ -1,21 +1,25 @@
 //! How far a session has come, and what it asks of its port.
 
-ghost use Rattle.std.specs.Prelude.{◌≡◌, ◌<◌, ◌==◌, [], true, false, Ok, IfOk, IfErr};
+ghost use Rattle.std.specs.Prelude.{◌≡◌, ◌<◌, ◌-◌, ◌==◌, nat_lt, [], true, false, Ok, IfOk, IfErr};
 ghost use Rattle.step_model.specs.Exchange.{MayCome, CanReply};
 ghost use Rattle.batch_meaning.specs.Doing.{Exchanged, Did};
 ghost use Rattle.batch_meaning.specs.Meaning.{rolls_back_open};
 ghost use Rattle.batch_exec.specs.Sendable.{IsFit};
 ghost use Rattle.tds_tokens.specs.Fit.{FitTokens};
-ghost use Rattle.batch_meaning.specs.Progress.{Ready, first_progress, made, asked, begins, counts, sends};
+ghost use Rattle.batch_meaning.specs.Progress.{Ready, first_progress, made, asked, begins, counts, sends, size_of};
 
+use crate::sendable::TokenList;
 use std::alloc::Global;
 use std::marker::Model;
 use step_model::{Manner, Op, Patience, Port, Reply};
-use tds_tokens::Token;
+use tds_tokens::{Token, bytes_of_tokens};
 use value_types::Memory;
 
 /// How many statements a batch may begin.
 const STATEMENT_LIMIT: u32 = 1_000_000;
+
+/// How many bytes the tokens of a batch may have.
+const BATCH_LIMIT: u32 = 134_217_728;
 
 /// How a session asks until it says otherwise: it waits for locks, with the priority 0.
 const FIRST_MANNER: Manner = Manner {
@@ -27,6 +31,7 @@ const FIRST_MANNER: Manner = Manner {
 #[derive(Drop)]
 pub struct SessionState {
     tokens: Vec<Token>,
+    room: u32,
     left: u32,
     is_open: bool,
     touched: bool,
@@ -39,7 +44,7 @@ impl Model for SessionState {
 
     ghost Value = { SessionProgress };
 
-    ghost view = { λ s. record { tokens = s.tokens.items; left = s.left; is_open = s.is_open; touched = s.touched; manner = s.manner } };
+    ghost view = { λ s. record { tokens = s.tokens.items; room = s.room; left = s.left; is_open = s.is_open; touched = s.touched; manner = s.manner } };
 
     ghost invariant = { λ s. IsFit s.tokens.items };
 }
@@ -51,6 +56,7 @@ impl SessionState {
     {
         SessionState {
             tokens: Vec::new(alloc),
+            room: 0,
             left: 0,
             is_open: false,
             touched: false,
@@ -120,6 +126,7 @@ impl SessionState {
         ensures { self.new ≡ made begins self.old }
     {
         self.tokens.clear();
+        self.room = BATCH_LIMIT;
         self.left = STATEMENT_LIMIT;
     }
 
@@ -131,14 +138,22 @@ impl SessionState {
         self.left -= 1;
     }
 
+    /// Whether tokens are more bytes than the batch may still send.
+    pub(crate) fn is_full(&self, tokens: &TokenList) -> bool
+        ensures { result ≡ nat_lt self.now.room (size_of tokens.now) }
+    {
+        u64::from(self.room) < bytes_of_tokens(tokens.as_slice())
+    }
+
     /// Sends tokens; all of them, or none where memory is wanting.
-    pub(crate) fn send(&mut self, tokens: Vec<Token>) -> Result<(), Memory>
-        requires fit { IsFit tokens.items }
-        ensures sent { IfOk result (λ _. self.new ≡ made (sends tokens.items) self.old) }
+    pub(crate) fn send(&mut self, tokens: TokenList) -> Result<(), Memory>
+        ensures sent { IfOk result (λ _. self.new ≡ made (sends tokens) self.old) }
         ensures kept { IfErr result (λ _. self.new ≡ self.old) }
     {
-        let mut tokens = tokens;
+        let room = room_behind(self.room, tokens.as_slice());
+        let mut tokens = tokens.into_vec();
         self.tokens.append(&mut tokens)?;
+        self.room = room;
         Ok(())
     }
 
@@ -161,5 +176,17 @@ impl SessionState {
             Op::BackTo { .. } => {}
             _ => self.touched = false,
         }
+    }
+}
+
+/// How many bytes may still be sent behind tokens.
+fn room_behind(room: u32, tokens: &[Token]) -> u32
+    ensures { result ≡ room - size_of tokens.now }
+{
+    let size = bytes_of_tokens(tokens);
+    if size < u64::from(room) {
+        room - size as u32
+    } else {
+        0
     }
 }

@@ -1,39 +1,36 @@
 //! What a batch runs: its statements, one after another.
 
-ghost use Rattle.std.specs.Prelude.{◌≡◌, true, false, Ok, IfOk};
-ghost use Rattle.step_model.specs.declared.op.Hold.TheVariants as hold;
-ghost use Rattle.lock_modes.specs.declared.KeyPart.TheVariants.{S};
+ghost use Rattle.std.specs.Prelude.{◌≡◌, true, None, Ok, IfOk};
+ghost use Rattle.batch_meaning.specs.declared.form.Form.TheVariants.{Query};
+ghost use Rattle.batch_exec.specs.Selected.{IsOrMemory, roomed};
+ghost use Rattle.batch_meaning.specs.Tokens.{inserted_tokens};
 ghost use Rattle.step_model.specs.declared.op.Op.TheVariants as ops;
-ghost use Rattle.step_model.specs.declared.range.Start.TheVariants.{At};
-ghost use Rattle.step_model.specs.declared.range.Stop.TheVariants.{Within};
 ghost use Rattle.batch_meaning.specs.Doing.{Did, asks};
-ghost use Rattle.batch_meaning.specs.Meaning.{object_present, unless_refused, known, look_up, reads_rows, placed, marked, puts, creates, inserts, selects, work_of, relaxes, closes, own, unless_objects, came_of, ended_by, action_for, acted, finished, means, each_of, batch};
-ghost use Rattle.batch_exec.specs.Sendable.{AreTableRows, IsSendable};
+ghost use Rattle.batch_meaning.specs.Meaning.{unless_refused, placed, marked, puts, creates, finds, inserts, done_for, work_of, relaxes, closes, own, unless_objects, came_of, ended_by, action_for, acted, or_full, finished, means, each_of, batch, reads_rows, object_present};
+ghost use Rattle.step_model.specs.declared.op.Hold.TheVariants as hold;
 ghost use Rattle.batch_meaning.specs.Progress.{Ready};
-ghost use Rattle.batch_exec.specs.Defining.{DefinedBy, IsRead};
 ghost use Rattle.batch_meaning.specs.Tokens.{duplicate_key};
-ghost use Rattle.batch_meaning.specs.Tables.{text_in, table_of, objects_name, object_key, object_row, table_key, table_row};
+ghost use Rattle.batch_meaning.specs.Tables.{table_of, table_key, table_row};
+ghost use Rattle.catalog_rows.specs.Definitions.{objects_name, object_key, row_of};
 
+use crate::look_up::{look_up, objects};
 use crate::numbers::{
     DEADLOCK, DUPLICATE_KEY, LOCK_TIMEOUT, NO_MEMORY, NOT_BUILT, OBJECT_PRESENT, RESULT_FULL,
     STATEMENTS_SPENT, UNKNOWN_TABLE,
 };
+use crate::query::{answered_alone, names_any, select};
 use crate::ranges::read_rows;
+use crate::sendable::TokenList;
 use crate::state::SessionState;
-use crate::tables::{
-    is_objects, object_key, object_row, objects, table, table_key, table_row, text_in,
-};
-use crate::tokens::{batch_done, effect_tokens, failure_tokens};
-use batch_forms::is_definition;
-use batch_meaning::{Effect, Exit, Form, RowList, Served};
+use crate::tokens::{batch_end, failure_tokens, inserted_tokens, no_tokens};
+use batch_forms::as_served;
+use batch_meaning::{Exit, Failure, Form, RowList, Served};
+use catalog_rows::{is_objects, object_key, row_of};
 use error_table::{Action, RaisedBy, action_of};
-use lock_modes::KeyPart;
 use std::alloc::Global;
-use step_model::{Hold, Op, Port, Reply, Start, Stop};
-use value_types::{Key, Memory, Row, TableName, Units};
-
-/// How many rows a result has at most.
-const RESULT_LIMIT: usize = 1_000_000;
+use step_model::{Hold, Op, Port, Reply};
+use tsql_tree::Statement;
+use value_types::{Key, Memory, Row, TableName, Units, Value};
 
 /// Runs a batch of these statements over a session's port: asks what they mean, and goes on by the replies. The
 /// session has then what the batch sends ([`SessionState::tokens`]). Where memory is wanting for that, the rest is
@@ -50,7 +47,7 @@ pub fn run_batch<P: Port>(
 {
     session.begin_batch();
     let exit = run_statements(alloc, session, port, statements)?;
-    let end = vec![in alloc; batch_done(exit)]?;
+    let end = batch_end(alloc, exit)?;
     session.send(end)?;
     Ok(())
 }
@@ -68,7 +65,13 @@ fn run_statements<P: Port>(
 {
     for statement in statements {
         if session.is_spent() {
-            return act(alloc, session, port, statement, STATEMENTS_SPENT);
+            return act(
+                alloc,
+                session,
+                port,
+                statement,
+                &Failure::plain(STATEMENTS_SPENT),
+            );
         }
         session.begin_statement();
         match run_statement(alloc, session, port, statement)? {
@@ -100,20 +103,39 @@ fn finish<P: Port>(
     session: &mut SessionState,
     port: &mut P,
     statement: &Served,
-    came: Result<Effect, u16>,
+    came: Result<TokenList, Failure>,
 ) -> Result<Exit, Memory>
     requires ready { Ready session.old (P.past port.old) }
-    requires sendable { IfOk came IsSendable }
     ensures does { Did (P.past port.old) (P.past port.new) (finished statement.now came) session.old result session.new }
     ensures ready { Ready session.new (P.past port.new) }
 {
     match came {
-        Ok(effect) => {
-            let tokens = effect_tokens(alloc, &statement.form, effect)?;
+        Ok(tokens) => {
             session.send(tokens)?;
             Ok(Exit::On)
         }
-        Err(number) => act(alloc, session, port, statement, number),
+        Err(failure) => {
+            let failure = or_full(alloc, session, statement, failure)?;
+            act(alloc, session, port, statement, &failure)
+        }
+    }
+}
+
+/// The failure of a statement; where there is no room for its error, one that says so.
+fn or_full(
+    alloc: Global,
+    session: &SessionState,
+    statement: &Served,
+    failure: Failure,
+) -> Result<Failure, Memory>
+    ensures { IfOk result (λ told. told ≡ or_full statement.now failure session.now) }
+{
+    let action = action_for(&statement.form, &failure);
+    let tokens = failure_tokens(alloc, statement, &failure, action)?;
+    if session.is_full(&tokens) {
+        Ok(Failure::plain(RESULT_FULL))
+    } else {
+        Ok(failure)
     }
 }
 
@@ -123,25 +145,25 @@ fn act<P: Port>(
     session: &mut SessionState,
     port: &mut P,
     statement: &Served,
-    number: u16,
+    failure: &Failure,
 ) -> Result<Exit, Memory>
     requires ready { Ready session.old (P.past port.old) }
-    ensures does { Did (P.past port.old) (P.past port.new) (acted statement.now number) session.old result session.new }
+    ensures does { Did (P.past port.old) (P.past port.new) (acted statement.now failure.now) session.old result session.new }
     ensures ready { Ready session.new (P.past port.new) }
 {
-    let action = action_for(&statement.form, number);
-    let tokens = failure_tokens(alloc, statement, number, action)?;
+    let action = action_for(&statement.form, failure);
+    let tokens = failure_tokens(alloc, statement, failure, action)?;
     session.send(tokens)?;
     Ok(end_by(session, port, action))
 }
 
 /// What an error of a statement ends; a text that is refused ends its batch alone.
-fn action_for(statement: &Form, number: u16) -> Action
-    ensures { result ≡ action_for statement.now number }
+fn action_for(statement: &Form, failure: &Failure) -> Action
+    ensures { result ≡ action_for statement.now failure.now }
 {
     match statement {
         Form::Refused { .. } => Action::Batch,
-        _ => action_of(i32::from(number), RaisedBy::Engine, false, false),
+        _ => action_of(failure.number, RaisedBy::Engine, false, false),
     }
 }
 
@@ -162,31 +184,61 @@ fn end_by<P: Port>(session: &mut SessionState, port: &mut P, action: Action) -> 
     }
 }
 
-/// What comes of a statement: what it did, or the number of its error.
+/// What comes of a statement: the tokens that are sent for it, or why it failed.
 fn come<P: Port>(
     alloc: Global,
     session: &mut SessionState,
     port: &mut P,
     statement: &Form,
-) -> Result<Effect, u16>
+) -> Result<TokenList, Failure>
     requires ready { Ready session.old (P.past port.old) }
     ensures does { Did (P.past port.old) (P.past port.new) (came_of statement.now) session.old (Ok result) session.new }
     ensures ready { Ready session.new (P.past port.new) }
-    ensures sendable { IfOk result IsSendable }
 {
     match statement {
-        Form::SelectNumber { number } => Ok(Effect::Number(*number)),
+        Form::Query { statement: of } => come_of_query(alloc, session, port, statement, of),
         Form::CreateTable { name, .. } => {
             come_unless_objects(alloc, session, port, statement, name, OBJECT_PRESENT)
         }
         Form::Insert { name, .. } => {
             come_unless_objects(alloc, session, port, statement, name, UNKNOWN_TABLE)
         }
-        Form::SelectTable { name } => {
-            come_unless_objects(alloc, session, port, statement, name, UNKNOWN_TABLE)
-        }
-        Form::NotBuilt => Err(NOT_BUILT),
-        Form::Refused { code, .. } => Err(*code),
+        Form::NotBuilt => Err(Failure::plain(NOT_BUILT)),
+        Form::Refused { code, .. } => Err(Failure::plain(*code)),
+    }
+}
+
+/// What comes of a SELECT; where it names no table nothing is asked.
+fn come_of_query<P: Port>(
+    alloc: Global,
+    session: &mut SessionState,
+    port: &mut P,
+    form: &Form,
+    statement: &Statement,
+) -> Result<TokenList, Failure>
+    requires ready { Ready session.old (P.past port.old) }
+    requires form { form.now ≡ Query statement.now }
+    ensures does { Did (P.past port.old) (P.past port.new) (came_of form.now) session.old (Ok result) session.new }
+    ensures ready { Ready session.new (P.past port.new) }
+{
+    match names_any(alloc, statement) {
+        Ok(true) => run_own(alloc, session, port, form),
+        Ok(false) => match answered_alone(alloc, statement) {
+            Ok(tokens) => if_room(session, tokens),
+            Err(failure) => Err(failure),
+        },
+        Err(_) => Err(Failure::plain(NO_MEMORY)),
+    }
+}
+
+/// Tokens that the batch may still send; too many bytes are an error.
+fn if_room(session: &SessionState, tokens: TokenList) -> Result<TokenList, Failure>
+    ensures { result ≡ roomed tokens session.now }
+{
+    if session.is_full(&tokens) {
+        Err(Failure::plain(RESULT_FULL))
+    } else {
+        Ok(tokens)
     }
 }
 
@@ -198,14 +250,13 @@ fn come_unless_objects<P: Port>(
     statement: &Form,
     name: &Units,
     number: u16,
-) -> Result<Effect, u16>
+) -> Result<TokenList, Failure>
     requires ready { Ready session.old (P.past port.old) }
     ensures does { Did (P.past port.old) (P.past port.new) (unless_objects name.now number (work_of statement.now)) session.old (Ok result) session.new }
     ensures ready { Ready session.new (P.past port.new) }
-    ensures sendable { IfOk result IsSendable }
 {
     if is_objects(name) {
-        return Err(number);
+        return Err(Failure::plain(number));
     }
     run_own(alloc, session, port, statement)
 }
@@ -216,11 +267,10 @@ fn run_own<P: Port>(
     session: &mut SessionState,
     port: &mut P,
     statement: &Form,
-) -> Result<Effect, u16>
+) -> Result<TokenList, Failure>
     requires ready { Ready session.old (P.past port.old) }
     ensures does { Did (P.past port.old) (P.past port.new) (own (work_of statement.now)) session.old (Ok result) session.new }
     ensures ready { Ready session.new (P.past port.new) }
-    ensures sendable { IfOk result IsSendable }
 {
     if session.in_transaction() {
         let came = work(alloc, session, port, statement);
@@ -234,7 +284,7 @@ fn run_own<P: Port>(
             close(session, port, came.is_ok());
             came
         }
-        Reply::Memory => Err(NO_MEMORY),
+        Reply::Memory => Err(Failure::plain(NO_MEMORY)),
         _ => unreachable!(),
     }
 }
@@ -275,27 +325,42 @@ fn close<P: Port>(session: &mut SessionState, port: &mut P, succeeded: bool)
     }
 }
 
-/// What a statement does within a transaction.
+/// What a statement does within a transaction, and what is sent for it.
 fn work<P: Port>(
     alloc: Global,
     session: &mut SessionState,
     port: &mut P,
     statement: &Form,
-) -> Result<Effect, u16>
+) -> Result<TokenList, Failure>
     requires ready { Ready session.old (P.past port.old) }
     requires begun { session.old.is_open ≡ true }
     ensures does { Did (P.past port.old) (P.past port.new) (work_of statement.now) session.old (Ok result) session.new }
     ensures ready { Ready session.new (P.past port.new) }
     ensures begun { session.new.is_open ≡ true }
-    ensures sendable { IfOk result IsSendable }
+{
+    let tokens = run(alloc, session, port, statement)?;
+    if_room(session, tokens)
+}
+
+/// What a statement does within a transaction.
+fn run<P: Port>(
+    alloc: Global,
+    session: &mut SessionState,
+    port: &mut P,
+    statement: &Form,
+) -> Result<TokenList, Failure>
+    requires ready { Ready session.old (P.past port.old) }
+    requires begun { session.old.is_open ≡ true }
+    ensures does { Did (P.past port.old) (P.past port.new) (done_for statement.now) session.old (Ok result) session.new }
+    ensures ready { Ready session.new (P.past port.new) }
+    ensures begun { session.new.is_open ≡ true }
 {
     match statement {
-        Form::SelectNumber { number } => Ok(Effect::Number(*number)),
+        Form::Query { statement } => select(alloc, session, port, statement),
         Form::CreateTable { name, text } => create(alloc, session, port, name, text),
         Form::Insert { name, key, value } => insert(alloc, session, port, name, *key, *value),
-        Form::SelectTable { name } => select(alloc, session, port, name),
-        Form::NotBuilt => Err(NOT_BUILT),
-        Form::Refused { code, .. } => Err(*code),
+        Form::NotBuilt => Err(Failure::plain(NOT_BUILT)),
+        Form::Refused { code, .. } => Err(Failure::plain(*code)),
     }
 }
 
@@ -306,16 +371,15 @@ fn create<P: Port>(
     port: &mut P,
     name: &Units,
     text: &Units,
-) -> Result<Effect, u16>
+) -> Result<TokenList, Failure>
     requires ready { Ready session.old (P.past port.old) }
     requires begun { session.old.is_open ≡ true }
     ensures does { Did (P.past port.old) (P.past port.new) (creates name.now text.now) session.old (Ok result) session.new }
     ensures ready { Ready session.new (P.past port.new) }
     ensures begun { session.new.is_open ≡ true }
-    ensures sendable { IfOk result IsSendable }
 {
     put_object(alloc, session, port, name, text)?;
-    Ok(Effect::Created)
+    Ok(no_tokens(alloc))
 }
 
 /// Adds a row to a table.
@@ -326,114 +390,43 @@ fn insert<P: Port>(
     name: &Units,
     key: i64,
     value: i64,
-) -> Result<Effect, u16>
+) -> Result<TokenList, Failure>
     requires ready { Ready session.old (P.past port.old) }
     requires begun { session.old.is_open ≡ true }
     ensures does { Did (P.past port.old) (P.past port.new) (inserts name.now key value) session.old (Ok result) session.new }
     ensures ready { Ready session.new (P.past port.new) }
     ensures begun { session.new.is_open ≡ true }
-    ensures sendable { IfOk result IsSendable }
 {
-    look_up(alloc, session, port, name)?;
+    find(alloc, session, port, name)?;
     look_for_triggers(alloc, session, port)?;
     put_row(alloc, session, port, name, key, value)?;
-    Ok(Effect::Inserted)
+    sent_for_row(alloc)
 }
 
-/// Selects the rows of a table.
-fn select<P: Port>(
-    alloc: Global,
-    session: &mut SessionState,
-    port: &mut P,
-    name: &Units,
-) -> Result<Effect, u16>
-    requires ready { Ready session.old (P.past port.old) }
-    requires begun { session.old.is_open ≡ true }
-    ensures does { Did (P.past port.old) (P.past port.new) (selects name.now) session.old (Ok result) session.new }
-    ensures ready { Ready session.new (P.past port.new) }
-    ensures begun { session.new.is_open ≡ true }
-    ensures sendable { IfOk result IsSendable }
-{
-    look_up(alloc, session, port, name)?;
-    let rows = read_table(alloc, session, port, name)?;
-    if rows.len() <= RESULT_LIMIT {
-        Ok(Effect::Selected(rows))
-    } else {
-        Err(RESULT_FULL)
-    }
-}
-
-/// Looks up a table's definition.
-fn look_up<P: Port>(
-    alloc: Global,
-    session: &mut SessionState,
-    port: &mut P,
-    name: &Units,
-) -> Result<(), u16>
-    requires ready { Ready session.old (P.past port.old) }
-    requires begun { session.old.is_open ≡ true }
-    ensures does { Did (P.past port.old) (P.past port.new) (look_up name.now) session.old (Ok result) session.new }
-    ensures ready { Ready session.new (P.past port.new) }
-    ensures begun { session.new.is_open ≡ true }
-{
-    match object_range(alloc, name) {
-        Ok((table, start, stop)) => find(alloc, session, port, table, start, stop, name),
-        Err(_) => Err(NO_MEMORY),
-    }
-}
-
-/// Finds the definition of this name in a range of a table.
+/// Looks up the table that a row is inserted into.
 fn find<P: Port>(
     alloc: Global,
     session: &mut SessionState,
     port: &mut P,
-    table: TableName,
-    start: Key,
-    stop: Key,
     name: &Units,
-) -> Result<(), u16>
+) -> Result<(), Failure>
     requires ready { Ready session.old (P.past port.old) }
     requires begun { session.old.is_open ≡ true }
-    ensures does { Did (P.past port.old) (P.past port.new) (asks (ops.Fetch table (At start) (Within stop) hold.Range S) (unless_refused (known name.now))) session.old (Ok result) session.new }
+    ensures does { Did (P.past port.old) (P.past port.new) (finds name.now) session.old (Ok result) session.new }
     ensures ready { Ready session.new (P.past port.new) }
     ensures begun { session.new.is_open ≡ true }
 {
-    let fetch = Op::Fetch {
-        table,
-        start: Start::At(start),
-        stop: Stop::Within(stop),
-        hold: Hold::Range,
-        part: KeyPart::S,
-    };
-    match session.ask(port, &fetch) {
-        Reply::Row { key, row, .. } => define_in(alloc, name, &key, &row),
-        Reply::Gone { .. } => Err(UNKNOWN_TABLE),
-        Reply::End { .. } => Err(UNKNOWN_TABLE),
-        Reply::Memory => Err(NO_MEMORY),
-        Reply::TimedOut { .. } => Err(LOCK_TIMEOUT),
-        Reply::Victim { .. } => Err(DEADLOCK),
-        _ => unreachable!(),
-    }
+    let found = look_up(alloc, session, port, name)?;
+    as_served(name, &found)
 }
 
-/// Reads the text in a row as that of the definition of a table of this name.
-fn define_in(alloc: Global, name: &Units, key: &Key, row: &Row) -> Result<(), u16>
-    ensures { DefinedBy name.now (text_in name.now key.now row.now) result }
+/// What is sent for a row.
+fn sent_for_row(alloc: Global) -> Result<TokenList, Failure>
+    ensures { IsOrMemory (Ok inserted_tokens) result }
 {
-    match text_in(name, key, row) {
-        Some(text) => define(alloc, name, text),
-        None => Err(UNKNOWN_TABLE),
-    }
-}
-
-/// Reads a text as that of the definition of a table of this name.
-fn define(alloc: Global, name: &Units, text: &Units) -> Result<(), u16>
-    ensures read { IsRead name.now text.now result }
-{
-    match is_definition(alloc, name, text) {
-        Ok(true) => Ok(()),
-        Ok(false) => Err(UNKNOWN_TABLE),
-        Err(_) => Err(NO_MEMORY),
+    match inserted_tokens(alloc) {
+        Ok(tokens) => Ok(tokens),
+        Err(_) => Err(Failure::plain(NO_MEMORY)),
     }
 }
 
@@ -442,36 +435,16 @@ fn look_for_triggers<P: Port>(
     alloc: Global,
     session: &mut SessionState,
     port: &mut P,
-) -> Result<RowList, u16>
+) -> Result<RowList, Failure>
     requires ready { Ready session.old (P.past port.old) }
     requires begun { session.old.is_open ≡ true }
-    ensures does { Did (P.past port.old) (P.past port.new) (reads_rows objects_name hold.Range) session.old (Ok result) session.new }
+    ensures does { Did (P.past port.old) (P.past port.new) (reads_rows None (table_of objects_name) hold.Range) session.old (Ok result) session.new }
     ensures ready { Ready session.new (P.past port.new) }
     ensures begun { session.new.is_open ≡ true }
 {
     match objects(alloc) {
-        Ok(table) => read_rows(alloc, session, port, table, Hold::Range),
-        Err(_) => Err(NO_MEMORY),
-    }
-}
-
-/// Reads the rows of the table of this name, each row's lock alone.
-fn read_table<P: Port>(
-    alloc: Global,
-    session: &mut SessionState,
-    port: &mut P,
-    name: &Units,
-) -> Result<RowList, u16>
-    requires ready { Ready session.old (P.past port.old) }
-    requires begun { session.old.is_open ≡ true }
-    ensures does { Did (P.past port.old) (P.past port.new) (reads_rows name.now hold.Row) session.old (Ok result) session.new }
-    ensures ready { Ready session.new (P.past port.new) }
-    ensures begun { session.new.is_open ≡ true }
-    ensures fit { IfOk result AreTableRows }
-{
-    match table(alloc, name) {
-        Ok(table) => read_rows(alloc, session, port, table, Hold::Row),
-        Err(_) => Err(NO_MEMORY),
+        Ok(table) => read_rows(alloc, session, port, None, table, Hold::Range),
+        Err(_) => Err(Failure::plain(NO_MEMORY)),
     }
 }
 
@@ -482,16 +455,16 @@ fn put_object<P: Port>(
     port: &mut P,
     name: &Units,
     text: &Units,
-) -> Result<(), u16>
+) -> Result<(), Failure>
     requires ready { Ready session.old (P.past port.old) }
     requires begun { session.old.is_open ≡ true }
-    ensures does { Did (P.past port.old) (P.past port.new) (puts (table_of objects_name) (object_key name.now) (object_row name.now text.now) object_present) session.old (Ok result) session.new }
+    ensures does { Did (P.past port.old) (P.past port.new) (puts (table_of objects_name) (object_key name.now) (row_of name.now text.now) object_present) session.old (Ok result) session.new }
     ensures ready { Ready session.new (P.past port.new) }
     ensures begun { session.new.is_open ≡ true }
 {
     match object_change(alloc, name, text) {
         Ok((table, key, row)) => put(session, port, table, key, row, OBJECT_PRESENT),
-        Err(_) => Err(NO_MEMORY),
+        Err(_) => Err(Failure::plain(NO_MEMORY)),
     }
 }
 
@@ -503,7 +476,7 @@ fn put_row<P: Port>(
     name: &Units,
     key: i64,
     value: i64,
-) -> Result<(), u16>
+) -> Result<(), Failure>
     requires ready { Ready session.old (P.past port.old) }
     requires begun { session.old.is_open ≡ true }
     ensures does { Did (P.past port.old) (P.past port.new) (puts (table_of name.now) (table_key key) (table_row key value) duplicate_key) session.old (Ok result) session.new }
@@ -512,7 +485,7 @@ fn put_row<P: Port>(
 {
     match table_change(alloc, name, key, value) {
         Ok((table, key, row)) => put(session, port, table, key, row, DUPLICATE_KEY),
-        Err(_) => Err(NO_MEMORY),
+        Err(_) => Err(Failure::plain(NO_MEMORY)),
     }
 }
 
@@ -524,7 +497,7 @@ fn put<P: Port>(
     key: Key,
     row: Row,
     present: u16,
-) -> Result<(), u16>
+) -> Result<(), Failure>
     requires ready { Ready session.old (P.past port.old) }
     requires begun { session.old.is_open ≡ true }
     ensures does { Did (P.past port.old) (P.past port.new) (asks ops.Mark (unless_refused (marked (asks (ops.Insert table key row) (unless_refused (placed present)))))) session.old (Ok result) session.new }
@@ -533,7 +506,7 @@ fn put<P: Port>(
 {
     match session.ask(port, &Op::Mark) {
         Reply::Marked(_) => insert_row(session, port, table, key, row, present),
-        Reply::Memory => Err(NO_MEMORY),
+        Reply::Memory => Err(Failure::plain(NO_MEMORY)),
         _ => unreachable!(),
     }
 }
@@ -546,7 +519,7 @@ fn insert_row<P: Port>(
     key: Key,
     row: Row,
     present: u16,
-) -> Result<(), u16>
+) -> Result<(), Failure>
     requires ready { Ready session.old (P.past port.old) }
     requires begun { session.old.is_open ≡ true }
     ensures does { Did (P.past port.old) (P.past port.new) (asks (ops.Insert table key row) (unless_refused (placed present))) session.old (Ok result) session.new }
@@ -555,33 +528,22 @@ fn insert_row<P: Port>(
 {
     match session.ask(port, &Op::Insert { table, key, row }) {
         Reply::Done => Ok(()),
-        Reply::Exists => Err(present),
-        Reply::Memory => Err(NO_MEMORY),
-        Reply::TimedOut { .. } => Err(LOCK_TIMEOUT),
-        Reply::Victim { .. } => Err(DEADLOCK),
+        Reply::Exists => Err(Failure::plain(present)),
+        Reply::Memory => Err(Failure::plain(NO_MEMORY)),
+        Reply::TimedOut { .. } => Err(Failure::plain(LOCK_TIMEOUT)),
+        Reply::Victim { .. } => Err(Failure::plain(DEADLOCK)),
         _ => unreachable!(),
     }
 }
 
-/// The table of definitions, and twice a definition's key.
-fn object_range(alloc: Global, name: &Units) -> Result<(TableName, Key, Key), Memory>
-    ensures { IfOk result (λ range. range ≡ (table_of objects_name, object_key name.now, object_key name.now)) }
-{
-    Ok((
-        objects(alloc)?,
-        object_key(alloc, name)?,
-        object_key(alloc, name)?,
-    ))
-}
-
 /// The table of definitions, and a definition's key and row.
 fn object_change(alloc: Global, name: &Units, text: &Units) -> Result<(TableName, Key, Row), Memory>
-    ensures { IfOk result (λ change. change ≡ (table_of objects_name, object_key name.now, object_row name.now text.now)) }
+    ensures { IfOk result (λ change. change ≡ (table_of objects_name, object_key name.now, row_of name.now text.now)) }
 {
     Ok((
         objects(alloc)?,
         object_key(alloc, name)?,
-        object_row(alloc, name, text)?,
+        row_of(alloc, name, text)?,
     ))
 }
 
@@ -599,4 +561,28 @@ fn table_change(
         table_key(alloc, key)?,
         table_row(alloc, key, value)?,
     ))
+}
+
+/// The table of this name.
+fn table(alloc: Global, name: &Units) -> Result<TableName, Memory>
+    ensures { IfOk result (λ table. table ≡ table_of name.now) }
+{
+    Ok(TableName {
+        object: name.copy(alloc)?,
+        part: 0,
+    })
+}
+
+/// The key of a table's row.
+fn table_key(alloc: Global, key: i64) -> Result<Key, Memory>
+    ensures { IfOk result (λ made. made ≡ table_key key) }
+{
+    Ok(Key::new(vec![in alloc; Value::Whole(key)]?))
+}
+
+/// A table's row.
+fn table_row(alloc: Global, key: i64, value: i64) -> Result<Row, Memory>
+    ensures { IfOk result (λ row. row ≡ table_row key value) }
+{
+    Ok(Row::from(vec![in alloc; Value::Whole(key), Value::Whole(value)]?))
 }

@@ -1,64 +1,41 @@
 //! The tokens that answer a statement.
 
-ghost use Rattle.std.specs.Prelude.{◌≡◌, ◌++◌, ◌<◌, [], All, take, IfOk};
+ghost use Rattle.std.specs.Prelude.{◌≡◌, ◌++◌, ◌∷◌, ◌<◌, [], All, take, IfOk};
 ghost use Rattle.error_table.specs.Table.{row_of};
 ghost use Rattle.error_table.specs.Text.{text_with};
-ghost use Rattle.batch_exec.specs.Sendable.{IsFit, IsSendable};
-ghost use Rattle.batch_meaning.specs.Tokens.{error_of, name_in, subject_of, command_of, statement_done, statement_failed, batch_done, number_type, number_column, table_columns, row_tokens, result_tokens, effect_tokens, failure_token, failure_tokens};
+ghost use Rattle.batch_exec.specs.Sendable.{IsResult};
+ghost use Rattle.batch_meaning.specs.Tokens.{error_of, name_in, own_subject, subject_of, command_of, statement_done, statement_failed, batch_done, row_tokens, result_tokens, inserted_tokens, failure_token, failure_tokens};
 
 use crate::numbers::DUPLICATE_KEY;
-use crate::tables::around;
-use batch_meaning::{Effect, Exit, Form, Served};
+use crate::sendable::TokenList;
+use batch_meaning::{Exit, Failure, Form, Served};
 use error_table::{Action, parts_of, row_of};
 use std::alloc::Global;
 use tds_tokens::{
-    COMMAND_INSERT, COMMAND_NONE, COMMAND_SELECT, ColumnInfo, ColumnList, DONE_COUNT, DONE_ERROR,
-    DONE_FINAL, DONE_MORE, DoneKind, Notice, Token,
+    COMMAND_INSERT, COMMAND_NONE, COMMAND_SELECT, ColumnList, DONE_COUNT, DONE_ERROR, DONE_FINAL,
+    DONE_MORE, DoneKind, Notice, Token,
 };
-use value_types::{Memory, Row, SqlType, Units, Value};
+use value_types::{Memory, Row, Units};
 
 // ---- what a statement sends
 
-/// What a statement sends where it succeeds. The tokens have bytes.
-pub(crate) fn effect_tokens(
-    alloc: Global,
-    statement: &Form,
-    effect: Effect,
-) -> Result<Vec<Token>, Memory>
-    requires sendable { IsSendable effect }
-    ensures tokens { IfOk result (λ tokens. tokens.items ≡ effect_tokens statement.now effect) }
-    ensures fit { IfOk result (λ tokens. IsFit tokens.items) }
-{
-    tokens_of(alloc, statement, effect)
-}
-
-/// What a statement sends that has done this.
-fn tokens_of(alloc: Global, statement: &Form, effect: Effect) -> Result<Vec<Token>, Memory>
-    ensures { IfOk result (λ tokens. tokens.items ≡ effect_tokens statement.now effect) }
-{
-    match effect {
-        Effect::Number(number) => {
-            let rows = vec![in alloc; Row::from(vec![in alloc; Value::Whole(number)]?)]?;
-            result_tokens(alloc, statement, number_column(alloc, number)?, rows)
-        }
-        Effect::Created => Ok(Vec::new(alloc)),
-        Effect::Inserted => Ok(vec![in alloc; statement_done(statement, 1)]?),
-        Effect::Selected(rows) => {
-            result_tokens(alloc, statement, table_columns(alloc)?, rows.into_vec())
-        }
-    }
-}
-
 /// A result: its columns, its rows and their count.
-fn result_tokens(
+pub(crate) fn result_tokens(
     alloc: Global,
-    statement: &Form,
     columns: ColumnList,
     rows: Vec<Row>,
-) -> Result<Vec<Token>, Memory>
-    ensures { IfOk result (λ tokens. tokens.items ≡ result_tokens statement.now columns rows.items) }
+) -> Result<TokenList, Memory>
+    requires fit { IsResult columns rows.items }
+    ensures { IfOk result (λ tokens. tokens ≡ result_tokens columns rows.items) }
 {
-    let ended = statement_done(statement, rows.len() as u64);
+    Ok(TokenList::new(tokens_of(alloc, columns, rows)?))
+}
+
+/// The same as tokens alone.
+fn tokens_of(alloc: Global, columns: ColumnList, rows: Vec<Row>) -> Result<Vec<Token>, Memory>
+    ensures { IfOk result (λ tokens. tokens.items ≡ result_tokens columns rows.items) }
+{
+    let ended = statement_done(COMMAND_SELECT, rows.len() as u64);
     let mut tokens = vec![in alloc; Token::Columns(columns)]?;
     push_rows(&mut tokens, rows)?;
     tokens.push(ended)?;
@@ -76,50 +53,27 @@ fn push_rows(tokens: &mut Vec<Token>, rows: Vec<Row>) -> Result<(), Memory>
     Ok(())
 }
 
-/// The type of a number.
-fn number_type(number: i64) -> SqlType
-    ensures { result ≡ number_type number }
+/// A row was inserted.
+pub(crate) fn inserted_tokens(alloc: Global) -> Result<TokenList, Memory>
+    ensures { IfOk result (λ tokens. tokens ≡ inserted_tokens) }
 {
-    if i64::from(i32::MIN) <= number && number <= i64::from(i32::MAX) {
-        SqlType::Int
-    } else {
-        SqlType::BigInt
-    }
+    Ok(TokenList::new(vec![in alloc; statement_done(COMMAND_INSERT, 1)]?))
 }
 
-/// The column of a selected number, which has no name.
-fn number_column(alloc: Global, number: i64) -> Result<ColumnList, Memory>
-    ensures { IfOk result (λ columns. columns ≡ number_column number) }
+/// Nothing.
+pub(crate) fn no_tokens(alloc: Global) -> TokenList
+    ensures { result ≡ [] }
 {
-    let column = ColumnInfo {
-        kind: number_type(number),
-        name: Units::new(alloc),
-    };
-    Ok(ColumnList::from(vec![in alloc; column]?))
-}
-
-/// The columns of a table.
-fn table_columns(alloc: Global) -> Result<ColumnList, Memory>
-    ensures { IfOk result (λ columns. columns ≡ table_columns) }
-{
-    let key = ColumnInfo {
-        kind: SqlType::Int,
-        name: Units::of_ascii(alloc, b"k")?,
-    };
-    let value = ColumnInfo {
-        kind: SqlType::Int,
-        name: Units::of_ascii(alloc, b"v")?,
-    };
-    Ok(ColumnList::from(vec![in alloc; key, value]?))
+    TokenList::new(Vec::new(alloc))
 }
 
 // ---- DONE
 
-/// A statement's end with its count, where more follows.
-fn statement_done(statement: &Form, rows: u64) -> Token
-    ensures { result ≡ statement_done statement.now rows }
+/// The end with its count of a statement of a command, where more follows.
+fn statement_done(command: u16, rows: u64) -> Token
+    ensures { result ≡ statement_done command rows }
 {
-    done(DONE_MORE | DONE_COUNT, command_of(statement), rows)
+    done(DONE_MORE | DONE_COUNT, command, rows)
 }
 
 /// A statement's end with an error, where more follows.
@@ -130,7 +84,13 @@ fn statement_failed(statement: &Form) -> Token
 }
 
 /// A batch's end.
-pub(crate) fn batch_done(exit: Exit) -> Token
+pub(crate) fn batch_end(alloc: Global, exit: Exit) -> Result<TokenList, Memory>
+    ensures { IfOk result (λ tokens. tokens ≡ batch_done exit ∷ []) }
+{
+    Ok(TokenList::new(vec![in alloc; batch_done(exit)]?))
+}
+
+fn batch_done(exit: Exit) -> Token
     ensures { result ≡ batch_done exit }
 {
     match exit {
@@ -156,7 +116,7 @@ fn command_of(statement: &Form) -> u16
     ensures { result ≡ command_of statement.now }
 {
     match statement {
-        Form::SelectNumber { .. } | Form::SelectTable { .. } => COMMAND_SELECT,
+        Form::Query { .. } => COMMAND_SELECT,
         Form::Insert { .. } => COMMAND_INSERT,
         Form::CreateTable { .. } | Form::NotBuilt | Form::Refused { .. } => COMMAND_NONE,
     }
@@ -164,29 +124,30 @@ fn command_of(statement: &Form) -> u16
 
 // ---- errors
 
-/// What a statement sends where it fails, by what its error ends. The tokens have bytes.
+/// What a statement sends where it fails, by what its error ends.
 pub(crate) fn failure_tokens(
     alloc: Global,
     statement: &Served,
-    number: u16,
+    failure: &Failure,
     action: Action,
-) -> Result<Vec<Token>, Memory>
-    ensures tokens { IfOk result (λ tokens. tokens.items ≡ failure_tokens statement.now number action) }
-    ensures fit { IfOk result (λ tokens. IsFit tokens.items) }
+) -> Result<TokenList, Memory>
+    ensures { IfOk result (λ tokens. tokens ≡ failure_tokens statement.now failure.now action) }
 {
-    tokens_of_failure(alloc, statement, number, action)
+    Ok(TokenList::new(tokens_of_failure(
+        alloc, statement, failure, action,
+    )?))
 }
 
 /// An error, and the end of its statement where the batch goes on.
 fn tokens_of_failure(
     alloc: Global,
     statement: &Served,
-    number: u16,
+    failure: &Failure,
     action: Action,
 ) -> Result<Vec<Token>, Memory>
-    ensures { IfOk result (λ tokens. tokens.items ≡ failure_tokens statement.now number action) }
+    ensures { IfOk result (λ tokens. tokens.items ≡ failure_tokens statement.now failure.now action) }
 {
-    let error = failure_token(alloc, statement, number)?;
+    let error = failure_token(alloc, statement, failure)?;
     match action {
         Action::Batch => Ok(vec![in alloc; error]?),
         Action::BatchAndTransaction => Ok(vec![in alloc; error]?),
@@ -196,22 +157,36 @@ fn tokens_of_failure(
 }
 
 /// The ERROR of a statement.
-fn failure_token(alloc: Global, statement: &Served, number: u16) -> Result<Token, Memory>
-    ensures { IfOk result (λ token. token ≡ failure_token statement.now number) }
+fn failure_token(alloc: Global, statement: &Served, failure: &Failure) -> Result<Token, Memory>
+    ensures { IfOk result (λ token. token ≡ failure_token statement.now failure.now) }
 {
     error_of(
         alloc,
-        i32::from(number),
-        subject_of(alloc, &statement.form, number)?,
+        failure.number,
+        subject_of(alloc, &statement.form, failure)?,
         statement.line,
     )
 }
 
-/// What an error of a statement names: the table, or the constraint of its key.
-fn subject_of(alloc: Global, statement: &Form, number: u16) -> Result<Units, Memory>
-    ensures { IfOk result (λ subject. subject ≡ subject_of statement.now number) }
+/// What an error's text names.
+fn subject_of(alloc: Global, statement: &Form, failure: &Failure) -> Result<Units, Memory>
+    ensures { IfOk result (λ subject. subject ≡ subject_of statement.now failure.now) }
 {
-    let before = if number == DUPLICATE_KEY { "PK_" } else { "" };
+    match &failure.name {
+        Some(name) => name.copy(alloc),
+        None => own_subject(alloc, statement, failure.number),
+    }
+}
+
+/// What a statement names, or the constraint of its table's key.
+fn own_subject(alloc: Global, statement: &Form, number: i32) -> Result<Units, Memory>
+    ensures { IfOk result (λ subject. subject ≡ own_subject statement.now number) }
+{
+    let before = if number == i32::from(DUPLICATE_KEY) {
+        "PK_"
+    } else {
+        ""
+    };
     around(alloc, before, name_in(statement), "")
 }
 
@@ -220,10 +195,9 @@ fn name_in(statement: &Form) -> &[u16]
     ensures { result.now ≡ name_in statement.now }
 {
     match statement {
-        Form::CreateTable { name, .. } | Form::Insert { name, .. } | Form::SelectTable { name } =>
-            name.as_slice(),
+        Form::CreateTable { name, .. } | Form::Insert { name, .. } => name.as_slice(),
         Form::Refused { near, .. } => near.as_slice(),
-        Form::SelectNumber { .. } | Form::NotBuilt => &[],
+        Form::Query { .. } | Form::NotBuilt => &[],
     }
 }
 
@@ -259,4 +233,30 @@ fn text_with(alloc: Global, text: &str, name: &[u16]) -> Result<Units, Memory>
         Some((before, behind)) => around(alloc, before, name, behind),
         None => Units::of_ascii(alloc, text.as_bytes()),
     }
+}
+
+/// A name between two parts of a text, which are ASCII.
+fn around(
+    alloc: Global,
+    before: &str,
+    name: &[u16],
+    behind: &str,
+) -> Result<Units, Memory>
+    ensures { IfOk result (λ text. text ≡ before.now ++ name.now ++ behind.now) }
+{
+    let mut units = Vec::new(alloc);
+    add_ascii(&mut units, before)?;
+    units.extend_from_slice(name)?;
+    add_ascii(&mut units, behind)?;
+    Ok(Units::from(units))
+}
+
+/// Adds the units of an ASCII text.
+fn add_ascii(units: &mut Vec<u16>, text: &str) -> Result<(), Memory>
+    ensures { IfOk result (λ _. units.new.items ≡ units.old.items ++ text.now) }
+{
+    for byte in text.as_bytes() {
+        units.push(u16::from(*byte))?;
+    }
+    Ok(())
 }

@@ -1,12 +1,11 @@
-//! The form of a batch by its tree: which statements a text is read as, and which tables a definition's text
-//! defines.
+//! The form of a batch by its tree: which statements a text is read as, and which definitions are of tables
+//! that rows may be inserted into.
 //!
 //! What a text is read as is defined in `batch_meaning`, by the trees that `stmt_parser` gives. The layer above
-//! relies on [`read_statements`], which gives the statements that a text is read as, and on [`is_definition`],
-//! which tells whether a text is that of the definition of a table of a name. Nothing is asked of the caller.
-//! Only tests show that memory is not said to be wanting where there is enough.
+//! relies on [`read_statements`], which gives the statements that a text is read as, and on [`as_served`].
+//! Nothing is asked of the caller. Only tests show that memory is not said to be wanting where there is enough.
 #![tactic(auto)]
 
 mod text;
 
-pub use text::{is_definition, read_statements};
+pub use text::{as_served, is_select, read_statements};

@@ -1,23 +1,28 @@
-//! Texts: the statements that one is read as, by their trees, and whether one is that of a table's definition.
+//! Texts: the statements that one is read as, by their trees.
 
-ghost use Rattle.std.specs.Prelude.{◌≡◌, ◌++◌, ◌≤◌, ◌<◌, ◌&&◌, All, Some, Err, IfOk, length, nat_le};
-ghost use Rattle.std.specs.Option.{option_map};
+ghost use Rattle.std.specs.Prelude.{◌≡◌, ◌++◌, ◌≤◌, ◌<◌, ◌&&◌, ◌^◌, false, if◌then◌else◌, All, Some, Err, IfOk, map, length, nat_le};
+ghost use Rattle.std.specs.List.{list_all};
 ghost use Rattle.value_types.specs.Units.{same_units};
-ghost use Rattle.batch_forms.specs.Defined.{IsDefinition};
-ghost use Rattle.batch_meaning.specs.Meaning.{defines};
-ghost use Rattle.batch_meaning.specs.Statements.{defined_name, name_limit, is_int_type, is_int_column, are_columns, is_sole_name, are_keys, is_table_tree, number_in, int_in, is_column, bare_item, is_column_item, is_plain, sole_table, table_in, number_form, table_form, selected, plain_form, row_form, inserted, create_form, form_of, not_built_statement, served_at, statements_of, AreRead, ReadsAs};
+ghost use Rattle.batch_meaning.specs.Selecting.{as_served, is_named};
+ghost use Rattle.batch_meaning.specs.Statements.{served_table, name_limit, is_int_type, is_int_column, are_columns, is_sole_name, are_keys, is_table_tree, number_in, int_in, row_form, inserted, create_form, form_of, is_select_step, is_select, query_at, sole_statement, selects_of, not_built_statement, served_at, statements_of, is_system, is_of_session, is_session_function, is_open, names_session_behind, names_session, AreRead, ReadsAs};
 ghost use Rattle.batch_meaning.specs.Tables.{key_prefix};
+ghost use Rattle.tsql_tree.specs.declared.statement.Form.{out-Form};
 ghost use Rattle.tsql_tree.specs.declared.statement.Statement.{out-Statement};
 ghost use Rattle.query_parser.specs.declared.fault.ParseFault.TheVariants.{Refused as RefusedFault};
 
-use batch_meaning::{Form, Served};
+use batch_meaning::{Failure, Form, Served};
+use sqlite_items::Items;
 use std::alloc::Global;
-use stmt_parser::{ParseFault, parse_batch, parse_definition};
+use stmt_parser::{ParseFault, parse_batch};
+use tsql_grammar::{Function, Kind, kind_of};
+use tsql_lexer::{Sign, Spanned, lexing_of};
 use tsql_tree::{
-    Batch, ColumnTree, Definition, Expr, Form as TreeForm, FromClause, InsertRows, Item, Join,
-    KeyTree, Select, Statement, TableRef, TableTree,
+    Batch, ColumnTree, Definition, Expr, Form as TreeForm, InsertRows, KeyTree, Statement, TableTree,
 };
 use value_types::{Memory, SqlType, Units};
+
+/// The error of a table that is not there.
+const UNKNOWN_TABLE: u16 = 208;
 
 /// The most units of a name.
 const NAME_LIMIT: usize = 128;
@@ -30,15 +35,21 @@ pub fn read_statements(alloc: Global, text: &Units) -> Result<Vec<Served>, Memor
     ensures read { IfOk result (λ statements. ReadsAs text.now statements.items) }
 {
     match parse_batch(alloc, text) {
-        Ok(batch) => statements_of(alloc, &batch),
-        Err(ParseFault::Refused { number, line, near }) => refused(alloc, number, line, near),
+        Ok(batch) => statements_of(alloc, text, batch),
+        Err(ParseFault::Refused { number, line, near }) => refused(alloc, text, number, line, near),
         Err(ParseFault::Memory) => Err(Memory),
     }
 }
 
 /// The one statement of a text that is refused, which tells why.
-fn refused(alloc: Global, number: i32, line: u32, near: Units) -> Result<Vec<Served>, Memory>
-    ensures { IfOk result (λ statements. AreRead (Err (RefusedFault number line near)) statements.items) }
+fn refused(
+    alloc: Global,
+    text: &Units,
+    number: i32,
+    line: u32,
+    near: Units,
+) -> Result<Vec<Served>, Memory>
+    ensures { IfOk result (λ statements. AreRead text.now (Err (RefusedFault number line near)) statements.items) }
 {
     let Ok(code) = u16::try_from(number) else {
         return Err(Memory);
@@ -50,17 +61,88 @@ fn refused(alloc: Global, number: i32, line: u32, near: Units) -> Result<Vec<Ser
     Ok(vec![in alloc; Served { line, form }]?)
 }
 
-/// The statements of a batch.
-fn statements_of(alloc: Global, batch: &Batch) -> Result<Vec<Served>, Memory>
-    ensures { IfOk result (λ statements. statements.items ≡ statements_of batch.now) }
+/// The statements of a batch of this text.
+fn statements_of(alloc: Global, text: &Units, batch: Batch) -> Result<Vec<Served>, Memory>
+    ensures { IfOk result (λ statements. statements.items ≡ statements_of (names_session text.now) batch) }
 {
     match batch {
         Batch::Definition(_, _, _) => Ok(vec![in alloc; not_built()]?),
-        Batch::Body(body) => match body.as_slice() {
-            [] => Ok(Vec::new(alloc)),
-            [statement] => Ok(vec![in alloc; served(alloc, statement)?]?),
-            _ => Ok(vec![in alloc; not_built()]?),
-        },
+        Batch::Body(body) => body_of(alloc, text, body),
+    }
+}
+
+/// The statements of the body of a batch: SELECTs, or a statement that stands alone.
+fn body_of(alloc: Global, text: &Units, body: Items<Statement>) -> Result<Vec<Served>, Memory>
+    ensures { IfOk result (λ statements. statements.items ≡ (if list_all is_select body then selects_of (names_session text.now) body else sole_statement body)) }
+{
+    if are_selects(body.as_slice()) {
+        selects_of(alloc, text, body)
+    } else {
+        sole_statement(alloc, body.as_slice())
+    }
+}
+
+/// Whether all statements are SELECTs.
+fn are_selects(body: &[Statement]) -> bool
+    ensures { result ≡ list_all is_select body.now }
+{
+    body.iter().all(is_select)
+}
+
+/// SELECTs, unless their text names a value of the session.
+fn selects_of(
+    alloc: Global,
+    text: &Units,
+    body: Items<Statement>,
+) -> Result<Vec<Served>, Memory>
+    ensures { IfOk result (λ statements. statements.items ≡ selects_of (names_session text.now) body) }
+{
+    if names_session(alloc, text)? {
+        Ok(vec![in alloc; not_built()]?)
+    } else {
+        queries(alloc, body)
+    }
+}
+
+/// Whether a statement is a SELECT.
+pub fn is_select(statement: &Statement) -> bool
+    ensures { result ≡ is_select statement.now }
+{
+    matches!(statement.form, TreeForm::Select(_))
+}
+
+/// SELECTs one after another.
+fn queries(alloc: Global, mut body: Items<Statement>) -> Result<Vec<Served>, Memory>
+    ensures { IfOk result (λ statements. statements.items ≡ map query_at body) }
+{
+    let mut queries = Vec::with_capacity(alloc, body.len())?;
+    while let Some(statement) = body.pop() {
+        queries.push(query_at(statement)?)?;
+    }
+    queries.reverse();
+    Ok(queries)
+}
+
+/// A SELECT at its line, which is told as an `i32`.
+fn query_at(statement: Statement) -> Result<Served, Memory>
+    ensures { IfOk result (λ served. served ≡ query_at statement) }
+{
+    match i32::try_from(statement.line) {
+        Ok(line) => Ok(Served {
+            line,
+            form: Form::Query { statement },
+        }),
+        Err(_) => Err(Memory),
+    }
+}
+
+/// One statement, of a form that is served.
+fn sole_statement(alloc: Global, body: &[Statement]) -> Result<Vec<Served>, Memory>
+    ensures { IfOk result (λ statements. statements.items ≡ sole_statement body.now) }
+{
+    match body {
+        [statement] => Ok(vec![in alloc; served(alloc, statement)?]?),
+        _ => Ok(vec![in alloc; not_built()]?),
     }
 }
 
@@ -87,16 +169,85 @@ fn served(alloc: Global, statement: &Statement) -> Result<Served, Memory>
     }
 }
 
+// ---- values of the session
+
+/// Whether a text names a value of the session. A text of 2^31 units or more is too long to be told of.
+fn names_session(alloc: Global, text: &Units) -> Result<bool, Memory>
+    ensures { IfOk result (λ names. names ≡ names_session text.now) }
+{
+    if 0x8000_0000 <= text.len() {
+        return Err(Memory);
+    }
+    let lexing = lexing_of(alloc, text)?;
+    Ok(is_among(lexing.lexemes.as_slice()))
+}
+
+/// Whether a value of the session stands among lexemes.
+fn is_among(lexemes: &[Spanned]) -> bool
+    ensures { result ≡ names_session_behind false lexemes.now }
+{
+    let mut named = false;
+    for l in lexemes {
+        let kind = kind_of(&l.lexeme);
+        if is_system(kind) || named && is_open(kind) {
+            return true;
+        }
+        named = is_session_function(kind);
+    }
+    false
+}
+
+/// Whether it is a system value.
+fn is_system(kind: Kind) -> bool
+    ensures { result ≡ is_system kind }
+{
+    matches!(
+        kind,
+        Kind::TranCount | Kind::Error | Kind::RowCount | Kind::FetchStatus
+    )
+}
+
+/// Whether it is the name of XACT_STATE, or of a function of an error.
+fn is_session_function(kind: Kind) -> bool
+    ensures { result ≡ is_session_function kind }
+{
+    match kind {
+        Kind::Function(function) => is_of_session(function),
+        _ => false,
+    }
+}
+
+fn is_of_session(function: Function) -> bool
+    ensures { result ≡ is_of_session function }
+{
+    match function {
+        Function::Cast | Function::IsNull | Function::Len => false,
+        Function::Count | Function::Sum | Function::Avg | Function::Min | Function::Max => false,
+        Function::XactState
+        | Function::ErrorNumber
+        | Function::ErrorSeverity
+        | Function::ErrorState
+        | Function::ErrorLine
+        | Function::ErrorMessage
+        | Function::ErrorProcedure => true,
+    }
+}
+
+fn is_open(kind: Kind) -> bool
+    ensures { result ≡ is_open kind }
+{
+    matches!(kind, Kind::Sign(Sign::Open))
+}
+
 // ---- definitions
 
-/// Whether a text is that of the definition of a table of this name.
-pub fn is_definition(alloc: Global, name: &Units, text: &Units) -> Result<bool, Memory>
-    ensures defined { IfOk result (λ is. IsDefinition name.now text.now is) }
+/// Whether what a name is defined as is a table that rows may be inserted into; else error 208.
+pub fn as_served(name: &Units, found: &Option<Definition>) -> Result<(), Failure>
+    ensures { result ≡ as_served name.now found.now }
 {
-    match parse_definition(alloc, text) {
-        Ok(definition) => Ok(defines(name, &definition)),
-        Err(ParseFault::Refused { .. }) => Ok(false),
-        Err(ParseFault::Memory) => Err(Memory),
+    match found {
+        Some(definition) if is_served(name, definition) => Ok(()),
+        _ => Err(Failure::plain(UNKNOWN_TABLE)),
     }
 }
 
@@ -107,7 +258,6 @@ fn form_of(alloc: Global, form: &TreeForm) -> Result<Option<Form>, Memory>
     ensures { IfOk result (λ found. found ≡ form_of form.now) }
 {
     match form {
-        TreeForm::Select(select) => plain_form(alloc, select.get()),
         TreeForm::Insert(name, columns, rows) => {
             inserted(alloc, name, columns.as_slice(), rows.get())
         }
@@ -169,123 +319,10 @@ fn row_form(alloc: Global, name: &Units, row: &[Expr]) -> Result<Option<Form>, M
     }))
 }
 
-// ---- SELECT
-
-/// The form of a SELECT where none but items and FROM stand.
-fn plain_form(alloc: Global, select: &Select) -> Result<Option<Form>, Memory>
-    ensures { IfOk result (λ found. found ≡ plain_form select.now) }
-{
-    if is_plain(select) {
-        selected(alloc, select.items.as_slice(), &select.from)
-    } else {
-        Ok(None)
-    }
-}
-
-/// Whether none but items and FROM stand.
-fn is_plain(select: &Select) -> bool
-    ensures { result ≡ is_plain select.now }
-{
-    !select.distinct
-        && select.top.is_none()
-        && select.filter.is_none()
-        && select.groups.is_empty()
-        && select.having.is_none()
-        && select.order.is_empty()
-}
-
-/// The form of these items from these tables.
-fn selected(
-    alloc: Global,
-    items: &[Item],
-    from: &Option<FromClause>,
-) -> Result<Option<Form>, Memory>
-    ensures { IfOk result (λ found. found ≡ selected items.now from.now) }
-{
-    match items {
-        [item] => Ok(number_form(item, from)),
-        [key, value] => table_form(alloc, key, value, from),
-        _ => Ok(None),
-    }
-}
-
-/// The form of one number.
-fn number_form(item: &Item, from: &Option<FromClause>) -> Option<Form>
-    ensures { result ≡ number_form item.now from.now }
-{
-    if from.is_some() {
-        return None;
-    }
-    let number = number_in(bare_item(item)?)?;
-    Some(Form::SelectNumber { number })
-}
-
-/// The form of the two columns of a table.
-fn table_form(
-    alloc: Global,
-    key: &Item,
-    value: &Item,
-    from: &Option<FromClause>,
-) -> Result<Option<Form>, Memory>
-    ensures { IfOk result (λ found. found ≡ table_form key.now value.now from.now) }
-{
-    if !is_column_item(key, "k") || !is_column_item(value, "v") {
-        return Ok(None);
-    }
-    let Some(name) = table_in(from) else {
-        return Ok(None);
-    };
-    Ok(Some(Form::SelectTable {
-        name: name.copy(alloc)?,
-    }))
-}
-
-/// The table of a FROM that has one, which is given no other name.
-fn table_in(from: &Option<FromClause>) -> Option<&Units>
-    ensures { option_map (λ name. name.now) result ≡ table_in from.now }
-{
-    match from {
-        Some(from) => sole_table(&from.first, from.joins.as_slice()),
-        None => None,
-    }
-}
-
-/// The name of a table where it is the only one.
-fn sole_table<'a>(table: &'a TableRef, joins: &[Join]) -> Option<&'a Units>
-    ensures { option_map (λ name. name.now) result ≡ sole_table table.now joins.now }
-{
-    if joins.is_empty() && table.alias.is_none() && table.name.len() <= NAME_LIMIT {
-        Some(&table.name)
-    } else {
-        None
-    }
-}
-
-/// The expression of an item that is given no name.
-fn bare_item(item: &Item) -> Option<&Expr>
-    ensures { option_map (λ expr. expr.now) result ≡ bare_item item.now }
-{
-    match item {
-        Item::Value(expr, None) => Some(expr),
-        _ => None,
-    }
-}
-
-/// Whether an item is the column of this name.
-fn is_column_item(item: &Item, name: &str) -> bool
-    requires ascii { All (λ byte. byte < 128) name.now }
-    ensures { result ≡ is_column_item name.now item.now }
-{
-    match bare_item(item) {
-        Some(expr) => is_column(expr, name),
-        None => false,
-    }
-}
-
 // ---- expressions
 
 /// The number that an expression is; parentheses round it vanish.
-#[tactic(auto, unfolding(batch_meaning::specs::Statements::operand_in))]
+#[tactic(auto, unfolding(batch_meaning::specs::Statements::number_in))]
 fn number_in(expr: &Expr) -> Option<i64>
     ensures { result ≡ number_in expr.now }
 {
@@ -308,22 +345,9 @@ fn int_in(expr: &Expr) -> Option<i64>
     }
 }
 
-/// Whether an expression is the column of this name; parentheses round it vanish.
-#[tactic(auto, unfolding(batch_meaning::specs::Statements::operand_in))]
-fn is_column(expr: &Expr, name: &str) -> bool
-    requires ascii { All (λ byte. byte < 128) name.now }
-    ensures { result ≡ is_column name.now expr.now }
-{
-    match expr {
-        Expr::Column(None, column) => column.is(name),
-        Expr::Parens(inner) => is_column(inner.get(), name),
-        _ => false,
-    }
-}
-
-/// Whether a definition is one of a table of this name.
-fn defines(name: &Units, definition: &Definition) -> bool
-    ensures { result ≡ defines name.now (defined_name definition.now) }
+/// Whether a definition is one of a table of this name that is served.
+fn is_served(name: &Units, definition: &Definition) -> bool
+    ensures { result ≡ is_named name.now (served_table definition.now) }
 {
     match definition {
         Definition::Table(table) => is_created(table) && table.name == *name,

@@ -1,5 +1,5 @@
 -- What a tree does, from what its parts do.
-use Rattle.std.proofs.Common.{◌≡◌, ℕ, Bool, true, false, if◌then◌else◌, inl, inr, List, [], ◌∷◌, ◌++◌, Result, Ok, Err, refl, sym, subst, append_assoc}
+use Rattle.std.proofs.Common.{◌≡◌, ℕ, Bool, true, false, if◌then◌else◌, inl, inr, List, [], ◌∷◌, ◌++◌, Option, Result, Ok, Err, refl, sym, subst, append_assoc}
 use Rattle.step_model.proofs.Pasts.{goes_nowhere, goes_further}
 use Rattle.std.specs.Result.{IsErr, IsErrAnd}
 use Rattle.value_types.specs.declared.memory.Memory.{Memory}
@@ -8,14 +8,14 @@ use Rattle.step_model.specs.declared.reply.Reply.{Reply}
 use Rattle.step_model.specs.Exchange.{Exchange}
 use Rattle.step_model.specs.Port.{PortPast}
 use Rattle.tsql_tree.specs.declared.definition.Definition.{Definition}
-use Rattle.query_parser.specs.declared.fault.ParseFault.{ParseFault}
-use Rattle.query_parser.specs.declared.fault.ParseFault.TheVariants as fault
-use Rattle.stmt_parser.specs.Parsed.{DefinitionOf}
+use Rattle.value_types.specs.declared.value.Value.{Value}
+use Rattle.catalog_rows.specs.Definitions.{IsDefinitionAt}
 use Rattle.batch_meaning.specs.Progress.{SessionProgress, SessionStep, made, asked}
-use Rattle.batch_meaning.specs.Doing.{Doing, over, reads, makes, parses, asks, room, never, ◌then◌, Held, Left, Came, Did, Exchanged, Leads}
+use Rattle.batch_meaning.specs.Doing.{Doing, over, reads, makes, defines, asks, room, never, ◌then◌, Held, Left, Came, Did, Exchanged, Leads}
 use Rattle.batch_meaning.specs.Meaning.{on_ok, ◌>>=◌, action_for, acted_by, acted}
 use Rattle.error_table.specs.declared.action.Action.{Action}
-use Rattle.batch_meaning.specs.declared.effect.Exit.{Exit}
+use Rattle.batch_meaning.specs.declared.exit.Exit.{Exit}
+use Rattle.batch_meaning.specs.declared.failure.Failure.{Failure}
 use Rattle.batch_meaning.specs.declared.form.Served.{Served}
 
 -- ---- fronts
@@ -25,7 +25,7 @@ unfolding Left
 left_nothing (over a) p = (refl, refl)
 left_nothing (reads look) p = left_nothing (look p) p
 left_nothing (makes step next) p = inl (refl, refl)
-left_nothing (parses text go) p = (Err fault.Memory, tt, left_nothing (go (Err fault.Memory)) p)
+left_nothing (defines key row go) p = inl (refl, refl)
 left_nothing (asks op go) p = refl
 left_nothing (room go) p = (false, left_nothing (go false) p)
 left_nothing never p = (refl, refl)
@@ -38,7 +38,7 @@ unfolding Held ◌then◌
 held_then (over c) go p mid new first second a b held more = rw (held.0) (subst (λ q. Held (go c) q second b new) held.2 (subst (λ x. Held (go x) mid second b new) held.1 more))
 held_then (reads look) go p mid new first second a b held more = held_then (look p) go p mid new first second a b held more
 held_then (makes step next) go p mid new first second a b held more = held_then next go (made step p) mid new first second a b held more
-held_then (parses text next) go p mid new first second a b held more = (held.0, held.1, held_then (next held.0) go p mid new first second a b held.2 more)
+held_then (defines key row next) go p mid new first second a b held more = (held.0, held.1, held_then (next held.0) go p mid new first second a b held.2 more)
 held_then (asks op next) go p mid new [] second a b held more = absurd held
 held_then (asks op next) go p mid new (x ∷ first) second a b held more = (held.0, held.1, held.2, held_then (next x.reply) go (asked op x.reply p) mid new first second a b held.3 more)
 held_then (room next) go p mid new first second a b held more = (held.0, held_then (next held.0) go p mid new first second a b held.1 more)
@@ -50,7 +50,7 @@ unfolding Held Left ◌then◌
 held_left (over c) go p mid new first second a held more = rw (held.0) (subst (λ q. Left (go c) q second new) held.2 (subst (λ x. Left (go x) mid second new) held.1 more))
 held_left (reads look) go p mid new first second a held more = held_left (look p) go p mid new first second a held more
 held_left (makes step next) go p mid new first second a held more = inr (held_left next go (made step p) mid new first second a held more)
-held_left (parses text next) go p mid new first second a held more = (held.0, held.1, held_left (next held.0) go p mid new first second a held.2 more)
+held_left (defines key row next) go p mid new first second a held more = inr (held.0, held.1, held_left (next held.0) go p mid new first second a held.2 more)
 held_left (asks op next) go p mid new [] second a held more = absurd held
 held_left (asks op next) go p mid new (x ∷ first) second a held more = (held.0, held.1, held.2, held_left (next x.reply) go (asked op x.reply p) mid new first second a held.3 more)
 held_left (room next) go p mid new first second a held more = (held.0, held_left (next held.0) go p mid new first second a held.1 more)
@@ -62,7 +62,8 @@ left_then (over c) go p new exchanges left = rw (left.0, left.1) (left_nothing (
 left_then (reads look) go p new exchanges left = left_then (look p) go p new exchanges left
 left_then (makes step next) go p new exchanges (inl here) = inl here
 left_then (makes step next) go p new exchanges (inr later) = inr (left_then next go (made step p) new exchanges later)
-left_then (parses text next) go p new exchanges left = (left.0, left.1, left_then (next left.0) go p new exchanges left.2)
+left_then (defines key row next) go p new exchanges (inl here) = inl here
+left_then (defines key row next) go p new exchanges (inr later) = inr (later.0, later.1, left_then (next later.0) go p new exchanges later.2)
 left_then (asks op next) go p new [] left = left
 left_then (asks op next) go p new (x ∷ later) left = (left.0, left.1, left.2, left_then (next x.reply) go (asked op x.reply p) new later left.3)
 left_then (room next) go p new exchanges left = (left.0, left_then (next left.0) go p new exchanges left.1)
@@ -95,10 +96,10 @@ unfolding Held Left
 does_room {A = A} {go = go} {p = p} {new = new} {result = Ok a} enough does = record { exchanges = does.exchanges; past = does.past; came = (enough, does.came) }
 does_room {A = A} {go = go} {p = p} {new = new} {result = Err m} enough does = record { exchanges = does.exchanges; past = does.past; came = (enough, does.came) }
 
-pub does_parses : {before after : PortPast} {A : Type 0} {text : List ℕ} {go : Result Definition ParseFault → Doing A} {p new : SessionProgress} {result : Result A Memory} (outcome : Result Definition ParseFault) → DefinitionOf text outcome → Did before after (go outcome) p result new → Did before after (parses text go) p result new
+pub does_defines : {before after : PortPast} {A : Type 0} {key row : List Value} {go : Option Definition → Doing A} {p new : SessionProgress} {result : Result A Memory} (found : Option Definition) → IsDefinitionAt key row found → Did before after (go found) p result new → Did before after (defines key row go) p result new
 unfolding Held Left
-does_parses {A = A} {go = go} {p = p} {new = new} {result = Ok a} outcome is does = record { exchanges = does.exchanges; past = does.past; came = (outcome, is, does.came) }
-does_parses {A = A} {go = go} {p = p} {new = new} {result = Err m} outcome is does = record { exchanges = does.exchanges; past = does.past; came = (outcome, is, does.came) }
+does_defines {A = A} {go = go} {p = p} {new = new} {result = Ok a} found is does = record { exchanges = does.exchanges; past = does.past; came = (found, is, does.came) }
+does_defines {A = A} {go = go} {p = p} {new = new} {result = Err m} found is does = record { exchanges = does.exchanges; past = does.past; came = inr (found, is, does.came) }
 
 -- one operation, and what its reply leads to
 pub does_asks : {before mid after : PortPast} {A : Type 0} {op : Op} {go : Reply → Doing A} {p q new : SessionProgress} {reply : Reply} {result : Result A Memory}
@@ -198,20 +199,20 @@ pub leads_same : {before now : PortPast} {A : Type 0} {whole rest other : Doing 
     → ((later : List Exchange) (result : Result A Memory) (new : SessionProgress) → Came other mid later result new → Came rest mid later result new) → Leads before now whole old rest mid → Leads before now whole old other mid
 leads_same same leads = record { front = leads.front; past = leads.past; goes = λ later result new came. leads.goes later result new (same later result new came) }
 
--- ---- parts that may fail by an error's number
+-- ---- parts that may fail
 
 -- behind a part that succeeded
-pub does_bind : {before mid after : PortPast} {A B : Type 0} (tree : Doing (Result A ℕ)) (go : A → Doing (Result B ℕ)) {p q new : SessionProgress} {a : A} {result : Result (Result B ℕ) Memory}
+pub does_bind : {before mid after : PortPast} {A B : Type 0} (tree : Doing (Result A Failure)) (go : A → Doing (Result B Failure)) {p q new : SessionProgress} {a : A} {result : Result (Result B Failure) Memory}
     → Did before mid tree p (Ok (Ok a)) q → Did mid after (go a) q result new → Did before after (tree >>= go) p result new
 does_bind tree go first second = does_then tree (on_ok go) first second
 
 -- behind one that failed
-pub does_fail : {before mid : PortPast} {A B : Type 0} (tree : Doing (Result A ℕ)) (go : A → Doing (Result B ℕ)) {p q : SessionProgress} {number : ℕ} (result : Result B ℕ)
-    → IsErr result → IsErrAnd result (λ x. x ≡ number) → Did before mid tree p (Ok (Err number)) q → Did before mid (tree >>= go) p (Ok result) q
+pub does_fail : {before mid : PortPast} {A B : Type 0} (tree : Doing (Result A Failure)) (go : A → Doing (Result B Failure)) {p q : SessionProgress} {failure : Failure} (result : Result B Failure)
+    → IsErr result → IsErrAnd result (λ x. x ≡ failure) → Did before mid tree p (Ok (Err failure)) q → Did before mid (tree >>= go) p (Ok result) q
 does_fail tree go (Ok b) err same first = absurd (let no : false ≡ true = err in cc)
-does_fail {before = before} {mid = mid} {B = B} tree go {p = p} {q = q} (Err x) err same first = subst (λ (n : ℕ). Did {A = Result B ℕ} before mid (tree >>= go) p (Ok (Err n)) q) (sym same) (does_then tree (on_ok go) first (does_over refl))
+does_fail {before = before} {mid = mid} {B = B} tree go {p = p} {q = q} (Err x) err same first = subst (λ (f : Failure). Did {A = Result B Failure} before mid (tree >>= go) p (Ok (Err f)) q) (sym same) (does_then tree (on_ok go) first (does_over refl))
 
 -- an error, by what it ends
-pub does_acted : {before after : PortPast} (statement : Served) (number : ℕ) {action : Action} {p new : SessionProgress} {result : Result Exit Memory} → action ≡ action_for statement.form number → Did before after (acted_by action statement number) p result new → Did before after (acted statement number) p result new
+pub does_acted : {before after : PortPast} (statement : Served) (failure : Failure) {action : Action} {p new : SessionProgress} {result : Result Exit Memory} → action ≡ action_for statement.form failure → Did before after (acted_by action statement failure) p result new → Did before after (acted statement failure) p result new
 unfolding acted
-does_acted {before = before} {after = after} statement number {p = p} {new = new} {result = result} is does = subst (λ (a : Action). Did before after (acted_by a statement number) p result new) is does
+does_acted {before = before} {after = after} statement failure {p = p} {new = new} {result = result} is does = subst (λ (a : Action). Did before after (acted_by a statement failure) p result new) is does

@@ -1,19 +1,23 @@
--- Worked trees: which form a statement has.
-use Rattle.std.proofs.Common.{◌≡◌, ℕ, ℤ, pos, false, List, [], ◌∷◌, Option, None, Some, refl, sym, ap, ◌∙◌, rules}
-use Rattle.std.specs.Prelude.{codes, Bool, ◌&&◌, if◌then◌else◌}
-use Rattle.value_types.specs.Units.{same_units}
+-- Worked trees and lexemes: which statements are served.
+use Rattle.std.proofs.Common.{◌≡◌, ℕ, ℤ, pos, true, false, List, [], ◌∷◌, Option, None, Some, refl, sym, ap, ◌∙◌, rules}
+use Rattle.std.specs.Prelude.{codes}
+use Rattle.tsql_lexer.specs.declared.lexeme.Lexeme.{Lexeme}
+use Rattle.tsql_lexer.specs.declared.lexeme.Lexeme.TheVariants as lexeme
+use Rattle.tsql_lexer.specs.declared.lexeme.Sign.TheVariants as sign
+use Rattle.tsql_lexer.specs.declared.lexeme.Spanned.{Spanned}
 use Rattle.tsql_tree.specs.declared.query.Expr.{Expr, fold-roll-Expr}
 use Rattle.tsql_tree.specs.declared.query.Expr.TheVariants as expr
-use Rattle.tsql_tree.specs.declared.query.FromClause.{FromClause, roll-FromClause, out-roll-FromClause}
-use Rattle.tsql_tree.specs.declared.query.Item.{Item, Item-F, out-roll-Item}
 use Rattle.tsql_tree.specs.declared.query.Item.TheVariants as item
-use Rattle.tsql_tree.specs.declared.query.Select.{Select, roll-Select, out-roll-Select}
-use Rattle.tsql_tree.specs.declared.statement.Form.{Form-F, out-roll-Form}
+use Rattle.tsql_tree.specs.declared.query.Select.{Select, roll-Select}
+use Rattle.tsql_tree.specs.declared.statement.Batch.TheVariants.{Body}
+use Rattle.tsql_tree.specs.declared.statement.Form.{Form as TreeForm, Form-F, out-Form, out-roll-Form}
 use Rattle.tsql_tree.specs.declared.statement.Form.TheVariants as tree
 use Rattle.tsql_tree.specs.declared.statement.InsertRows.TheVariants.{Values}
 use Rattle.tsql_tree.specs.declared.statement.InsertRows.{InsertRows}
-use Rattle.batch_meaning.specs.declared.form.Form.TheVariants.{SelectNumber, CreateTable, Insert, SelectTable}
-use Rattle.batch_meaning.specs.Statements.{literal, named, operand_in, ◌>>=◌, bare_item, item_step, is_column_item, names_column, sole_table, table_in, selected, form_step, form_of}
+use Rattle.tsql_tree.specs.declared.statement.Statement.{Statement, roll-Statement, out-roll-Statement}
+use Rattle.tsql_grammar.specs.Words.{word_kind, system_kind}
+use Rattle.batch_meaning.specs.declared.form.Form.TheVariants.{CreateTable, Insert}
+use Rattle.batch_meaning.specs.Statements.{number_in, form_step, form_of, is_select_step, is_select, query_at, statements_of, not_built_statement, names_session_behind}
 use Rattle.batch_meaning.proofs.StandardFacts.{t, definition_text, table_tree}
 
 -- ---- CREATE TABLE t (k INT NOT NULL PRIMARY KEY, v INT NOT NULL)
@@ -23,13 +27,9 @@ create_form = ap form_of (sym (tree.rolls-CreateTable table_tree definition_text
 
 -- ---- expressions
 
-number_operand : (n : ℤ) → operand_in (expr.Number n) ≡ Some (literal n)
-unfolding operand_in
-number_operand n = ap operand_in (sym (expr.rolls-Number n)) ∙ search (rules, fold-roll-Expr)
-
-column_operand : (name : List ℕ) → operand_in (expr.Column None name) ≡ Some (named name)
-unfolding operand_in
-column_operand name = ap operand_in (sym (expr.rolls-Column None name)) ∙ search (rules, fold-roll-Expr)
+number_value : (n : ℤ) → number_in (expr.Number n) ≡ Some n
+unfolding number_in
+number_value n = ap number_in (sym (expr.rolls-Number n)) ∙ search (rules, fold-roll-Expr)
 
 -- ---- INSERT INTO t VALUES (2, 20)
 
@@ -39,38 +39,47 @@ rows = Values ((expr.Number (pos 2) ∷ expr.Number (pos 20) ∷ []) ∷ [])
 insert_form : form_of (tree.Insert t [] rows) ≡ Some (Insert t (pos 2) (pos 20))
 insert_form =
     ap form_of (sym (tree.rolls-Insert t [] rows)) ∙ ap form_step (out-roll-Form (Form-F.Insert t [] rows))
-    ∙ rw (number_operand (pos 2), number_operand (pos 20)) refl
+    ∙ rw (number_value (pos 2), number_value (pos 20)) refl
 
--- ---- SELECT 1
+-- ---- SELECT 1; SELECT 1
 
-value_item : (of : Expr) → bare_item (item.Value of None) ≡ Some of
-value_item of = ap bare_item (sym (item.rolls-Value of None)) ∙ ap item_step (out-roll-Item (Item-F.Value of None))
+abbrev one : Select
+one = roll-Select (record { distinct = false; top = None; items = item.Value (expr.Number (pos 1)) None ∷ []; from = None; filter = None; groups = []; having = None; order = [] })
 
-abbrev select : List Item → Option FromClause → Select
-select items from = roll-Select (record { distinct = false; top = None; items = items; from = from; filter = None; groups = []; having = None; order = [] })
+abbrev select_one : Statement
+select_one = roll-Statement (record { line = 1; form = tree.Select one })
 
-select_form : (items : List Item) (from : Option FromClause) → form_of (tree.Select (select items from)) ≡ selected items from
-select_form items from =
-    ap form_of (sym (tree.rolls-Select (select items from))) ∙ ap form_step (out-roll-Form (Form-F.Select (select items from)))
-    ∙ rw (out-roll-Select (record { distinct = false; top = None; items = items; from = from; filter = None; groups = []; having = None; order = [] })) refl
+is_one : is_select select_one ≡ true
+is_one = ap (λ (of : TreeForm). is_select_step (out-Form of)) (ap (λ of. of.form) (out-roll-Statement (record { line = 1; form = tree.Select one }))) ∙ ap (λ (of : Form-F TreeForm Statement). is_select_step of) (ap out-Form (sym (tree.rolls-Select one)) ∙ out-roll-Form (Form-F.Select one))
 
-number_form : form_of (tree.Select (select (item.Value (expr.Number (pos 1)) None ∷ []) None)) ≡ Some (SelectNumber (pos 1))
-number_form = select_form _ _ ∙ rw (value_item (expr.Number (pos 1)), number_operand (pos 1)) refl
+two_selects : statements_of false (Body (select_one ∷ select_one ∷ [])) ≡ query_at select_one ∷ query_at select_one ∷ []
+two_selects = rw is_one refl
 
--- ---- SELECT k, v FROM t
+-- a value of the session is not built
+of_session : statements_of true (Body (select_one ∷ [])) ≡ not_built_statement ∷ []
+of_session = rw is_one refl
 
-abbrev from_t : FromClause
-from_t = roll-FromClause (record { first = record { name = t; alias = None }; joins = [] })
+-- ---- values of the session
 
-table_of_t : table_in (Some from_t) ≡ Some t
-table_of_t = ap (λ o. sole_table o.first o.joins) (out-roll-FromClause (record { first = record { name = t; alias = None }; joins = [] }))
+abbrev at : Lexeme → Spanned
+at of = record { lexeme = of; start = 0; end = 0; line = 1 }
 
-column_item : (name column : List ℕ) → is_column_item name (item.Value (expr.Column None column) None) ≡ same_units column name
-column_item name column = ap (λ (o : Option Expr). names_column name (o >>= operand_in)) (value_item (expr.Column None column)) ∙ ap (names_column name) (column_operand column)
+-- SELECT @@ROWCOUNT
+system_value : names_session_behind false (at (lexeme.Word (codes "SELECT")) ∷ at (lexeme.SystemName (codes "@@rowcount")) ∷ []) ≡ true
+unfolding word_kind system_kind
+system_value = refl
 
-table_form : form_of (tree.Select (select (item.Value (expr.Column None (codes "k")) None ∷ item.Value (expr.Column None (codes "v")) None ∷ []) (Some from_t))) ≡ Some (SelectTable t)
-table_form =
-    select_form _ _
-    ∙ ap (λ (b : Bool). if b && is_column_item (codes "v") (item.Value (expr.Column None (codes "v")) None) then (table_in (Some from_t) >>= λ name. Some (SelectTable name)) else None) (column_item (codes "k") (codes "k"))
-    ∙ ap (λ (b : Bool). if b then (table_in (Some from_t) >>= λ name. Some (SelectTable name)) else None) (column_item (codes "v") (codes "v"))
-    ∙ ap (λ (o : Option (List ℕ)). o >>= λ name. Some (SelectTable name)) table_of_t
+-- SELECT XACT_STATE()
+function_value : names_session_behind false (at (lexeme.Word (codes "xact_state")) ∷ at (lexeme.Sign sign.Open) ∷ at (lexeme.Sign sign.Close) ∷ []) ≡ true
+unfolding word_kind system_kind
+function_value = refl
+
+-- SELECT xact_state FROM t: a column
+column_name : names_session_behind false (at (lexeme.Word (codes "xact_state")) ∷ at (lexeme.Word (codes "FROM")) ∷ at (lexeme.Word (codes "t")) ∷ []) ≡ false
+unfolding word_kind system_kind
+column_name = refl
+
+-- SELECT COUNT(k)
+other_function : names_session_behind false (at (lexeme.Word (codes "COUNT")) ∷ at (lexeme.Sign sign.Open) ∷ at (lexeme.Word (codes "k")) ∷ at (lexeme.Sign sign.Close) ∷ []) ≡ false
+unfolding word_kind system_kind
+other_function = refl

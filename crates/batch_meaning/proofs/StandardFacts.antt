@@ -1,5 +1,5 @@
 -- Batches of known statements: what is asked for them, what they send, and what is committed.
-use Rattle.std.proofs.Common.{◌≡◌, ℕ, true, List, [], ◌∷◌, None, Some, Ok, pos, refl}
+use Rattle.std.proofs.Common.{◌≡◌, ℕ, ◌-◌, true, List, [], ◌∷◌, ◌++◌, None, Some, Ok, pos, refl}
 use Rattle.std.specs.Prelude.{codes, replicate}
 use Rattle.value_types.specs.declared.sql_type.SqlType.TheVariants.{Int, BigInt}
 use Rattle.value_types.specs.declared.value.Value.TheVariants.{Whole}
@@ -12,22 +12,24 @@ use Rattle.step_model.specs.declared.reply.Reply.TheVariants as replies
 use Rattle.step_model.specs.Exchange.{Exchange}
 use Rattle.step_model.specs.Fits.{commits_of}
 use Rattle.step_model.specs.Ranges.{fetch_from, rows_from, rows_of}
+use Rattle.tds_tokens.specs.Spelling.{tokens_bytes}
 use Rattle.tds_tokens.specs.declared.token.DoneKind.TheVariants.{Done}
 use Rattle.tds_tokens.specs.declared.token.Token.{Token}
 use Rattle.tds_tokens.specs.declared.token.Token.TheVariants.{Error, Columns, Row, Finished}
 use Rattle.tsql_tree.specs.declared.definition.Definition.TheVariants.{Table}
 use Rattle.tsql_tree.specs.declared.definition.TableTree.{TableTree}
-use Rattle.stmt_parser.specs.Parsed.{DefinitionOf}
+use Rattle.catalog_rows.specs.Definitions.{IsDefinitionAt, objects_name, object_key, row_of}
 use Rattle.batch_meaning.specs.declared.form.Form.{Form}
-use Rattle.batch_meaning.specs.declared.form.Form.TheVariants.{SelectNumber, Insert, Refused}
+use Rattle.batch_meaning.specs.declared.form.Form.TheVariants.{Insert, Refused}
 use Rattle.batch_meaning.specs.declared.form.Served.{Served}
 use Rattle.batch_meaning.specs.Statements.{created_name, not_built_statement}
 use Rattle.error_table.specs.Table as table
-use Rattle.batch_meaning.specs.Tokens.{number_column}
-use Rattle.batch_meaning.specs.Tables.{table_of, objects_name, object_key, object_row, table_key, table_row}
-use Rattle.batch_meaning.specs.Progress.{SessionProgress, first_manner, first_progress}
+use Rattle.batch_meaning.specs.Tokens.{result_tokens, batch_done}
+use Rattle.batch_meaning.specs.declared.exit.Exit.TheVariants.{On}
+use Rattle.batch_meaning.specs.Tables.{table_of, table_key, table_row}
+use Rattle.batch_meaning.specs.Progress.{SessionProgress, first_manner, first_progress, batch_limit, size_of}
 use Rattle.batch_meaning.specs.Doing.{◌then◌, Held}
-use Rattle.batch_meaning.specs.Meaning.{◌gives◌, definition_fetch, look_up, reads_rows, puts, inserts, relaxes, closes, own, came_of, acted, ended_by, finished, means, each_of, batch}
+use Rattle.batch_meaning.specs.Meaning.{◌gives◌, definition_fetch, look_up, reads_rows, puts, finds, inserts, relaxes, closes, own, came_of, acted, ended_by, finished, means, each_of, batch}
 use Rattle.batch_meaning.specs.Told.{row_commit, told_commits}
 
 -- an operation that a session asks before it says how, and its reply
@@ -40,7 +42,7 @@ served form = record { line = pos 1; form = form }
 
 -- behind the first batch, of one statement, which has sent these tokens
 abbrev behind_one : List Token → SessionProgress
-behind_one tokens = record first_progress { tokens = tokens; left = 999999 }
+behind_one tokens = record first_progress { tokens = tokens; room = batch_limit - size_of tokens; left = 999999 }
 
 -- ---- SELECT 1
 
@@ -48,32 +50,26 @@ behind_one tokens = record first_progress { tokens = tokens; left = 999999 }
 abbrev pub select_tokens : List Token
 select_tokens = Columns (record { kind = Int; name = [] } ∷ []) ∷ Row (Whole (pos 1) ∷ []) ∷ Finished Done 0x11 0xC1 1 ∷ Finished Done 0 0 0 ∷ []
 
--- nothing is asked
-select_held : Held (batch (served (SelectNumber (pos 1)) ∷ [])) first_progress [] tt (behind_one select_tokens)
-unfolding Held ◌then◌ batch each_of means came_of finished
-select_held = (refl, refl, refl)
-
--- one above the range of INT is a BIGINT
-big_column : number_column (pos 2147483648) ≡ record { kind = BigInt; name = [] } ∷ []
-big_column = refl
+select_result : result_tokens (record { kind = Int; name = [] } ∷ []) ((Whole (pos 1) ∷ []) ∷ []) ++ batch_done On ∷ [] ≡ select_tokens
+select_result = refl
 
 -- ---- an empty batch, and texts that are not served
 
 -- a batch without statements has its DONE alone
-empty_held : Held (batch []) first_progress [] tt (record first_progress { tokens = Finished Done 0 0 0 ∷ []; left = 1000000 })
-unfolding Held ◌then◌ batch each_of
+empty_held : Held (batch []) first_progress [] tt (record first_progress { tokens = Finished Done 0 0 0 ∷ []; room = batch_limit - 13; left = 1000000 })
+unfolding Held ◌then◌ batch each_of tokens_bytes
 empty_held = (refl, refl, refl)
 
 -- a text that is refused: ERROR of class 15 at its line, and DONE with DONE_ERROR
 refused_held : Held (batch (record { line = pos 2; form = Refused 102 (codes "FROM") } ∷ [])) first_progress [] tt
     (behind_one (Error (record { number = pos 102; state = 1; class = 15; text = codes "Incorrect syntax near 'FROM'."; procedure = []; line = pos 2 }) ∷ Finished Done 2 0 0 ∷ []))
-unfolding Held ◌then◌ batch each_of means came_of finished acted ended_by table.row_of table.error_lines
+unfolding Held ◌then◌ batch each_of means came_of finished acted ended_by tokens_bytes table.row_of table.error_lines
 refused_held = (refl, refl, refl)
 
 -- what is not built says so at line 1
 not_built_held : Held (batch (not_built_statement ∷ [])) first_progress [] tt
     (behind_one (Error (record { number = pos 49099; state = 1; class = 16; text = codes "Not built."; procedure = []; line = pos 1 }) ∷ Finished Done 2 0 0 ∷ []))
-unfolding Held ◌then◌ batch each_of means came_of finished acted ended_by table.row_of table.error_lines
+unfolding Held ◌then◌ batch each_of means came_of finished acted ended_by tokens_bytes table.row_of table.error_lines
 not_built_held = (refl, refl, refl)
 
 -- ---- the table of a tree
@@ -108,8 +104,8 @@ long_name = refl
 abbrev insert_asks : List Exchange
 insert_asks =
     replied Begin replies.Began
-    ∷ replied (definition_fetch t) (replies.Row (object_key t) (object_row t definition_text) 1)
-    ∷ replied (fetch_from (table_of objects_name) Range First) (replies.Row (object_key t) (object_row t definition_text) 1)
+    ∷ replied (definition_fetch t) (replies.Row (object_key t) (row_of t definition_text) 1)
+    ∷ replied (fetch_from (table_of objects_name) Range First) (replies.Row (object_key t) (row_of t definition_text) 1)
     ∷ replied (fetch_from (table_of objects_name) Range (Past (object_key t))) (replies.End 1)
     ∷ replied Mark (replies.Marked 1)
     ∷ replied (InsertRow (table_of t) (table_key (pos 2)) (table_row (pos 2) (pos 20))) replies.Done
@@ -122,9 +118,9 @@ abbrev insert_tokens : List Token
 insert_tokens = Finished Done 0x11 0xC3 1 ∷ Finished Done 0 0 0 ∷ []
 
 -- where its text reads as that definition
-insert_held : DefinitionOf definition_text (Ok (Table table_tree)) → Held (batch (served (Insert t (pos 2) (pos 20)) ∷ [])) first_progress insert_asks tt (behind_one insert_tokens)
-unfolding Held ◌then◌ ◌gives◌ batch each_of means came_of own inserts look_up reads_rows rows_of rows_from puts relaxes closes finished
-insert_held reads = (refl, refl, tt, (true, (refl, refl, refl, (Ok (Table table_tree), reads, (true, (refl, refl, refl, (true, (refl, refl, tt, (true, (refl, refl, tt, (refl, refl, tt, (refl, refl, tt, (refl, refl, tt, (refl, refl, refl))))))))))))))
+insert_held : IsDefinitionAt (object_key t) (row_of t definition_text) (Some (Table table_tree)) → Held (batch (served (Insert t (pos 2) (pos 20)) ∷ [])) first_progress insert_asks tt (behind_one insert_tokens)
+unfolding Held ◌then◌ ◌gives◌ batch each_of means came_of own finds inserts look_up reads_rows rows_of rows_from puts relaxes closes finished tokens_bytes
+insert_held reads = (refl, refl, tt, (true, (refl, refl, refl, (true, (Some (Table table_tree), reads, (true, (refl, refl, refl, (true, (refl, refl, tt, (true, (refl, refl, tt, (refl, refl, tt, (true, (refl, refl, tt, (refl, refl, tt, (refl, refl, refl))))))))))))))))
 
 -- its row is committed, and that is what it tells
 insert_commits : commits_of insert_asks ≡ row_commit (table_of t) (table_key (pos 2)) (table_row (pos 2) (pos 20))

@@ -1,6 +1,6 @@
 -- All ways that a tree may go: a fact of where it ends, and one of what is committed on the way, whatever the
 -- replies are. What was held is one of the ways to its end, what was left is a front of one.
-use Rattle.std.proofs.Common.{◌≡◌, Bool, true, false, if◌then◌else◌, Result, List, [], ◌∷◌, ◌++◌, inl, inr, sym, ap, ◌∙◌, subst, append_assoc, append-nil, refl}
+use Rattle.std.proofs.Common.{◌≡◌, Bool, true, false, if◌then◌else◌, Option, List, [], ◌∷◌, ◌++◌, inl, inr, sym, ap, ◌∙◌, subst, append_assoc, append-nil, refl}
 use Rattle.step_model.specs.declared.change.Change.{Change}
 use Rattle.step_model.specs.declared.op.Op.{Op}
 use Rattle.step_model.specs.declared.op.Op.TheVariants as ops
@@ -9,10 +9,9 @@ use Rattle.step_model.specs.Exchange.{Exchange, CanReply}
 use Rattle.step_model.specs.Fits.{committed_by, commits_from}
 use Rattle.step_model.specs.Own.{Progress as Stand, progress_after, progress_from}
 use Rattle.tsql_tree.specs.declared.definition.Definition.{Definition}
-use Rattle.query_parser.specs.declared.fault.ParseFault.{ParseFault}
-use Rattle.stmt_parser.specs.Parsed.{DefinitionOf}
+use Rattle.catalog_rows.specs.Definitions.{IsDefinitionAt}
 use Rattle.batch_meaning.specs.Progress.{SessionProgress, made, asked}
-use Rattle.batch_meaning.specs.Doing.{Doing, over, reads, makes, parses, asks, room, never, ◌then◌, Held, Left}
+use Rattle.batch_meaning.specs.Doing.{Doing, over, reads, makes, defines, asks, room, never, ◌then◌, Held, Left}
 
 abbrev pub Commits : Type 0
 Commits = List (List Change)
@@ -36,7 +35,7 @@ abbrev pub Ways : {A : Type 0} → Doing A → Stand → Commits → SessionProg
 Ways (over a) stand commits p Kept After = After a stand commits p
 Ways (reads look) stand commits p Kept After = Ways (look p) stand commits p Kept After
 Ways (makes step next) stand commits p Kept After = Ways next stand commits (made step p) Kept After
-Ways (parses text go) stand commits p Kept After = (outcome : Result Definition ParseFault) → DefinitionOf text outcome → Ways (go outcome) stand commits p Kept After
+Ways (defines key row go) stand commits p Kept After = (found : Option Definition) → IsDefinitionAt key row found → Ways (go found) stand commits p Kept After
 Ways (asks op go) stand commits p Kept After = (reply : Reply) → CanReply op reply
     → OnCommit op (Kept (with_commits commits (committed_by op reply stand))) × Ways (go reply) (progress_after stand op reply) (with_commits commits (committed_by op reply stand)) (asked op reply p) Kept After
 Ways (room go) stand commits p Kept After = (enough : Bool) → Ways (go enough) stand commits p Kept After
@@ -54,7 +53,7 @@ unfolding Held
 ways_held (over a) stand commits p Kept After exchanges result new ways held = rw (held.0, held.1, held.2) (subst (λ (c : Commits). After a stand c p) (sym (append-nil commits)) ways)
 ways_held (reads look) stand commits p Kept After exchanges result new ways held = ways_held (look p) stand commits p Kept After exchanges result new ways held
 ways_held (makes step next) stand commits p Kept After exchanges result new ways held = ways_held next stand commits (made step p) Kept After exchanges result new ways held
-ways_held (parses text go) stand commits p Kept After exchanges result new ways held = ways_held (go held.0) stand commits p Kept After exchanges result new (ways held.0 held.1) held.2
+ways_held (defines key row go) stand commits p Kept After exchanges result new ways held = ways_held (go held.0) stand commits p Kept After exchanges result new (ways held.0 held.1) held.2
 ways_held (asks op go) stand commits p Kept After [] result new ways held = absurd held
 ways_held (asks op go) stand commits p Kept After (x ∷ later) result new ways held =
     let one = ways_held (go x.reply) (progress_after stand op x.reply) (with_commits commits (committed_by op x.reply stand)) (asked op x.reply p) Kept After later result new (ways x.reply held.2).1 held.3 in
@@ -75,7 +74,8 @@ ways_left (over a) stand commits p Kept After exchanges new kept ways left = rw 
 ways_left (reads look) stand commits p Kept After exchanges new kept ways left = ways_left (look p) stand commits p Kept After exchanges new kept ways left
 ways_left (makes step next) stand commits p Kept After exchanges new kept ways (inl here) = rw (here.0) (subst Kept (sym (append-nil commits)) kept)
 ways_left (makes step next) stand commits p Kept After exchanges new kept ways (inr later) = ways_left next stand commits (made step p) Kept After exchanges new kept ways later
-ways_left (parses text go) stand commits p Kept After exchanges new kept ways left = ways_left (go left.0) stand commits p Kept After exchanges new kept (ways left.0 left.1) left.2
+ways_left (defines key row go) stand commits p Kept After exchanges new kept ways (inl here) = rw (here.0) (subst Kept (sym (append-nil commits)) kept)
+ways_left (defines key row go) stand commits p Kept After exchanges new kept ways (inr later) = ways_left (go later.0) stand commits p Kept After exchanges new kept (ways later.0 later.1) later.2
 ways_left (asks op go) stand commits p Kept After [] new kept ways left = subst Kept (sym (append-nil commits)) kept
 ways_left (asks op go) stand commits p Kept After (x ∷ later) new kept ways left =
     let on = ways x.reply left.2 in
@@ -93,7 +93,7 @@ pub ways_mono : {A : Type 0} (tree : Doing A) (stand : Stand) (commits : Commits
 ways_mono (over a) stand commits p Kept After Later on ways = on a stand commits p ways
 ways_mono (reads look) stand commits p Kept After Later on ways = ways_mono (look p) stand commits p Kept After Later on ways
 ways_mono (makes step next) stand commits p Kept After Later on ways = ways_mono next stand commits (made step p) Kept After Later on ways
-ways_mono (parses text go) stand commits p Kept After Later on ways = λ outcome is. ways_mono (go outcome) stand commits p Kept After Later on (ways outcome is)
+ways_mono (defines key row go) stand commits p Kept After Later on ways = λ found is. ways_mono (go found) stand commits p Kept After Later on (ways found is)
 ways_mono (asks op go) stand commits p Kept After Later on ways = λ reply can.
     ((ways reply can).0, ways_mono (go reply) (progress_after stand op reply) (with_commits commits (committed_by op reply stand)) (asked op reply p) Kept After Later on (ways reply can).1)
 ways_mono (room go) stand commits p Kept After Later on ways = λ enough. ways_mono (go enough) stand commits p Kept After Later on (ways enough)
@@ -106,7 +106,7 @@ unfolding ◌then◌
 ways_then (over a) go stand commits p Kept After ways = ways
 ways_then (reads look) go stand commits p Kept After ways = ways_then (look p) go stand commits p Kept After ways
 ways_then (makes step next) go stand commits p Kept After ways = ways_then next go stand commits (made step p) Kept After ways
-ways_then (parses text next) go stand commits p Kept After ways = λ outcome is. ways_then (next outcome) go stand commits p Kept After (ways outcome is)
+ways_then (defines key row next) go stand commits p Kept After ways = λ found is. ways_then (next found) go stand commits p Kept After (ways found is)
 ways_then (asks op next) go stand commits p Kept After ways = λ reply can.
     ((ways reply can).0, ways_then (next reply) go (progress_after stand op reply) (with_commits commits (committed_by op reply stand)) (asked op reply p) Kept After (ways reply can).1)
 ways_then (room next) go stand commits p Kept After ways = λ enough. ways_then (next enough) go stand commits p Kept After (ways enough)
@@ -122,3 +122,30 @@ pub ways_if : {A : Type 0} (test : Bool) (first other : Doing A) (stand : Stand)
     → (test ≡ true → Ways first stand commits p Kept After) → (test ≡ false → Ways other stand commits p Kept After) → Ways (if test then first else other) stand commits p Kept After
 ways_if true first other stand commits p Kept After one two = one refl
 ways_if false first other stand commits p Kept After one two = two refl
+
+on_any : (op : Op) (commits : Commits) → OnCommit op (Unit {0})
+on_any ops.Commit commits = tt
+on_any op commits = tt
+
+-- whatever a tree does, it goes some way
+pub ways_any : {A : Type 0} (tree : Doing A) (stand : Stand) (commits : Commits) (p : SessionProgress) → Ways tree stand commits p (λ c. Unit {0}) (λ a s c q. Unit {0})
+ways_any (over a) stand commits p = tt
+ways_any (reads look) stand commits p = ways_any (look p) stand commits p
+ways_any (makes step next) stand commits p = ways_any next stand commits (made step p)
+ways_any (defines key row go) stand commits p = λ found is. ways_any (go found) stand commits p
+ways_any (asks op go) stand commits p = λ reply can.
+    (on_any op (with_commits commits (committed_by op reply stand)), ways_any (go reply) (progress_after stand op reply) (with_commits commits (committed_by op reply stand)) (asked op reply p))
+ways_any (room go) stand commits p = λ enough. ways_any (go enough) stand commits p
+ways_any never stand commits p = tt
+
+-- two facts of where a tree ends
+pub ways_both : {A : Type 0} (tree : Doing A) (stand : Stand) (commits : Commits) (p : SessionProgress) (Kept : Commits → Type 0) (One Other : A → Stand → Commits → SessionProgress → Type 0)
+    → Ways tree stand commits p Kept One → Ways tree stand commits p (λ c. Unit {0}) Other → Ways tree stand commits p Kept (λ a s c q. One a s c q × Other a s c q)
+ways_both (over a) stand commits p Kept One Other one other = (one, other)
+ways_both (reads look) stand commits p Kept One Other one other = ways_both (look p) stand commits p Kept One Other one other
+ways_both (makes step next) stand commits p Kept One Other one other = ways_both next stand commits (made step p) Kept One Other one other
+ways_both (defines key row go) stand commits p Kept One Other one other = λ found is. ways_both (go found) stand commits p Kept One Other (one found is) (other found is)
+ways_both (asks op go) stand commits p Kept One Other one other = λ reply can.
+    ((one reply can).0, ways_both (go reply) (progress_after stand op reply) (with_commits commits (committed_by op reply stand)) (asked op reply p) Kept One Other (one reply can).1 (other reply can).1)
+ways_both (room go) stand commits p Kept One Other one other = λ enough. ways_both (go enough) stand commits p Kept One Other (one enough) (other enough)
+ways_both never stand commits p Kept One Other one other = tt

@@ -1,26 +1,26 @@
--- Own: what a session does, as a tree: it reads how far it has come, makes a named step, parses the text of a
--- definition, or asks its port an operation and goes on by the reply. One tree says which operations are asked, in which order, and what
+-- Own: what a session does, as a tree: it reads how far it has come, makes a named step, reads what a row of `objects`
+-- defines, or asks its port an operation and goes on by the reply. One tree says which operations are asked, in which order, and what
 -- becomes of the session by the replies; the code asks and steps, and builds no tree.
-use Rattle.std.specs.Prelude.{◌≡◌, ◌⊎◌, ℕ, Bool, List, [], ◌∷◌, ◌++◌, Result, Ok, Err}
+use Rattle.std.specs.Prelude.{◌≡◌, ◌⊎◌, Bool, List, [], ◌∷◌, ◌++◌, Option, Result, Ok, Err}
 use Rattle.value_types.specs.declared.memory.Memory.{Memory}
 use Rattle.tsql_tree.specs.declared.definition.Definition.{Definition}
-use Rattle.query_parser.specs.declared.fault.ParseFault.{ParseFault}
-use Rattle.stmt_parser.specs.Parsed.{DefinitionOf}
+use Rattle.value_types.specs.declared.value.Value.{Value}
+use Rattle.catalog_rows.specs.Definitions.{IsDefinitionAt}
 use Rattle.step_model.specs.declared.op.Op.{Op}
 use Rattle.step_model.specs.declared.reply.Reply.{Reply}
 use Rattle.step_model.specs.Exchange.{Exchange, CanReply}
 use Rattle.step_model.specs.Port.{PortPast, GoesOn}
 use Rattle.batch_meaning.specs.Progress.{SessionProgress, SessionStep, made, asked}
 
--- A value; how to go on by the progress; a step, and what follows; a text, and how to go on by what it is as
--- that of a definition, which is one outcome, or want of memory; an operation, and how to go on by its reply;
--- how to go on where memory was left for what comes next, or wasn't; or nothing, behind a reply that does not
--- come. That memory is wanting is the one free answer: of `room`, and of `parses`.
+-- A value; how to go on by the progress; a step, and what follows; a row of `objects` at its key, and how to go
+-- on by what it defines, which is one thing or nothing; an operation, and how to go on by its reply; how to go on
+-- where memory was left for what comes next, or wasn't, which is the one free answer; or nothing, behind a reply
+-- that does not come.
 pub data Doing (A : Type 0) : Type 0 where
   over : A → Doing A
   reads : (SessionProgress → Doing A) → Doing A
   makes : SessionStep → Doing A → Doing A
-  parses : List ℕ → (Result Definition ParseFault → Doing A) → Doing A
+  defines : List Value → List Value → (Option Definition → Doing A) → Doing A
   asks : Op → (Reply → Doing A) → Doing A
   room : (Bool → Doing A) → Doing A
   never : Doing A
@@ -31,7 +31,7 @@ unfoldable pub ◌then◌ : {A B : Type 0} → Doing A → (A → Doing B) → D
 (over a) then go = go a
 (reads look) then go = reads (λ p. look p then go)
 (makes step next) then go = makes step (next then go)
-(parses text next) then go = parses text (λ outcome. next outcome then go)
+(defines key row next) then go = defines key row (λ found. next found then go)
 (asks op next) then go = asks op (λ reply. next reply then go)
 (room next) then go = room (λ enough. next enough then go)
 never then go = never
@@ -43,7 +43,7 @@ unfoldable pub Held : {A : Type 0} → Doing A → SessionProgress → List Exch
 Held (over a) p exchanges result new = (exchanges ≡ []) × (result ≡ a) × (new ≡ p)
 Held (reads look) p exchanges result new = Held (look p) p exchanges result new
 Held (makes step next) p exchanges result new = Held next (made step p) exchanges result new
-Held (parses text go) p exchanges result new = (outcome : Result Definition ParseFault) × DefinitionOf text outcome × Held (go outcome) p exchanges result new
+Held (defines key row go) p exchanges result new = (found : Option Definition) × IsDefinitionAt key row found × Held (go found) p exchanges result new
 Held (asks op go) p [] result new = ⊥
 Held (asks op go) p (x ∷ later) result new = (x.op ≡ op) × (x.manner ≡ p.manner) × CanReply op x.reply × Held (go x.reply) (asked op x.reply p) later result new
 Held (room go) p exchanges result new = (enough : Bool) × Held (go enough) p exchanges result new
@@ -55,7 +55,7 @@ unfoldable pub Left : {A : Type 0} → Doing A → SessionProgress → List Exch
 Left (over a) p exchanges new = (exchanges ≡ []) × (new ≡ p)
 Left (reads look) p exchanges new = Left (look p) p exchanges new
 Left (makes step next) p exchanges new = ((exchanges ≡ []) × (new ≡ p)) ⊎ Left next (made step p) exchanges new
-Left (parses text go) p exchanges new = (outcome : Result Definition ParseFault) × DefinitionOf text outcome × Left (go outcome) p exchanges new
+Left (defines key row go) p exchanges new = ((exchanges ≡ []) × (new ≡ p)) ⊎ ((found : Option Definition) × IsDefinitionAt key row found × Left (go found) p exchanges new)
 Left (asks op go) p [] new = new ≡ p
 Left (asks op go) p (x ∷ later) new = (x.op ≡ op) × (x.manner ≡ p.manner) × CanReply op x.reply × Left (go x.reply) (asked op x.reply p) later new
 Left (room go) p exchanges new = (enough : Bool) × Left (go enough) p exchanges new

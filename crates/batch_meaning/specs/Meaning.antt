@@ -1,15 +1,20 @@
 -- Own: what a batch means: what its statements ask of the port, in order, and what comes of the replies.
--- Look-ups in `objects` hold the key's range; a SELECT reads its table row by row, at the level READ
+-- Look-ups in `objects` hold the key's range; a SELECT reads its tables row by row, at the level READ
 -- COMMITTED. Outside a transaction a statement that asks anything is one of its own, committed where it
 -- succeeds and else rolled back. A meaning is a tree; the code asks the port, and goes on by its replies.
-use Rattle.std.specs.Prelude.{ℕ, ℤ, pos, ◌==◌, Bool, true, false, nat_le, is_ok, if◌then◌else◌, List, [], ◌∷◌, length, Option, None, Some, Result, Ok, Err}
+use Rattle.std.specs.Prelude.{ℕ, ℤ, ◌==◌, ◌++◌, not, Bool, true, false, nat_lt, is_ok, if◌then◌else◌, List, [], ◌∷◌, Option, None, Some, Result, Ok, Err}
+use Rattle.std.specs.List.{list_any}
 use Rattle.lock_modes.specs.declared.KeyPart.TheVariants.{S}
 use Rattle.value_types.specs.Units.{same_units}
 use Rattle.value_types.specs.declared.table_name.TableName.{TableName}
 use Rattle.value_types.specs.declared.value.Value.{Value}
 use Rattle.tsql_tree.specs.declared.definition.Definition.{Definition}
-use Rattle.query_parser.specs.declared.fault.ParseFault.{ParseFault}
-use Rattle.query_parser.specs.declared.fault.ParseFault.TheVariants as fault
+use Rattle.tsql_tree.specs.declared.definition.TableTree.{TableTree}
+use Rattle.tsql_tree.specs.declared.statement.Statement.{Statement as StatementTree}
+use Rattle.bound_tree.specs.declared.query.BoundQuery.{BoundQuery}
+use Rattle.query_eval.specs.Given.{tables_read}
+use Rattle.binder.specs.Names.{looked_up}
+use Rattle.catalog_rows.specs.Definitions.{objects_name, is_objects, object_key, row_of}
 use Rattle.error_table.specs.declared.action.Action.{Action}
 use Rattle.error_table.specs.declared.action.Action.TheVariants.{Statement, Batch, BatchAndTransaction, Doom}
 use Rattle.error_table.specs.declared.action.RaisedBy.TheVariants.{Engine}
@@ -25,23 +30,21 @@ use Rattle.step_model.specs.declared.reply.Reply.TheVariants as replies
 use Rattle.step_model.specs.Dialog as dialog
 use Rattle.step_model.specs.Dialog.{Dialog}
 use Rattle.step_model.specs.Ranges.{Rows, no_memory, rows_of, lock_timeout, deadlock}
-use Rattle.batch_meaning.specs.declared.effect.Effect.{Effect}
-use Rattle.batch_meaning.specs.declared.effect.Effect.TheVariants.{Number, Created, Inserted, Selected}
-use Rattle.batch_meaning.specs.declared.effect.Exit.{Exit}
-use Rattle.batch_meaning.specs.declared.effect.Exit.TheVariants.{On, End}
+use Rattle.batch_meaning.specs.declared.exit.Exit.{Exit}
+use Rattle.batch_meaning.specs.declared.exit.Exit.TheVariants.{On, End}
+use Rattle.batch_meaning.specs.declared.failure.Failure.{Failure}
 use Rattle.batch_meaning.specs.declared.form.Form.{Form}
-use Rattle.batch_meaning.specs.declared.form.Form.TheVariants.{SelectNumber, CreateTable, Insert, SelectTable, NotBuilt, Refused}
+use Rattle.batch_meaning.specs.declared.form.Form.TheVariants.{Query, CreateTable, Insert, NotBuilt, Refused}
 use Rattle.batch_meaning.specs.declared.form.Served.{Served}
-use Rattle.batch_meaning.specs.Statements.{defined_name}
-use Rattle.batch_meaning.specs.Progress.{begins, counts, sends}
-use Rattle.batch_meaning.specs.Doing.{Doing, over, reads, makes, parses, asks, room, never, ◌then◌}
-use Rattle.batch_meaning.specs.Tokens.{duplicate_key, effect_tokens, failure_tokens, batch_done}
-use Rattle.batch_meaning.specs.Tables.{table_of, objects_name, is_objects, text_in, object_key, object_row, table_key, table_row, row_fits}
+use Rattle.batch_meaning.specs.Failures.{plain}
+use Rattle.batch_meaning.specs.Selecting.{unknown_table, result_full, not_built, as_served, answered, answered_alone, bound_over, shape_of, fits}
+use Rattle.batch_meaning.specs.Progress.{SessionProgress, begins, counts, sends, size_of}
+use Rattle.batch_meaning.specs.Doing.{Doing, over, reads, makes, defines, asks, room, never, ◌then◌}
+use Rattle.batch_meaning.specs.Tokens.{duplicate_key, inserted_tokens, failure_tokens, batch_done}
+use Rattle.batch_meaning.specs.Tables.{table_of, table_key, table_row}
+use Rattle.tds_tokens.specs.declared.token.Token.{Token}
 
 -- ---- the numbers of the errors; that of a key which is there stands with its text, in Tokens
-
-abbrev pub unknown_table : ℕ
-unknown_table = 208
 
 abbrev pub object_present : ℕ
 object_present = 2714
@@ -49,133 +52,154 @@ object_present = 2714
 abbrev pub statements_spent : ℕ
 statements_spent = 49001
 
-abbrev pub result_full : ℕ
-result_full = 49002
+-- ---- parts of a statement, which may fail
 
-abbrev pub not_built : ℕ
-not_built = 49099
-
--- ---- parts of a statement, which may fail by an error's number
+-- an error that names no more than its statement does
+abbrev pub fails : {A : Type 0} → ℕ → Doing (Result A Failure)
+fails number = over (Err (plain number))
 
 -- going on where nothing failed
-abbrev pub on_ok : {A B : Type 0} → (A → Doing (Result B ℕ)) → Result A ℕ → Doing (Result B ℕ)
+abbrev pub on_ok : {A B : Type 0} → (A → Doing (Result B Failure)) → Result A Failure → Doing (Result B Failure)
 on_ok go (Ok a) = go a
-on_ok go (Err number) = over (Err number)
+on_ok go (Err failure) = over (Err failure)
 
 infixl 10 ◌>>=◌
-abbrev pub ◌>>=◌ : {A B : Type 0} → Doing (Result A ℕ) → (A → Doing (Result B ℕ)) → Doing (Result B ℕ)
+abbrev pub ◌>>=◌ : {A B : Type 0} → Doing (Result A Failure) → (A → Doing (Result B Failure)) → Doing (Result B Failure)
 tree >>= go = tree then on_ok go
 
 -- what wants memory first fails where there is none
-abbrev pub with_room : {A : Type 0} → Doing (Result A ℕ) → Doing (Result A ℕ)
-with_room tree = room λ enough. if enough then tree else over (Err no_memory)
+abbrev pub with_room : {A : Type 0} → Doing (Result A Failure) → Doing (Result A Failure)
+with_room tree = room λ enough. if enough then tree else fails no_memory
 
 -- A reply that refuses the operation is the error of what was done: memory was wanting, another session's lock
 -- stood in the way, or the session fell as a deadlock's victim.
-abbrev pub unless_refused : {A : Type 0} → (Reply → Doing (Result A ℕ)) → Reply → Doing (Result A ℕ)
-unless_refused go replies.Memory = over (Err no_memory)
-unless_refused go (replies.TimedOut holder held wanted on) = over (Err lock_timeout)
-unless_refused go (replies.Victim cycle) = over (Err deadlock)
+abbrev pub unless_refused : {A : Type 0} → (Reply → Doing (Result A Failure)) → Reply → Doing (Result A Failure)
+unless_refused go replies.Memory = fails no_memory
+unless_refused go (replies.TimedOut holder held wanted on) = fails lock_timeout
+unless_refused go (replies.Victim cycle) = fails deadlock
 unless_refused go reply = go reply
 
 -- a dialog is held, and behind it another thing is done; a refusal ends both
 infixl 10 ◌gives◌
-unfoldable pub ◌gives◌ : {A B : Type 0} → Dialog A → (A → Doing (Result B ℕ)) → Doing (Result B ℕ)
+unfoldable pub ◌gives◌ : {A B : Type 0} → Dialog A → (A → Doing (Result B Failure)) → Doing (Result B Failure)
 (dialog.over a) gives go = go a
 (dialog.asks op quiet next) gives go = asks op (unless_refused (λ reply. next reply gives go))
 (dialog.room next) gives go = room (λ enough. next enough gives go)
 dialog.never gives go = never
 
--- the definition is one of a table of this name
-abbrev pub defines : List ℕ → Option (List ℕ) → Bool
-defines name None = false
-defines name (Some other) = same_units other name
-
--- by what a text is as that of a definition
-abbrev pub defined : List ℕ → Result Definition ParseFault → Doing (Result (Unit {0}) ℕ)
-defined name (Ok definition) = if defines name (defined_name definition) then over (Ok tt) else over (Err unknown_table)
-defined name (Err (fault.Refused number line near)) = over (Err unknown_table)
-defined name (Err fault.Memory) = over (Err no_memory)
-
--- by the text in the row
-abbrev pub defined_by : List ℕ → Option (List ℕ) → Doing (Result (Unit {0}) ℕ)
-defined_by name None = over (Err unknown_table)
-defined_by name (Some text) = parses text (defined name)
-
--- whether what stands at a name's key in `objects` is its definition
-abbrev pub known : List ℕ → Reply → Doing (Result (Unit {0}) ℕ)
-known name (replies.Row key row at) = defined_by name (text_in name key row)
-known name (replies.Gone key at) = over (Err unknown_table)
-known name (replies.End at) = over (Err unknown_table)
-known name reply = never
+-- what stands at a name's key in `objects`: the definition of that key's name, or nothing
+abbrev pub known : Reply → Doing (Result (Option Definition) Failure)
+known (replies.Row key row at) = with_room (defines key row (λ found. over (Ok found)))
+known (replies.Gone key at) = over (Ok None)
+known (replies.End at) = over (Ok None)
+known reply = never
 
 -- the fetch of one whole key of `objects`, whose range is held
 abbrev pub definition_fetch : List ℕ → Op
 definition_fetch name = ops.Fetch (table_of objects_name) (At (object_key name)) (Within (object_key name)) hold.Range S
 
--- the name is looked up
-unfoldable pub look_up : List ℕ → Doing (Result (Unit {0}) ℕ)
-look_up name = with_room (asks (definition_fetch name) (unless_refused (known name)))
+-- the name is looked up; `objects` is no table of a batch, and nothing is asked of it
+unfoldable pub look_up : List ℕ → Doing (Result (Option Definition) Failure)
+look_up name = if is_objects name then over (Ok None) else with_room (asks (definition_fetch name) (unless_refused known))
 
--- the rows of a table are read, in order of their keys
-unfoldable pub reads_rows : List ℕ → Hold → Doing (Result Rows ℕ)
-reads_rows name hold = with_room (rows_of row_fits (table_of name) hold gives over)
+-- what a dialog's rows come to
+abbrev pub rows_or_failure : Result Rows ℕ → Doing (Result Rows Failure)
+rows_or_failure (Ok rows) = over (Ok rows)
+rows_or_failure (Err number) = fails number
+
+-- the rows of a table of this shape are read, in order of their keys
+unfoldable pub reads_rows : Option TableTree → TableName → Hold → Doing (Result Rows Failure)
+reads_rows shape table hold = with_room (rows_of (fits shape) table hold gives rows_or_failure)
 
 -- what an insertion's reply says; a row that stands at the key is this error
-abbrev pub placed : ℕ → Reply → Doing (Result (Unit {0}) ℕ)
+abbrev pub placed : ℕ → Reply → Doing (Result (Unit {0}) Failure)
 placed present replies.Done = over (Ok tt)
-placed present replies.Exists = over (Err present)
+placed present replies.Exists = fails present
 placed present reply = never
 
 -- behind a mark
-abbrev pub marked : {A : Type 0} → Doing (Result A ℕ) → Reply → Doing (Result A ℕ)
+abbrev pub marked : {A : Type 0} → Doing (Result A Failure) → Reply → Doing (Result A Failure)
 marked next (replies.Marked mark) = next
 marked next reply = never
 
 -- a row is put at its key behind a mark; a row that stands there is this error
-unfoldable pub puts : TableName → List Value → List Value → ℕ → Doing (Result (Unit {0}) ℕ)
+unfoldable pub puts : TableName → List Value → List Value → ℕ → Doing (Result (Unit {0}) Failure)
 puts table key row present = with_room (asks ops.Mark (unless_refused (marked (asks (ops.Insert table key row) (unless_refused (placed present))))))
-
--- how many rows a result has at most
-abbrev pub row_limit : ℕ
-row_limit = 1000000
-
--- rows that are not too many for a result
-abbrev pub selected : Rows → Doing (Result Effect ℕ)
-selected rows = if nat_le (length rows) row_limit then over (Ok (Selected rows)) else over (Err result_full)
 
 -- ---- what each statement does within a transaction
 
 -- a table's definition is a row of `objects`
-unfoldable pub creates : List ℕ → List ℕ → Doing (Result Effect ℕ)
+unfoldable pub creates : List ℕ → List ℕ → Doing (Result (List Token) Failure)
 creates name text = do
-  created ← puts (table_of objects_name) (object_key name) (object_row name text) object_present
-  over (Ok Created)
+  created ← puts (table_of objects_name) (object_key name) (row_of name text) object_present
+  over (Ok [])
+
+-- a table that rows may be inserted into is looked up
+unfoldable pub finds : List ℕ → Doing (Result (Unit {0}) Failure)
+finds name = do
+  found ← look_up name
+  over (as_served name found)
 
 -- its table is looked up, then triggers and tables that refer to it, of which there are none; then the
 -- row is put
-unfoldable pub inserts : List ℕ → ℤ → ℤ → Doing (Result Effect ℕ)
+unfoldable pub inserts : List ℕ → ℤ → ℤ → Doing (Result (List Token) Failure)
 inserts name key value = do
-  found ← look_up name
-  triggers ← reads_rows objects_name hold.Range
+  known ← finds name
+  triggers ← reads_rows None (table_of objects_name) hold.Range
   inserted ← puts (table_of name) (table_key key) (table_row key value) duplicate_key
-  over (Ok Inserted)
+  with_room (over (Ok inserted_tokens))
 
--- its table is looked up, and read
-unfoldable pub selects : List ℕ → Doing (Result Effect ℕ)
-selects name = do
+-- a definition more, where there is one
+abbrev pub with_found : List Definition → Option Definition → List Definition
+with_found definitions None = definitions
+with_found definitions (Some definition) = definitions ++ definition ∷ []
+
+-- names are looked up one after another, behind these definitions
+unfoldable pub looks_up : List Definition → List (List ℕ) → Doing (Result (List Definition) Failure)
+looks_up definitions [] = over (Ok definitions)
+looks_up definitions (name ∷ names) = do
   found ← look_up name
-  rows ← reads_rows name hold.Row
-  selected rows
+  with_room (looks_up (with_found definitions found) names)
+
+-- tables are read one after another, behind these images
+unfoldable pub reads_images : List Definition → List Rows → List TableName → Doing (Result (List Rows) Failure)
+reads_images definitions images [] = over (Ok images)
+reads_images definitions images (table ∷ tables) = do
+  rows ← reads_rows (shape_of definitions table) table hold.Row
+  with_room (reads_images definitions (images ++ rows ∷ []) tables)
+
+-- its tables are read, those of inner queries first, and it is answered
+unfoldable pub over_query : List Definition → BoundQuery → Doing (Result (List Token) Failure)
+over_query definitions query = do
+  images ← with_room (reads_images definitions [] (tables_read query))
+  with_room (over (answered query images))
+
+-- it is bound, and what it is bound to is run
+unfoldable pub over_definitions : StatementTree → List Definition → Doing (Result (List Token) Failure)
+over_definitions statement definitions = do
+  query ← with_room (over (bound_over definitions statement))
+  over_query definitions query
+
+-- what a SELECT names is looked up first
+unfoldable pub selects : StatementTree → Doing (Result (List Token) Failure)
+selects statement = do
+  definitions ← looks_up [] (looked_up statement)
+  over_definitions statement definitions
 
 -- a case for each form; what is not built, or refused, is an error at once
-abbrev pub work_of : Form → Doing (Result Effect ℕ)
-work_of (SelectNumber number) = over (Ok (Number number))
-work_of (CreateTable name text) = creates name text
-work_of (Insert name key value) = inserts name key value
-work_of (SelectTable name) = selects name
-work_of NotBuilt = over (Err not_built)
-work_of (Refused code near) = over (Err code)
+abbrev pub done_for : Form → Doing (Result (List Token) Failure)
+done_for (Query statement) = with_room (selects statement)
+done_for (CreateTable name text) = creates name text
+done_for (Insert name key value) = inserts name key value
+done_for NotBuilt = fails not_built
+done_for (Refused code near) = fails code
+
+-- tokens that the batch may still send; too many bytes are an error of their statement
+abbrev pub if_room : List Token → Doing (Result (List Token) Failure)
+if_room tokens = reads λ p. if nat_lt p.room (size_of tokens) then fails result_full else over (Ok tokens)
+
+abbrev pub work_of : Form → Doing (Result (List Token) Failure)
+work_of statement = done_for statement >>= if_room
 
 -- ---- transactions
 
@@ -199,12 +223,12 @@ closes true = asks ops.Commit (where_ended (over tt))
 closes false = asks ops.Rollback (where_ended (over tt))
 
 -- behind a transaction's begin
-abbrev pub where_begun : {A : Type 0} → Doing (Result A ℕ) → Reply → Doing (Result A ℕ)
+abbrev pub where_begun : {A : Type 0} → Doing (Result A Failure) → Reply → Doing (Result A Failure)
 where_begun next replies.Began = next
 where_begun next reply = never
 
 -- done within the open transaction, or one of its own
-unfoldable pub own : {A : Type 0} → Doing (Result A ℕ) → Doing (Result A ℕ)
+unfoldable pub own : {A : Type 0} → Doing (Result A Failure) → Doing (Result A Failure)
 own work = reads λ p. if p.is_open
     then work then (λ came. relaxes then λ _. over came)
     else asks ops.Begin (unless_refused (where_begun (work then λ came. relaxes then λ _. closes (is_ok came) then λ _. over came)))
@@ -216,15 +240,23 @@ rolls_back_open = reads λ p. if p.is_open then asks ops.Rollback (where_ended (
 -- ---- statements
 
 -- `objects` is no table of a batch: nothing is asked of it
-abbrev pub unless_objects : List ℕ → ℕ → Doing (Result Effect ℕ) → Doing (Result Effect ℕ)
-unless_objects name number work = if is_objects name then over (Err number) else own work
+abbrev pub unless_objects : List ℕ → ℕ → Doing (Result (List Token) Failure) → Doing (Result (List Token) Failure)
+unless_objects name number work = if is_objects name then fails number else own work
 
--- what comes of a statement
-unfoldable pub came_of : Form → Doing (Result Effect ℕ)
+-- something is asked where one of these names is looked up
+abbrev pub asks_any : List (List ℕ) → Bool
+asks_any names = list_any (λ name. not (is_objects name)) names
+
+-- a SELECT that names no table, for which nothing is asked
+abbrev pub alone : StatementTree → Doing (Result (List Token) Failure)
+alone statement = with_room (over (answered_alone (bound_over [] statement))) >>= if_room
+
+-- what comes of a statement: the tokens that are sent for it, or why it failed
+unfoldable pub came_of : Form → Doing (Result (List Token) Failure)
+came_of (Query statement) = with_room (if asks_any (looked_up statement) then own (work_of (Query statement)) else alone statement)
 came_of (CreateTable name text) = unless_objects name object_present (work_of (CreateTable name text))
 came_of (Insert name key value) = unless_objects name unknown_table (work_of (Insert name key value))
-came_of (SelectTable name) = unless_objects name unknown_table (work_of (SelectTable name))
-came_of statement = work_of statement
+came_of statement = done_for statement
 
 -- what an error ends; where it ends the transaction one that is open is rolled back
 unfoldable pub ended_by : Action → Doing Exit
@@ -235,21 +267,25 @@ ended_by BatchAndTransaction = rolls_back_open then λ _. over End
 
 -- What an error of a statement ends: there is no TRY around, and XACT_ABORT is OFF. A text that is refused
 -- has begun nothing: it ends its batch alone.
-abbrev pub action_for : Form → ℕ → Action
-action_for (Refused code near) number = Batch
-action_for statement number = action_of (pos number) Engine false false
+abbrev pub action_for : Form → Failure → Action
+action_for (Refused code near) failure = Batch
+action_for statement failure = action_of failure.number Engine false false
 
 -- an error is sent, and ends what it ends
-abbrev pub acted_by : Action → Served → ℕ → Doing Exit
-acted_by action statement number = makes (sends (failure_tokens statement number action)) (ended_by action)
+abbrev pub acted_by : Action → Served → Failure → Doing Exit
+acted_by action statement failure = makes (sends (failure_tokens statement failure action)) (ended_by action)
 
-unfoldable pub acted : Served → ℕ → Doing Exit
-acted statement number = acted_by (action_for statement.form number) statement number
+unfoldable pub acted : Served → Failure → Doing Exit
+acted statement failure = acted_by (action_for statement.form failure) statement failure
+
+-- an error for which there is no room is one that says so
+abbrev pub or_full : Served → Failure → SessionProgress → Failure
+or_full statement failure p = if nat_lt p.room (size_of (failure_tokens statement failure (action_for statement.form failure))) then plain result_full else failure
 
 -- what is sent for a statement that came to this
-unfoldable pub finished : Served → Result Effect ℕ → Doing Exit
-finished statement (Ok effect) = makes (sends (effect_tokens statement.form effect)) (over On)
-finished statement (Err number) = acted statement number
+unfoldable pub finished : Served → Result (List Token) Failure → Doing Exit
+finished statement (Ok tokens) = makes (sends tokens) (over On)
+finished statement (Err failure) = reads λ p. acted statement (or_full statement failure p)
 
 -- a statement
 unfoldable pub means : Served → Doing Exit
@@ -265,7 +301,7 @@ goes_on next End = over End
 -- statements one after another; each counts as it begins
 unfoldable pub each_of : List Served → Doing Exit
 each_of [] = over On
-each_of (statement ∷ others) = reads λ p. if p.left == 0 then acted statement statements_spent else makes counts (means statement then goes_on (each_of others))
+each_of (statement ∷ others) = reads λ p. if p.left == 0 then acted statement (plain statements_spent) else makes counts (means statement then goes_on (each_of others))
 
 -- a batch; however it ends, that is told
 unfoldable pub batch : List Served → Doing (Unit {0})

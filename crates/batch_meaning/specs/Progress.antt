@@ -1,6 +1,6 @@
 -- Own: how far a session has come, and the named steps and the exchanges by which alone that changes. The
 -- code has it as a struct, with a method for each step.
-use Rattle.std.specs.Prelude.{◌≡◌, ℕ, ◌-◌, Bool, true, false, List, [], ◌∷◌, ◌++◌, pos}
+use Rattle.std.specs.Prelude.{◌≡◌, ℕ, ◌-◌, Bool, true, false, List, [], ◌∷◌, ◌++◌, length, pos}
 use Rattle.step_model.specs.declared.manner.Manner.{Manner}
 use Rattle.step_model.specs.declared.manner.Patience.TheVariants.{Forever}
 use Rattle.step_model.specs.declared.op.Op.{Op}
@@ -9,11 +9,14 @@ use Rattle.step_model.specs.declared.reply.Reply.{Reply}
 use Rattle.step_model.specs.Exchange.{Exchange, IsPriority}
 use Rattle.step_model.specs.Port.{PortPast, standing_after}
 use Rattle.tds_tokens.specs.declared.token.Token.{Token}
+use Rattle.tds_tokens.specs.Spelling.{TokenBytes}
 
 -- how far a session has come
 pub record SessionProgress : Type 0 where
   -- what the batch that runs has sent
   pub tokens : List Token
+  -- how many bytes it may still send
+  pub room : ℕ
   -- how many statements it may still begin
   pub left : ℕ
   -- whether a transaction is open at the port
@@ -29,7 +32,7 @@ first_manner = record { patience = Forever; priority = pos 0 }
 
 -- before its first batch
 abbrev pub first_progress : SessionProgress
-first_progress = record { tokens = []; left = 0; is_open = false; touched = false; manner = first_manner }
+first_progress = record { tokens = []; room = 0; left = 0; is_open = false; touched = false; manner = first_manner }
 
 -- ---- steps
 
@@ -43,11 +46,19 @@ pub data SessionStep : Type 0 where
 abbrev pub statement_limit : ℕ
 statement_limit = 1000000
 
+-- how many bytes the tokens of a batch may have
+abbrev pub batch_limit : ℕ
+batch_limit = 134217728
+
+-- how many bytes tokens have
+abbrev pub size_of : List Token → ℕ
+size_of tokens = length (TokenBytes tokens)
+
 -- the progress after a step
 abbrev pub made : SessionStep → SessionProgress → SessionProgress
-made begins p = record p { tokens = []; left = statement_limit }
+made begins p = record p { tokens = []; room = batch_limit; left = statement_limit }
 made counts p = record p { left = p.left - 1 }
-made (sends tokens) p = record p { tokens = p.tokens ++ tokens }
+made (sends tokens) p = record p { tokens = p.tokens ++ tokens; room = p.room - size_of tokens }
 
 -- ---- exchanges
 

@@ -1,15 +1,15 @@
 -- Own: which statements a text is read as, by the tree that it stands for. So blanks, comments, the case of
--- keywords, quotes round names and `dbo.` make no difference, and no parentheses round an expression do. One
--- statement is served, of one of the forms
+-- keywords, quotes round names and `dbo.` make no difference, and no parentheses round an expression do. Any
+-- number of SELECTs is served, one after another, unless the text names a value of the session; and one statement of one of
+-- the forms
 --
---     SELECT number
 --     CREATE TABLE name (k INT NOT NULL PRIMARY KEY, v INT NOT NULL)
 --     INSERT INTO name VALUES (number, number)
---     SELECT k, v FROM name
 --
 -- with names that are not too long, and numbers of the range of INT where a row is inserted. Every other batch
 -- that reads is not built, and one that doesn't read is refused.
-use Rattle.std.specs.Prelude.{◌≡◌, ℕ, ℤ, pos, ◌&&◌, not, Bool, true, false, nat_le, if◌then◌else◌, List, [], ◌∷◌, ◌++◌, length, Option, None, Some, Result, Ok, Err}
+use Rattle.std.specs.Prelude.{◌≡◌, ◌⊎◌, ◌≤◌, ℕ, ℤ, pos, ◌&&◌, ◌||◌, Bool, true, false, nat_le, if◌then◌else◌, List, [], ◌∷◌, ◌++◌, length, map, Option, None, Some, Result, Ok, Err}
+use Rattle.std.specs.List.{list_all}
 use Rattle.value_types.specs.Units.{same_units}
 use Rattle.value_types.specs.declared.sql_type.SqlType.{SqlType}
 use Rattle.value_types.specs.declared.sql_type.SqlType.TheVariants.{Int}
@@ -19,17 +19,7 @@ use Rattle.tsql_tree.specs.declared.definition.Definition.{Definition}
 use Rattle.tsql_tree.specs.declared.definition.Definition.TheVariants.{Table}
 use Rattle.tsql_tree.specs.declared.definition.KeyTree.{KeyTree}
 use Rattle.tsql_tree.specs.declared.definition.TableTree.{TableTree}
-use Rattle.tsql_tree.specs.declared.query.Arm.{Arm}
 use Rattle.tsql_tree.specs.declared.query.Expr.{Expr, Expr-F, fold-Expr}
-use Rattle.tsql_tree.specs.declared.query.Factor.{Factor}
-use Rattle.tsql_tree.specs.declared.query.FromClause.{FromClause, out-FromClause}
-use Rattle.tsql_tree.specs.declared.query.Item.{Item, Item-F, out-Item}
-use Rattle.tsql_tree.specs.declared.query.Join.{Join}
-use Rattle.tsql_tree.specs.declared.query.OrderItem.{OrderItem}
-use Rattle.tsql_tree.specs.declared.query.Select.{Select, out-Select}
-use Rattle.tsql_tree.specs.declared.query.Term.{Term}
-use Rattle.tsql_tree.specs.declared.query.Test.{Test}
-use Rattle.tsql_tree.specs.declared.query.TableRef.{TableRef}
 use Rattle.tsql_tree.specs.declared.statement.Batch.{Batch}
 use Rattle.tsql_tree.specs.declared.statement.Batch.TheVariants.{Body}
 use Rattle.tsql_tree.specs.declared.statement.Form.{Form as TreeForm, Form-F, out-Form}
@@ -38,9 +28,16 @@ use Rattle.tsql_tree.specs.declared.statement.InsertRows.{InsertRows}
 use Rattle.tsql_tree.specs.declared.statement.InsertRows.TheVariants.{Values}
 use Rattle.query_parser.specs.declared.fault.ParseFault.{ParseFault}
 use Rattle.query_parser.specs.declared.fault.ParseFault.TheVariants as fault
-use Rattle.stmt_parser.specs.Parsed.{BatchOf}
+use Rattle.stmt_parser.specs.Parsed.{BatchOf, lexemes_of}
+use Rattle.tsql_lexer.specs.declared.lexeme.Sign.TheVariants.{Open}
+use Rattle.tsql_lexer.specs.declared.lexeme.Spanned.{Spanned}
+use Rattle.tsql_grammar.specs.declared.kind.Kind.{Kind}
+use Rattle.tsql_grammar.specs.declared.kind.Kind.TheVariants as kind
+use Rattle.tsql_grammar.specs.declared.kind.Function.{Function}
+use Rattle.tsql_grammar.specs.declared.kind.Function.TheVariants.{Cast, IsNull, Len, Count, Sum, Avg, Min, Max}
+use Rattle.tsql_grammar.specs.Words.{kind_of}
 use Rattle.batch_meaning.specs.declared.form.Form.{Form}
-use Rattle.batch_meaning.specs.declared.form.Form.TheVariants.{SelectNumber, CreateTable, Insert, SelectTable, NotBuilt, Refused}
+use Rattle.batch_meaning.specs.declared.form.Form.TheVariants.{Query, CreateTable, Insert, NotBuilt, Refused}
 use Rattle.batch_meaning.specs.declared.form.Served.{Served}
 use Rattle.batch_meaning.specs.Tables.{key_prefix, key_column, value_column, is_int}
 
@@ -51,49 +48,23 @@ abbrev pub ◌>>=◌ : {A B : Type 0} → Option A → (A → Option B) → Opti
 None >>= f = None
 (Some x) >>= f = f x
 
--- nothing stands there
-abbrev pub is_none : {A : Type 0} → Option A → Bool
-is_none None = true
-is_none (Some x) = false
-
 abbrev pub is_nil : {A : Type 0} → List A → Bool
 is_nil [] = true
 is_nil (x ∷ rest) = false
 
--- what an expression may be in a statement that is served: a number, or a column, named without its table's name
-pub data Operand : Type 0 where
-  literal : ℤ → Operand
-  named : List ℕ → Operand
-
 -- one node of an expression, with what each part is in its place: parentheses vanish
-abbrev pub operand_step : Expr-F (Option Operand) (Unit {0}) (Unit {0}) (Unit {0}) (Unit {0}) (Unit {0}) (Unit {0}) (Unit {0}) (Unit {0}) (Unit {0}) → Option Operand
-operand_step (Expr-F.Number n) = Some (literal n)
-operand_step (Expr-F.Column None name) = Some (named name)
-operand_step (Expr-F.Expr::Parens inner) = inner
-operand_step expr = None
+abbrev pub number_step : Expr-F (Option ℤ) (Unit {0}) (Unit {0}) (Unit {0}) (Unit {0}) (Unit {0}) (Unit {0}) (Unit {0}) (Unit {0}) (Unit {0}) → Option ℤ
+number_step (Expr-F.Number n) = Some n
+number_step (Expr-F.Expr::Parens inner) = inner
+number_step expr = None
 
--- which of them an expression is
-unfoldable pub operand_in : Expr → Option Operand
-operand_in = fold-Expr (Option Operand) (Unit {0}) (Unit {0}) (Unit {0}) (Unit {0}) (Unit {0}) (Unit {0}) (Unit {0}) (Unit {0}) (Unit {0}) operand_step (λ _. tt) (λ _. tt) (λ _. tt) (λ _. tt) (λ _. tt) (λ _. tt) (λ _. tt) (λ _. tt) (λ _. tt)
-
-abbrev pub as_number : Operand → Option ℤ
-as_number (literal n) = Some n
-as_number (named name) = None
-
-abbrev pub number_in : Expr → Option ℤ
-number_in expr = operand_in expr >>= as_number
+-- the number that an expression is
+unfoldable pub number_in : Expr → Option ℤ
+number_in = fold-Expr (Option ℤ) (Unit {0}) (Unit {0}) (Unit {0}) (Unit {0}) (Unit {0}) (Unit {0}) (Unit {0}) (Unit {0}) (Unit {0}) number_step (λ _. tt) (λ _. tt) (λ _. tt) (λ _. tt) (λ _. tt) (λ _. tt) (λ _. tt) (λ _. tt) (λ _. tt)
 
 -- a number of the range of INT
 abbrev pub int_in : Expr → Option ℤ
 int_in expr = number_in expr >>= λ n. if is_int (Whole n) then Some n else None
-
--- the expression is the column of this name
-abbrev pub names_column : List ℕ → Option Operand → Bool
-names_column name (Some (named other)) = same_units other name
-names_column name operand = false
-
-abbrev pub is_column : List ℕ → Expr → Bool
-is_column name expr = names_column name (operand_in expr)
 
 -- the most units of a name
 abbrev pub name_limit : ℕ
@@ -101,51 +72,6 @@ name_limit = 128
 
 abbrev pub short_name : List ℕ → Option (List ℕ)
 short_name name = if nat_le (length name) name_limit then Some name else None
-
--- ---- SELECT
-
--- the table of a FROM that has one, which is given no other name
-abbrev pub sole_table : TableRef → List Join → Option (List ℕ)
-sole_table table [] = if is_none table.alias then short_name table.name else None
-sole_table table joins = None
-
-abbrev pub table_in : Option FromClause → Option (List ℕ)
-table_in None = None
-table_in (Some from) = sole_table (out-FromClause from).first (out-FromClause from).joins
-
--- an item that is an expression, which is given no name
-abbrev pub item_step : Item-F Expr Item Join Test Arm Factor FromClause OrderItem Select Term → Option Expr
-item_step (Item-F.Value expr None) = Some expr
-item_step item = None
-
-abbrev pub bare_item : Item → Option Expr
-bare_item item = item_step (out-Item item)
-
--- one number, without FROM
-abbrev pub number_form : Item → Option FromClause → Option Form
-number_form item None = bare_item item >>= number_in >>= λ n. Some (SelectNumber n)
-number_form item (Some from) = None
-
--- the item is the column of this name
-abbrev pub is_column_item : List ℕ → Item → Bool
-is_column_item name item = names_column name (bare_item item >>= operand_in)
-
--- the two columns of a table
-abbrev pub table_form : Item → Item → Option FromClause → Option Form
-table_form key value from = if is_column_item key_column key && is_column_item value_column value then (table_in from >>= λ name. Some (SelectTable name)) else None
-
-abbrev pub selected : List Item → Option FromClause → Option Form
-selected (item ∷ []) from = number_form item from
-selected (key ∷ value ∷ []) from = table_form key value from
-selected items from = None
-
--- none but items and FROM stand
-abbrev pub is_plain : Select → Bool
-is_plain select = let of = out-Select select in
-    not of.distinct && is_none of.top && is_none of.filter && is_nil of.groups && is_none of.having && is_nil of.order
-
-abbrev pub plain_form : Select → Option Form
-plain_form select = if is_plain select then selected (out-Select select).items (out-Select select).from else None
 
 -- ---- INSERT
 
@@ -193,16 +119,15 @@ created_name table = if is_table_tree table && nat_le (length (key_prefix ++ tab
 abbrev pub create_form : TableTree → List ℕ → Option Form
 create_form table text = created_name table >>= λ name. Some (CreateTable name text)
 
--- the table that a definition defines
-abbrev pub defined_name : Definition → Option (List ℕ)
-defined_name (Table table) = created_name table
-defined_name definition = None
+-- the table of that form that a definition defines
+abbrev pub served_table : Definition → Option (List ℕ)
+served_table (Table table) = created_name table
+served_table definition = None
 
 -- ---- statements
 
 -- the form of a statement that is served
 abbrev pub form_step : Form-F TreeForm Statement → Option Form
-form_step (Form-F.Select select) = plain_form select
 form_step (Form-F.Insert name columns rows) = inserted name columns rows
 form_step (Form-F.CreateTable table text) = create_form table text
 form_step statement = None
@@ -218,21 +143,91 @@ abbrev pub served_at : ℕ → Option Form → Served
 served_at line (Some form) = record { line = pos line; form = form }
 served_at line None = not_built_statement
 
--- The statements of a batch: none, one that is served, or else one that is not built.
-abbrev pub statements_of : Batch → List Served
-statements_of (Body []) = []
-statements_of (Body (statement ∷ [])) = served_at (out-Statement statement).line (form_of (out-Statement statement).form) ∷ []
-statements_of batch = not_built_statement ∷ []
+abbrev pub is_select_step : Form-F TreeForm Statement → Bool
+is_select_step (Form-F.Select select) = true
+is_select_step form = false
+
+abbrev pub is_select : Statement → Bool
+is_select statement = is_select_step (out-Form (out-Statement statement).form)
+
+abbrev pub query_at : Statement → Served
+query_at statement = record { line = pos (out-Statement statement).line; form = Query statement }
+
+-- one statement, of a form that is served
+abbrev pub sole_statement : List Statement → List Served
+sole_statement (statement ∷ []) = served_at (out-Statement statement).line (form_of (out-Statement statement).form) ∷ []
+sole_statement statements = not_built_statement ∷ []
+
+-- SELECTs, unless they name a value of the session
+abbrev pub selects_of : Bool → List Statement → List Served
+selects_of of_session statements = if of_session then not_built_statement ∷ [] else map query_at statements
+
+-- The statements of a batch, by whether its text names a value of the session.
+abbrev pub statements_of : Bool → Batch → List Served
+statements_of of_session (Body statements) = if list_all is_select statements then selects_of of_session statements else sole_statement statements
+statements_of of_session batch = not_built_statement ∷ []
+
+-- ---- values of the session
+
+-- a system value
+abbrev pub is_system : Kind → Bool
+is_system kind.TranCount = true
+is_system kind.Error = true
+is_system kind.RowCount = true
+is_system kind.FetchStatus = true
+is_system other = false
+
+-- XACT_STATE, and the functions of an error
+abbrev pub is_of_session : Function → Bool
+is_of_session Cast = false
+is_of_session IsNull = false
+is_of_session Len = false
+is_of_session Count = false
+is_of_session Sum = false
+is_of_session Avg = false
+is_of_session Min = false
+is_of_session Max = false
+is_of_session function = true
+
+abbrev pub is_session_function : Kind → Bool
+is_session_function (kind.Function function) = is_of_session function
+is_session_function other = false
+
+abbrev pub is_open : Kind → Bool
+is_open (kind.Sign Open) = true
+is_open other = false
+
+-- One stands among lexemes: a system value, or such a function's name and its parenthesis; such a name, or
+-- another lexeme, stands before them.
+abbrev pub names_session_behind : Bool → List Spanned → Bool
+names_session_behind named [] = false
+names_session_behind named (l ∷ rest) =
+    let of = kind_of l.lexeme in
+    (is_system of || (named && is_open of)) || names_session_behind (is_session_function of) rest
+
+-- a text of SELECTs names a value of the session
+abbrev pub names_session : List ℕ → Bool
+names_session text = names_session_behind false (lexemes_of text)
 
 -- ---- texts
 
 -- what parsing gave, as statements; a text that is refused is the one statement that tells why
-abbrev pub AreRead : Result Batch ParseFault → List Served → Type 0
-AreRead (Ok batch) statements = statements ≡ statements_of batch
-AreRead (Err (fault.Refused number line near)) statements =
+abbrev pub AreRead : List ℕ → Result Batch ParseFault → List Served → Type 0
+AreRead text (Ok batch) statements = statements ≡ statements_of (names_session text) batch
+AreRead text (Err (fault.Refused number line near)) statements =
     (code : ℕ) × (number ≡ pos code) × (statements ≡ record { line = pos line; form = Refused code near } ∷ [])
-AreRead (Err fault.Memory) statements = ⊥
+AreRead text (Err fault.Memory) statements = ⊥
 
 -- The text is read as these statements.
 abbrev pub ReadsAs : List ℕ → List Served → Type 0
-ReadsAs text statements = (outcome : Result Batch ParseFault) × BatchOf text outcome × AreRead outcome statements
+ReadsAs text statements = (outcome : Result Batch ParseFault) × BatchOf text outcome × AreRead text outcome statements
+
+-- ---- what writes stands alone
+
+abbrev pub is_query : Form → Bool
+is_query (Query statement) = true
+is_query form = false
+
+-- they are SELECTs, or one statement at most
+abbrev pub WritesAlone : List Served → Type 0
+WritesAlone statements = (list_all (λ statement. is_query statement.form) statements ≡ true) ⊎ (length statements ≤ 1)

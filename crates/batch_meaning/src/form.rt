@@ -1,9 +1,10 @@
 //! What a text is read as: statements that are served, or why it is not.
 
+use tsql_tree::Statement;
 use value_types::Units;
 
 /// A statement, and its line.
-#[derive(Debug, Drop, PartialEq)]
+#[derive(Drop)]
 pub struct Served {
     /// The line that its errors tell, from 1.
     pub line: i32,
@@ -12,12 +13,12 @@ pub struct Served {
 }
 
 /// The forms that a statement may have.
-#[derive(Debug, Drop, PartialEq)]
+#[derive(Drop)]
 pub enum Form {
-    /// `SELECT` of one number.
-    SelectNumber {
-        /// The number.
-        number: i64,
+    /// `SELECT`.
+    Query {
+        /// The statement.
+        statement: Statement,
     },
     /// `CREATE TABLE` of a table with the columns `k`, the key, and `v`.
     CreateTable {
@@ -34,11 +35,6 @@ pub enum Form {
         key: i64,
         /// The value of `v`.
         value: i64,
-    },
-    /// `SELECT` of a whole table.
-    SelectTable {
-        /// The table's name.
-        name: Units,
     },
     /// What is not built yet.
     NotBuilt,

@@ -6,10 +6,14 @@
 //! ([`law_reading`]), and a batch of one statement commits what its tokens tell ([`law_commits`]).
 #![tactic(auto)]
 
-mod effect;
+mod exit;
+mod failure;
 mod form;
 mod laws;
+mod rows;
 
-pub use effect::{Effect, Exit, RowList};
+pub use exit::Exit;
+pub use failure::Failure;
 pub use form::{Form, Served};
 pub use laws::{law_commits, law_reading};
+pub use rows::RowList;

@@ -7,5 +7,6 @@ pub mod JoinCalls
 pub mod JoinSteps
 pub mod KeyTests
 pub mod Reading
+pub mod TablesRead
 pub mod Steps
 mod StandardFacts

@@ -6,6 +6,7 @@ ghost use Rattle.bound_tree.specs.Outcomes.{after};
 ghost use Rattle.scalar_eval.specs.Answers.{Gives};
 ghost use Rattle.scalar_eval.specs.Scopes.{inner_rows, values_of};
 ghost use Rattle.query_eval.specs.Ans as spec;
+ghost use Rattle.query_eval.specs.Given.{GivesRows};
 ghost use Rattle.query_eval.specs.Found.{FindsBy, Finds, stock_of};
 
 use crate::PAIR_LIMIT;
@@ -64,17 +65,48 @@ pub fn answer(
     }
 }
 
+/// The rows alone of what a query answers, with the errors of [`answer`].
+pub fn answer_rows(
+    alloc: Global,
+    query: &BoundQuery,
+    images: &[Image],
+    vars: &Vars,
+    system: &SystemValues,
+) -> Result<Vec<Row>, EvalFault>
+    ensures { GivesRows result (spec.Ans (values_of vars.now) system.now query.now images.now) }
+{
+    match given_rows(
+        alloc,
+        query,
+        &Source {
+            images,
+            vars,
+            system,
+        },
+    ) {
+        Ok(rows) => Ok(rows),
+        Err(stop) => Err(widened(stop)),
+    }
+}
+
 /// The same, with why there is no answer in two words.
 fn answered(alloc: Global, query: &BoundQuery, source: &Source<'_>) -> Result<Table, Stop>
     ensures { Finds result (after (spec.Ans (values_of source.now.vars.now) source.now.system.now query.now source.now.images.now)
         (λ rows. Ok (spec.table_of query.now rows))) }
 {
+    let rows = given_rows(alloc, query, source)?;
+    Ok(table_of(alloc, query, rows)?)
+}
+
+/// The rows that a query answers, from the whole budget.
+fn given_rows(alloc: Global, query: &BoundQuery, source: &Source<'_>) -> Result<Vec<Row>, Stop>
+    ensures { FindsBy (λ rows. rows.items) result (spec.Ans (values_of source.now.vars.now) source.now.system.now query.now source.now.images.now) }
+{
     let mut left = Left {
         read: 0,
         budget: PAIR_LIMIT,
     };
-    let rows = query_rows(alloc, query, source, &mut left)?;
-    Ok(table_of(alloc, query, rows)?)
+    query_rows(alloc, query, source, &mut left)
 }
 
 /// Rows with the names and types of a query's items.

@@ -17,9 +17,11 @@ mod key_tests;
 mod laws;
 mod limit;
 mod phases;
+mod references;
 mod side;
 
-pub use answering::answer;
+pub use answering::{answer, answer_rows};
 pub use key_tests::ColumnTest;
 pub use laws::{law_images, law_key_tests};
 pub use limit::{PAIR_LIMIT, law_pair_limit};
+pub use references::tables_read;

@@ -11,7 +11,7 @@ use Rattle.batch_meaning.specs.Progress.{SessionProgress, first_progress}
 use Rattle.batch_meaning.specs.Doing.{Doing, over, reads, ◌then◌, Held}
 use Rattle.batch_meaning.specs.Meaning.{batch, rolls_back_open}
 use Rattle.batch_meaning.specs.Told.{commits_by_all, tells_error, told_commits}
-use Rattle.batch_meaning.proofs.OneReading.{few_read}
+use Rattle.batch_meaning.proofs.OneReading.{alone_read}
 use Rattle.batch_meaning.proofs.Ways.{Commits, with_commits, commits_more, Ways, ways_held, ways_left, ways_bind}
 use Rattle.batch_meaning.proofs.Commits.{Settled, Told, rolls_back_ways, rolls_back_none, batch_ways}
 use Rattle.session_server.specs.Response.{Response, options, tabular}
@@ -43,7 +43,7 @@ module _ (Kept : Commits → Type 0) (commits : Commits) (kept : Kept commits) (
   unfolding batch_response
   request_answers (responds response next) statements none whole = (ap (with_commits commits) (sym (silent_told (record { handling = responds response next; statements = statements }) none response)), refl, shut)
   request_answers (runs size text) statements read whole =
-      ways_bind (batch statements) (λ _. reads λ q. over (tabular size q.tokens)) _ _ _ _ (Told statements commits) _ (batch_ways Kept statements commits (few_read text statements read) kept whole p shut)
+      ways_bind (batch statements) (λ _. reads λ q. over (tabular size q.tokens)) _ _ _ _ (Told statements commits) _ (batch_ways Kept commits kept p shut statements (alone_read text statements read) whole)
       (λ none s c q told. (told.0, told.1, told.2))
   request_answers (refuses response number) statements none whole = (ap (with_commits commits) (sym (silent_told (record { handling = refuses response number; statements = statements }) none response)), refl, shut)
   request_answers (ends end) statements none whole = tt

@@ -1,6 +1,7 @@
-use Rattle.std.proofs.Common.{refl}
+use Rattle.std.proofs.Common.{Ok, ap}
 use Rattle.batch_meaning.specs.Meaning.{creates}
-use Rattle.batch_meaning.proofs.Composed.{does_over, does_bind, does_fail}
+use Rattle.batch_meaning.proofs.Composed.{does_bind, does_fail}
+use Rattle.batch_exec.proofs.Selects.{does_made}
 use Rattle.batch_exec.proofs.statement.create.Goals as goal
 
 pub returns-in_err-put_object-clause-does : goal.returns-in_err-put_object-clause-does
@@ -9,4 +10,4 @@ returns-in_err-put_object-clause-does g c = does_fail _ _ _ c.from_residual.ensu
 
 pub returns-clause-does : goal.returns-clause-does
 unfolding creates
-returns-clause-does g c = does_bind _ _ c.in_ok-put_object.ensures.does (does_over refl)
+returns-clause-does g c = does_bind _ _ c.in_ok-put_object.ensures.does (does_made (ap Ok c.no_tokens.ensures))

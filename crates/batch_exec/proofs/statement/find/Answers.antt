@@ -1,22 +1,12 @@
-use Rattle.std.proofs.Common.{refl}
-use Rattle.batch_meaning.proofs.Composed.{does_over, does_asks}
-use Rattle.batch_exec.proofs.Definitions.{does_defined_by}
+use Rattle.batch_meaning.specs.Meaning.{finds}
+use Rattle.batch_meaning.proofs.Composed.{does_bind, does_fail}
+use Rattle.batch_exec.proofs.Selects.{does_made}
 use Rattle.batch_exec.proofs.statement.find.Goals as goal
 
-pub returns-in-Row-clause-does : goal.returns-in-Row-clause-does
-returns-in-Row-clause-does g c = does_asks c.in-Row.ensures.asked (does_defined_by _ _ c.define_in.ensures)
+pub returns-in_err-found-clause-does : goal.returns-in_err-found-clause-does
+unfolding finds
+returns-in_err-found-clause-does g c = does_fail _ _ _ c.from_residual.ensures.0 c.from_residual.ensures.1 c.in_err-found.ensures.does
 
-pub returns-in-Gone-clause-does : goal.returns-in-Gone-clause-does
-returns-in-Gone-clause-does g c = does_asks c.in-Gone.ensures.asked (does_over refl)
-
-pub returns-in-End-clause-does : goal.returns-in-End-clause-does
-returns-in-End-clause-does g c = does_asks c.in-End.ensures.asked (does_over refl)
-
-pub returns-in-Memory-clause-does : goal.returns-in-Memory-clause-does
-returns-in-Memory-clause-does g c = does_asks c.in-Memory.ensures.asked (does_over refl)
-
-pub returns-in-TimedOut-clause-does : goal.returns-in-TimedOut-clause-does
-returns-in-TimedOut-clause-does g c = does_asks c.in-TimedOut.ensures.asked (does_over refl)
-
-pub returns-in-Victim-clause-does : goal.returns-in-Victim-clause-does
-returns-in-Victim-clause-does g c = does_asks c.in-Victim.ensures.asked (does_over refl)
+pub returns-clause-does : goal.returns-clause-does
+unfolding finds
+returns-clause-does g c = does_bind _ _ c.in_ok-found.ensures.does (does_made c.as_served.ensures)

@@ -1,6 +1,7 @@
-use Rattle.std.proofs.Common.{true, false, refl}
+use Rattle.std.proofs.Common.{true, false, Err, ap}
 use Rattle.batch_meaning.specs.Meaning.{reads_rows}
 use Rattle.batch_meaning.proofs.Composed.{does_over, does_room}
+use Rattle.batch_exec.proofs.Selects.{does_made}
 use Rattle.batch_exec.proofs.statement.look_for_triggers.Goals as goal
 
 pub returns-in-Ok-clause-does : goal.returns-in-Ok-clause-does
@@ -9,4 +10,4 @@ returns-in-Ok-clause-does g c = does_room true (rw c.in-Ok.ensures at c.read_row
 
 pub returns-in-Err-clause-does : goal.returns-in-Err-clause-does
 unfolding reads_rows
-returns-in-Err-clause-does g c = does_room false (does_over refl)
+returns-in-Err-clause-does g c = does_room false (does_made (ap Err c.plain.ensures))

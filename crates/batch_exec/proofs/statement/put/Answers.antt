@@ -1,9 +1,10 @@
-use Rattle.std.proofs.Common.{refl}
+use Rattle.std.proofs.Common.{Err, ap}
 use Rattle.batch_meaning.proofs.Composed.{does_over, does_asks}
+use Rattle.batch_exec.proofs.Selects.{does_made}
 use Rattle.batch_exec.proofs.statement.put.Goals as goal
 
 pub returns-in-Marked-clause-does : goal.returns-in-Marked-clause-does
 returns-in-Marked-clause-does g c = does_asks c.in-Marked.ensures.asked c.insert_row.ensures.does
 
 pub returns-in-Memory-clause-does : goal.returns-in-Memory-clause-does
-returns-in-Memory-clause-does g c = does_asks c.in-Memory.ensures.asked (does_over refl)
+returns-in-Memory-clause-does g c = does_asks c.in-Memory.ensures.asked (does_made (ap Err c.plain.ensures))

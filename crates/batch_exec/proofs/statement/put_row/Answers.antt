@@ -1,4 +1,4 @@
-use Rattle.std.proofs.Common.{◌≡◌, to_z, of_z, Ok, true, false, refl, subst}
+use Rattle.std.proofs.Common.{◌≡◌, to_z, of_z, Ok, true, false, subst, Err, ap}
 use Rattle.std.specs.Int.{w64}
 use Rattle.std.proofs.lemmas.Int.{to_z-of_z}
 use Rattle.step_model.specs.declared.op.Op.TheVariants.{Mark, Insert}
@@ -9,6 +9,7 @@ use Rattle.batch_meaning.specs.Doing.{Did, asks}
 use Rattle.batch_meaning.specs.Meaning.{unless_refused, placed, marked, puts}
 use Rattle.batch_meaning.specs.Tokens.{duplicate_key}
 use Rattle.batch_meaning.proofs.Composed.{does_over, does_room}
+use Rattle.batch_exec.proofs.Selects.{does_made}
 use Rattle.batch_exec.proofs.statement.put_row.Goals as goal
 
 pub returns-in-Ok-clause-does : goal.returns-in-Ok-clause-does
@@ -20,4 +21,4 @@ returns-in-Ok-clause-does g c =
 
 pub returns-in-Err-clause-does : goal.returns-in-Err-clause-does
 unfolding puts
-returns-in-Err-clause-does g c = does_room false (does_over refl)
+returns-in-Err-clause-does g c = does_room false (does_made (ap Err c.plain.ensures))

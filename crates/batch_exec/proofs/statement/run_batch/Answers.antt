@@ -1,7 +1,5 @@
-use Rattle.std.proofs.Common.{◌≡◌, [], ◌∷◌, refl, rules}
+use Rattle.std.proofs.Common.{refl}
 use Rattle.batch_meaning.specs.Meaning.{batch}
-use Rattle.batch_meaning.specs.Tokens.{batch_done}
-use Rattle.batch_exec.proofs.Fitting.{fits_as, batch_done_fit}
 use Rattle.batch_meaning.proofs.Composed.{does_over, does_makes, does_then, does_out, does_leave}
 use Rattle.batch_exec.proofs.statement.run_batch.Goals as goal
 
@@ -19,11 +17,4 @@ returns-in_err-send-clause-does g c = does_makes c.begin_batch.ensures (does_the
 
 pub returns-clause-does : goal.returns-clause-does
 unfolding batch
-returns-clause-does g c =
-    let is : c.in_ok-end.end.items ≡ batch_done c.in_ok-exit.exit ∷ [] = search rules in
-    does_makes c.begin_batch.ensures (does_then _ _ c.in_ok-exit.ensures.does (does_makes (rw is at c.in_ok-send.ensures.sent) (does_over refl)))
-
-pub send-requires : goal.send-requires
-send-requires g c =
-    let is : c.in_ok-end.end.items ≡ batch_done c.in_ok-exit.exit ∷ [] = search rules in
-    record { fit = fits_as _ _ is (batch_done_fit c.in_ok-exit.exit) }
+returns-clause-does g c = does_makes c.begin_batch.ensures (does_then _ _ c.in_ok-exit.ensures.does (does_makes (rw c.in_ok-end.ensures at c.in_ok-send.ensures.sent) (does_over refl)))

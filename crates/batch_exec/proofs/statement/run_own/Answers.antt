@@ -1,6 +1,7 @@
-use Rattle.std.proofs.Common.{refl, sym}
+use Rattle.std.proofs.Common.{refl, sym, Err, ap}
 use Rattle.batch_meaning.specs.Meaning.{own}
 use Rattle.batch_meaning.proofs.Composed.{does_over, does_reads, does_yes, does_no, does_asks, does_then}
+use Rattle.batch_exec.proofs.Selects.{does_made}
 use Rattle.batch_exec.proofs.statement.run_own.Goals as goal
 
 pub returns-then-in_transaction-clause-does : goal.returns-then-in_transaction-clause-does
@@ -14,4 +15,4 @@ returns-in-Began-clause-does g c = does_reads (does_no _ _ _ (sym c.if-in_transa
 
 pub returns-in-Memory-clause-does : goal.returns-in-Memory-clause-does
 unfolding own
-returns-in-Memory-clause-does g c = does_reads (does_no _ _ _ (sym c.if-in_transaction.ensures) (does_asks c.in-Memory.ensures.asked (does_over refl)))
+returns-in-Memory-clause-does g c = does_reads (does_no _ _ _ (sym c.if-in_transaction.ensures) (does_asks c.in-Memory.ensures.asked (does_made (ap Err c.plain.ensures))))

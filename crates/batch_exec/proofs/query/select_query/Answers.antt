@@ -1,0 +1,16 @@
+use Rattle.batch_meaning.specs.Meaning.{over_query}
+use Rattle.batch_meaning.proofs.Composed.{does_bind, does_fail}
+use Rattle.batch_exec.proofs.Fitting.{answer_fits}
+use Rattle.batch_exec.proofs.Selects.{does_result}
+use Rattle.batch_exec.proofs.query.select_query.Goals as goal
+
+pub returns-in_err-images-clause-does : goal.returns-in_err-images-clause-does
+unfolding over_query
+returns-in_err-images-clause-does g c = does_fail _ _ _ c.from_residual.ensures.0 c.from_residual.ensures.1 c.in_err-images.ensures.does
+
+pub returns-clause-does : goal.returns-clause-does
+unfolding over_query
+returns-clause-does g c = does_bind _ _ c.in_ok-images.ensures.does (does_result _ _ (rw c.as_slice.ensures at c.answer.ensures))
+
+pub answer-requires : goal.answer-requires
+answer-requires g c = record { fits = rw c.as_slice.ensures (answer_fits c.args.definitions.now c.args.statement.now c.args.query.now _ c.requires.bound c.in_ok-images.ensures.fit) }

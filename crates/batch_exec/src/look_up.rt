@@ -1,0 +1,144 @@
+//! How names are looked up in `objects`.
+
+ghost use Rattle.std.specs.Prelude.{◌≡◌, [], true, Ok, IfOk, IsTrue};
+ghost use Rattle.lock_modes.specs.declared.KeyPart.TheVariants.{S};
+ghost use Rattle.step_model.specs.declared.op.Hold.TheVariants as hold;
+ghost use Rattle.step_model.specs.declared.op.Op.TheVariants as ops;
+ghost use Rattle.step_model.specs.declared.range.Start.TheVariants.{At};
+ghost use Rattle.step_model.specs.declared.range.Stop.TheVariants.{Within};
+ghost use Rattle.batch_meaning.specs.Doing.{Did, asks};
+ghost use Rattle.batch_meaning.specs.Meaning.{unless_refused, known, look_up, looks_up, with_found, with_room};
+ghost use Rattle.batch_meaning.specs.Progress.{Ready};
+ghost use Rattle.batch_meaning.specs.Tables.{table_of};
+ghost use Rattle.catalog_rows.specs.Definitions.{objects_name, object_key, IsDefinitionAt};
+ghost use Rattle.batch_exec.specs.Selected.{IsDefined};
+
+use crate::numbers::{DEADLOCK, LOCK_TIMEOUT, NO_MEMORY};
+use crate::state::SessionState;
+use batch_meaning::Failure;
+use catalog_rows::{definition_at, is_objects, object_key};
+use lock_modes::KeyPart;
+use sqlite_items::Items;
+use std::alloc::Global;
+use step_model::{Hold, Op, Port, Reply, Start, Stop};
+use tsql_tree::Definition;
+use value_types::{Key, Memory, Row, TableName, Units};
+
+/// What names are defined as, one after another; what is not defined is left out.
+pub(crate) fn look_up_all<P: Port>(
+    alloc: Global,
+    session: &mut SessionState,
+    port: &mut P,
+    names: &[Units],
+) -> Result<Items<Definition>, Failure>
+    requires ready { Ready session.old (P.past port.old) }
+    requires begun { session.old.is_open ≡ true }
+    ensures does { Did (P.past port.old) (P.past port.new) (looks_up [] names.now) session.old (Ok result) session.new }
+    ensures ready { Ready session.new (P.past port.new) }
+    ensures begun { session.new.is_open ≡ true }
+{
+    let mut definitions = Items::new(alloc);
+    for name in names {
+        let found = look_up(alloc, session, port, name)?;
+        if !add(&mut definitions, found) {
+            return Err(Failure::plain(NO_MEMORY));
+        }
+    }
+    Ok(definitions)
+}
+
+/// Adds a definition, where there is one. Whether there was memory for it.
+fn add(definitions: &mut Items<Definition>, found: Option<Definition>) -> bool
+    ensures { IsTrue result → definitions.new ≡ with_found definitions.old found }
+{
+    match found {
+        Some(definition) => definitions.push(definition).is_ok(),
+        None => true,
+    }
+}
+
+/// What a name is defined as; `objects` is no table of a batch, and nothing is asked of it.
+pub(crate) fn look_up<P: Port>(
+    alloc: Global,
+    session: &mut SessionState,
+    port: &mut P,
+    name: &Units,
+) -> Result<Option<Definition>, Failure>
+    requires ready { Ready session.old (P.past port.old) }
+    requires begun { session.old.is_open ≡ true }
+    ensures does { Did (P.past port.old) (P.past port.new) (look_up name.now) session.old (Ok result) session.new }
+    ensures ready { Ready session.new (P.past port.new) }
+    ensures begun { session.new.is_open ≡ true }
+{
+    if is_objects(name) {
+        return Ok(None);
+    }
+    match object_range(alloc, name) {
+        Ok((table, start, stop)) => find(alloc, session, port, table, start, stop),
+        Err(_) => Err(Failure::plain(NO_MEMORY)),
+    }
+}
+
+/// What stands in a range of one key.
+fn find<P: Port>(
+    alloc: Global,
+    session: &mut SessionState,
+    port: &mut P,
+    table: TableName,
+    start: Key,
+    stop: Key,
+) -> Result<Option<Definition>, Failure>
+    requires ready { Ready session.old (P.past port.old) }
+    requires begun { session.old.is_open ≡ true }
+    ensures does { Did (P.past port.old) (P.past port.new) (asks (ops.Fetch table (At start) (Within stop) hold.Range S) (unless_refused known)) session.old (Ok result) session.new }
+    ensures ready { Ready session.new (P.past port.new) }
+    ensures begun { session.new.is_open ≡ true }
+{
+    let fetch = Op::Fetch {
+        table,
+        start: Start::At(start),
+        stop: Stop::Within(stop),
+        hold: Hold::Range,
+        part: KeyPart::S,
+    };
+    match session.ask(port, &fetch) {
+        Reply::Row { key, row, .. } => defined(alloc, &key, &row),
+        Reply::Gone { .. } => Ok(None),
+        Reply::End { .. } => Ok(None),
+        Reply::Memory => Err(Failure::plain(NO_MEMORY)),
+        Reply::TimedOut { .. } => Err(Failure::plain(LOCK_TIMEOUT)),
+        Reply::Victim { .. } => Err(Failure::plain(DEADLOCK)),
+        _ => unreachable!(),
+    }
+}
+
+/// What a row of `objects` defines.
+fn defined(alloc: Global, key: &Key, row: &Row) -> Result<Option<Definition>, Failure>
+    ensures { IsDefined key.now row.now result }
+{
+    match definition_at(alloc, key, row) {
+        Ok(found) => Ok(found),
+        Err(_) => Err(Failure::plain(NO_MEMORY)),
+    }
+}
+
+/// The table of definitions, and twice a definition's key.
+fn object_range(alloc: Global, name: &Units) -> Result<(TableName, Key, Key), Memory>
+    ensures { IfOk result (λ range. range ≡ (table_of objects_name, object_key name.now, object_key name.now)) }
+{
+    Ok((
+        objects(alloc)?,
+        object_key(alloc, name)?,
+        object_key(alloc, name)?,
+    ))
+}
+
+/// The table that has the definitions.
+pub(crate) fn objects(alloc: Global) -> Result<TableName, Memory>
+    ensures { IfOk result (λ table. table ≡ table_of objects_name) }
+{
+    Ok(TableName {
+        object: Units::of_ascii(alloc, b"objects")?,
+        part: 0,
+    })
+}

@@ -1,0 +1,50 @@
+//! Tokens that can be sent.
+
+ghost use Rattle.std.specs.Prelude.{◌≡◌};
+ghost use Rattle.batch_exec.specs.Sendable.{IsFit};
+
+use std::marker::Model;
+use tds_tokens::Token;
+
+/// Tokens that have bytes, whatever columns were described before them.
+#[derive(Drop)]
+pub(crate) struct TokenList {
+    tokens: Vec<Token>,
+}
+
+impl Model for TokenList {
+    ghost use Rattle.std.specs.Prelude.{List};
+    ghost use Rattle.tds_tokens.specs.declared.token.Token.{Token as Sent};
+    ghost use Rattle.batch_exec.specs.Sendable.{IsFit};
+
+    ghost Value = { List Sent };
+
+    ghost view = { λ list. list.tokens.items };
+
+    ghost invariant = { λ list. IsFit list.tokens.items };
+}
+
+impl TokenList {
+    /// These tokens.
+    pub(crate) fn new(tokens: Vec<Token>) -> TokenList
+        requires { IsFit tokens.items }
+        ensures { result ≡ tokens.items }
+    {
+        TokenList { tokens }
+    }
+
+    /// The tokens in order.
+    pub(crate) fn as_slice(&self) -> &[Token]
+        ensures { result.now ≡ self.now }
+    {
+        self.tokens.as_slice()
+    }
+
+    /// The tokens in order, owned.
+    pub(crate) fn into_vec(self) -> Vec<Token>
+        ensures tokens { result.items ≡ self }
+        ensures fit { IsFit self }
+    {
+        self.tokens
+    }
+}
