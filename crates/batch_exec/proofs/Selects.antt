@@ -17,9 +17,9 @@ use Rattle.std.specs.Prelude.{nat_lt}
 use Rattle.tds_tokens.specs.declared.token.Token.{Token}
 use Rattle.batch_meaning.specs.Progress.{SessionProgress, size_of}
 use Rattle.batch_meaning.specs.Doing.{Doing, ◌then◌, over, defines, Did, Leads}
-use Rattle.batch_meaning.specs.Meaning.{on_ok, ◌>>=◌, fails, with_room, if_room, look_up, looks_up, with_found, reads_rows, reads_images}
-use Rattle.batch_meaning.specs.Selecting.{answered, answered_alone, shape_of, result_full}
-use Rattle.batch_meaning.proofs.Composed.{does_over, does_reads, does_room, does_then, does_defines, leads_room, leads_then}
+use Rattle.batch_meaning.specs.Meaning.{on_ok, ◌>>=◌, fails, with_room, if_bytes_left, look_up, looks_up, is_table, with_found, reads_rows, reads_images}
+use Rattle.batch_meaning.specs.Selecting.{answered, answered_unasked, shape_of, result_full}
+use Rattle.batch_meaning.proofs.Composed.{does_over, does_reads, does_room, does_then, does_defines, leads_room, leads_then, leads_to, leads_yes, leads_no}
 use Rattle.batch_exec.specs.Selected.{IsOrMemory, IsDefined, ImagesFit, roomed}
 
 -- a part that wants memory, and is done at once
@@ -38,11 +38,11 @@ pub does_failed : {before mid : PortPast} {A B : Type 0} (tree : Doing (Result A
 does_failed tree go first = does_then tree (on_ok go) first (does_over refl)
 
 -- a SELECT that names no table, which is bound to a query, or is not bound
-pub alone_bound : (bound : Result BoundQuery Failure) (query : BoundQuery) (result : Result (List Token) Failure) → IsOrMemory bound (Ok query) → IsOrMemory (answered query []) result → IsOrMemory (answered_alone bound) result
-alone_bound bound query result is answers = subst (λ (b : Result BoundQuery Failure). IsOrMemory (answered_alone b) result) (sym (meant_ok bound query is)) answers
+pub alone_bound : (bound : Result BoundQuery Failure) (query : BoundQuery) (result : Result (List Token) Failure) → IsOrMemory bound (Ok query) → IsOrMemory (answered query []) result → IsOrMemory (answered_unasked bound) result
+alone_bound bound query result is answers = subst (λ (b : Result BoundQuery Failure). IsOrMemory (answered_unasked b) result) (sym (meant_ok bound query is)) answers
 
-pub alone_failed : (bound : Result BoundQuery Failure) (failure : Failure) → IsOrMemory bound (Err failure) → IsOrMemory (answered_alone bound) (Err failure)
-alone_failed bound failure (inl same) = subst (λ (b : Result BoundQuery Failure). IsOrMemory (answered_alone b) (Err failure)) same (inl refl)
+pub alone_failed : (bound : Result BoundQuery Failure) (failure : Failure) → IsOrMemory bound (Err failure) → IsOrMemory (answered_unasked bound) (Err failure)
+alone_failed bound failure (inl same) = subst (λ (b : Result BoundQuery Failure). IsOrMemory (answered_unasked b) (Err failure)) same (inl refl)
 alone_failed bound failure (inr none) = inr (let same : failure ≡ plain no_memory = cc in ap Err same)
 
 -- what was made at once
@@ -50,8 +50,8 @@ pub does_made : {past : PortPast} {A : Type 0} {made result : A} {p : SessionPro
 does_made {past = past} {made = made} {p = p} is = subst (λ r. Did past past (over made) p (Ok r) p) (sym is) (does_over refl)
 
 -- whether there is room for tokens
-pub does_roomed : {past : PortPast} (tokens : List Token) {result : Result (List Token) Failure} {p : SessionProgress} → result ≡ roomed tokens p → Did past past (if_room tokens) p (Ok result) p
-does_roomed {past = past} tokens {p = p} is = subst (λ r. Did past past (if_room tokens) p (Ok r) p) (sym is) (does_reads (by_test (nat_lt p.room (size_of tokens))))
+pub does_roomed : {past : PortPast} (tokens : List Token) {result : Result (List Token) Failure} {p : SessionProgress} → result ≡ roomed tokens p → Did past past (if_bytes_left tokens) p (Ok result) p
+does_roomed {past = past} tokens {p = p} is = subst (λ r. Did past past (if_bytes_left tokens) p (Ok r) p) (sym is) (does_reads (by_test (nat_lt p.bytes_left (size_of tokens))))
   where
     by_test : (full : Bool) → Did past past (if full then fails result_full else over (Ok tokens)) p (Ok (if full then Err (plain result_full) else Ok tokens)) p
     by_test true = does_over refl
@@ -68,11 +68,25 @@ next_of : {A : Type 0} (l : List A) (i : ℕ) (item : A) → item ≡ get_or l i
 next_of {A = A} l i item is within = drop-cons l i item within ∙ ap (λ (x : A). x ∷ drop (suc i) l) (sym is) ∙ ap (λ (n : ℕ). item ∷ drop n l) (sym (add-one i))
 
 -- the next name is looked up
-pub next_name : {before now : PortPast} {whole : Doing (Result (List Definition) Failure)} {old mid : SessionProgress} (names : List (List ℕ)) (i : ℕ) (name : List ℕ) (definitions : List Definition)
+next_name : {before now : PortPast} {whole : Doing (Result (List Definition) Failure)} {old mid : SessionProgress} (names : List (List ℕ)) (i : ℕ) (name : List ℕ) (definitions : List Definition)
     → name ≡ get_or names i name → i < length names → Leads before now whole old (looks_up definitions (drop i names)) mid
-    → Leads before now whole old (look_up name >>= λ found. with_room (looks_up (with_found definitions found) (drop (i + 1) names))) mid
+    → Leads before now whole old (look_up name >>= λ found. if is_table found then with_room (looks_up (with_found definitions found) (drop (i + 1) names)) else over (Ok definitions)) mid
 unfolding looks_up
 next_name names i name definitions is within leads = rw (next_of names i name is within) at leads
+
+module _ {before now : PortPast} {whole : Doing (Result (List Definition) Failure)} {old mid : SessionProgress} (names : List (List ℕ)) (i : ℕ) (name : List ℕ) (definitions : List Definition)
+    (is : name ≡ get_or names i name) (within : i < length names) (leads : Leads before now whole old (looks_up definitions (drop i names)) mid) where
+  -- it could not be
+  pub name_failed : {after : PortPast} {q : SessionProgress} {failure : Failure} → Did now after (look_up name) mid (Ok (Err failure)) q → Did before after whole old (Ok (Err failure)) q
+  name_failed does = leads_to (next_name names i name definitions is within leads) (does_failed (look_up name) _ does)
+
+  -- it is a table's
+  pub name_found : {after : PortPast} {q : SessionProgress} (found : Option Definition) → Did now after (look_up name) mid (Ok (Ok found)) q → is_table found ≡ true → Leads before after whole old (with_room (looks_up (with_found definitions found) (drop (i + 1) names))) q
+  name_found found does table = leads_yes (is_table found) _ _ table (leads_then (look_up name) (on_ok _) (next_name names i name definitions is within leads) does)
+
+  -- it is none
+  pub name_last : {after : PortPast} {q : SessionProgress} (found : Option Definition) → Did now after (look_up name) mid (Ok (Ok found)) q → is_table found ≡ false → Did before after whole old (Ok (Ok definitions)) q
+  name_last found does table = leads_to (leads_no (is_table found) _ _ table (leads_then (look_up name) (on_ok _) (next_name names i name definitions is within leads) does)) (does_over refl)
 
 -- all were
 pub names_done : {now : PortPast} (names : List (List ℕ)) (i : ℕ) (definitions : List Definition) {p : SessionProgress} → length names ≤ i → Did now now (looks_up definitions (drop i names)) p (Ok (Ok definitions)) p

@@ -23,7 +23,7 @@ IsOrMemory meant result = (result ≡ meant) ⊎ (result ≡ Err (plain no_memor
 
 -- tokens that the batch may still send, or the error that they are too many bytes
 abbrev pub roomed : List Token → SessionProgress → Result (List Token) Failure
-roomed tokens p = if nat_lt p.room (size_of tokens) then Err (plain result_full) else Ok tokens
+roomed tokens p = if nat_lt p.bytes_left (size_of tokens) then Err (plain result_full) else Ok tokens
 
 -- the row at the key defines this, or memory was wanting
 abbrev pub IsDefined : List Value → List Value → Result (Option Definition) Failure → Type 0

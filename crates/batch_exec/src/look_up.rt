@@ -7,7 +7,7 @@ ghost use Rattle.step_model.specs.declared.op.Op.TheVariants as ops;
 ghost use Rattle.step_model.specs.declared.range.Start.TheVariants.{At};
 ghost use Rattle.step_model.specs.declared.range.Stop.TheVariants.{Within};
 ghost use Rattle.batch_meaning.specs.Doing.{Did, asks};
-ghost use Rattle.batch_meaning.specs.Meaning.{unless_refused, known, look_up, looks_up, with_found, with_room};
+ghost use Rattle.batch_meaning.specs.Meaning.{unless_refused, is_table, known, look_up, looks_up, with_found, with_room};
 ghost use Rattle.batch_meaning.specs.Progress.{Ready};
 ghost use Rattle.batch_meaning.specs.Tables.{table_of};
 ghost use Rattle.catalog_rows.specs.Definitions.{objects_name, object_key, IsDefinitionAt};
@@ -24,7 +24,7 @@ use step_model::{Hold, Op, Port, Reply, Start, Stop};
 use tsql_tree::Definition;
 use value_types::{Key, Memory, Row, TableName, Units};
 
-/// What names are defined as, one after another; what is not defined is left out.
+/// What names are defined as, one after another, up to the first that is no table's.
 pub(crate) fn look_up_all<P: Port>(
     alloc: Global,
     session: &mut SessionState,
@@ -40,11 +40,21 @@ pub(crate) fn look_up_all<P: Port>(
     let mut definitions = Items::new(alloc);
     for name in names {
         let found = look_up(alloc, session, port, name)?;
+        if !is_table(&found) {
+            return Ok(definitions);
+        }
         if !add(&mut definitions, found) {
             return Err(Failure::plain(NO_MEMORY));
         }
     }
     Ok(definitions)
+}
+
+/// Whether what was found is a table.
+fn is_table(found: &Option<Definition>) -> bool
+    ensures { result ≡ is_table found.now }
+{
+    matches!(found, Some(Definition::Table(_)))
 }
 
 /// Adds a definition, where there is one. Whether there was memory for it.

@@ -21,7 +21,7 @@ pub(crate) const OBJECT_PRESENT: u16 = 2714;
 /// The error of a batch that would begin too many statements.
 pub(crate) const STATEMENTS_SPENT: u16 = 49001;
 
-/// The error of a result with too many rows.
+/// The error of a result with too many rows, or of a batch with too many bytes.
 pub(crate) const RESULT_FULL: u16 = 49002;
 
 /// The error of a range with too many keys.

@@ -9,7 +9,7 @@ ghost use Rattle.binder.specs.Names.{looked_up};
 ghost use Rattle.batch_meaning.specs.Doing.{Did};
 ghost use Rattle.batch_meaning.specs.Meaning.{asks_any, looks_up, selects, over_definitions, over_query, reads_images, reads_rows, with_room};
 ghost use Rattle.batch_meaning.specs.Progress.{Ready};
-ghost use Rattle.batch_meaning.specs.Selecting.{answered, answered_alone, answered_by, bound_as, bound_over, columns_of, first_system, query_in, shape_of};
+ghost use Rattle.batch_meaning.specs.Selecting.{answered, answered_unasked, answered_by, bound_as, bound_over, columns_of, first_system, query_in, shape_of};
 ghost use Rattle.batch_meaning.specs.Tokens.{result_tokens};
 ghost use Rattle.query_laws.specs.Columns.{tables_in};
 ghost use Rattle.query_laws.specs.Laws.{RowsOf};
@@ -27,7 +27,7 @@ use batch_meaning::{Failure, RowList};
 use binder::{bind, names_of};
 use bound_tree::{Bound, BoundQuery, Image, Item, SystemValues};
 use catalog_rows::is_objects;
-use clause_binder::table_of;
+use clause_binder::TablesByName;
 use query_eval::{answer_rows, tables_read};
 use scalar_eval::EvalFault;
 use session_vars::Vars;
@@ -42,17 +42,20 @@ use value_types::{Memory, Row, TableName, Units, Value};
 /// How many rows a result has at most.
 const RESULT_LIMIT: usize = 1_000_000;
 
-/// Whether a SELECT names a table that is looked up.
-pub(crate) fn names_any(alloc: Global, statement: &Statement) -> Result<bool, Memory>
+/// Whether something is asked for a SELECT: its first name is looked up.
+pub(crate) fn asks_any(alloc: Global, statement: &Statement) -> Result<bool, Memory>
     ensures { IfOk result (λ any. any ≡ asks_any (looked_up statement.now)) }
 {
     let names = names_of(alloc, statement)?;
-    Ok(names.as_slice().iter().any(|name| !is_objects(name)))
+    match names.as_slice().first() {
+        Some(name) => Ok(!is_objects(name)),
+        None => Ok(false),
+    }
 }
 
-/// What is sent for a SELECT that names no table.
-pub(crate) fn answered_alone(alloc: Global, statement: &Statement) -> Result<TokenList, Failure>
-    ensures { IsOrMemory (answered_alone (bound_over [] statement.now)) result }
+/// What is sent for a SELECT for which nothing is asked.
+pub(crate) fn answered_unasked(alloc: Global, statement: &Statement) -> Result<TokenList, Failure>
+    ensures { IsOrMemory (answered_unasked (bound_over [] statement.now)) result }
 {
     match bound(alloc, statement, &[]) {
         Ok(query) => answer(alloc, &query, &[]),
@@ -153,10 +156,24 @@ fn read_images<P: Port>(
     ensures begun { session.new.is_open ≡ true }
     ensures fit { IfOk result (ImagesFit definitions.now (tables_read query.now)) }
 {
-    match tables_read(alloc, query) {
-        Ok(tables) => read_tables(alloc, session, port, definitions, tables.as_slice()),
+    match read_from(alloc, definitions, query) {
+        Ok((shapes, tables)) => read_tables(alloc, session, port, &shapes, tables.as_slice()),
         Err(_) => Err(Failure::plain(NO_MEMORY)),
     }
+}
+
+/// The definitions by their names, and the tables that a query reads.
+fn read_from<'a>(
+    alloc: Global,
+    definitions: &'a [Definition],
+    query: &BoundQuery,
+) -> Result<(TablesByName<'a>, Items<TableName>), Memory>
+    ensures { IfOk result (λ from. from ≡ (definitions.now, tables_read query.now)) }
+{
+    Ok((
+        TablesByName::new(alloc, definitions)?,
+        tables_read(alloc, query)?,
+    ))
 }
 
 /// Reads tables one after another.
@@ -164,19 +181,19 @@ fn read_tables<P: Port>(
     alloc: Global,
     session: &mut SessionState,
     port: &mut P,
-    definitions: &[Definition],
+    shapes: &TablesByName<'_>,
     tables: &[TableName],
 ) -> Result<Items<Image>, Failure>
     requires ready { Ready session.old (P.past port.old) }
     requires begun { session.old.is_open ≡ true }
-    ensures does { Did (P.past port.old) (P.past port.new) (reads_images definitions.now [] tables.now) session.old (Ok result) session.new }
+    ensures does { Did (P.past port.old) (P.past port.new) (reads_images shapes.now [] tables.now) session.old (Ok result) session.new }
     ensures ready { Ready session.new (P.past port.new) }
     ensures begun { session.new.is_open ≡ true }
-    ensures fit { IfOk result (ImagesFit definitions.now tables.now) }
+    ensures fit { IfOk result (ImagesFit shapes.now tables.now) }
 {
     let mut images = Items::new(alloc);
     for table in tables {
-        let rows = read_table(alloc, session, port, definitions, table)?;
+        let rows = read_table(alloc, session, port, shapes, table)?;
         if images.push(Image::from(rows.into_vec())).is_err() {
             return Err(Failure::plain(NO_MEMORY));
         }
@@ -189,19 +206,19 @@ fn read_table<P: Port>(
     alloc: Global,
     session: &mut SessionState,
     port: &mut P,
-    definitions: &[Definition],
+    shapes: &TablesByName<'_>,
     table: &TableName,
 ) -> Result<RowList, Failure>
     requires ready { Ready session.old (P.past port.old) }
     requires begun { session.old.is_open ≡ true }
-    ensures does { Did (P.past port.old) (P.past port.new) (reads_rows (shape_of definitions.now table.now) table.now hold.Row) session.old (Ok result) session.new }
+    ensures does { Did (P.past port.old) (P.past port.new) (reads_rows (shape_of shapes.now table.now) table.now hold.Row) session.old (Ok result) session.new }
     ensures ready { Ready session.new (P.past port.new) }
     ensures begun { session.new.is_open ≡ true }
-    ensures fit { IfOk result (RowsOf (tables_in definitions.now table.now)) }
+    ensures fit { IfOk result (RowsOf (tables_in shapes.now table.now)) }
 {
     match table.copy(alloc) {
         Ok(name) => {
-            let shape = table_of(&table.object, definitions);
+            let shape = shapes.find(&table.object);
             read_rows(alloc, session, port, shape, name, Hold::Row)
         }
         Err(_) => Err(Failure::plain(NO_MEMORY)),

@@ -21,6 +21,9 @@ const STATEMENT_LIMIT: u32 = 1_000_000;
 /// How many bytes the tokens of a batch may have.
 const BATCH_LIMIT: u32 = 134_217_728;
 
+/// Of these, its own end has so many.
+const END_SIZE: u32 = 13;
+
 /// How a session asks until it says otherwise: it waits for locks, with the priority 0.
 const FIRST_MANNER: Manner = Manner {
     patience: Patience::Forever,
@@ -31,8 +34,8 @@ const FIRST_MANNER: Manner = Manner {
 #[derive(Drop)]
 pub struct SessionState {
     tokens: Vec<Token>,
-    room: u32,
-    left: u32,
+    bytes_left: u32,
+    statements_left: u32,
     is_open: bool,
     touched: bool,
     manner: Manner,
@@ -44,7 +47,7 @@ impl Model for SessionState {
 
     ghost Value = { SessionProgress };
 
-    ghost view = { λ s. record { tokens = s.tokens.items; room = s.room; left = s.left; is_open = s.is_open; touched = s.touched; manner = s.manner } };
+    ghost view = { λ s. record { tokens = s.tokens.items; bytes_left = s.bytes_left; statements_left = s.statements_left; is_open = s.is_open; touched = s.touched; manner = s.manner } };
 
     ghost invariant = { λ s. IsFit s.tokens.items };
 }
@@ -56,8 +59,8 @@ impl SessionState {
     {
         SessionState {
             tokens: Vec::new(alloc),
-            room: 0,
-            left: 0,
+            bytes_left: 0,
+            statements_left: 0,
             is_open: false,
             touched: false,
             manner: FIRST_MANNER,
@@ -116,9 +119,9 @@ impl SessionState {
 
     /// Whether no statement may begin.
     pub(crate) fn is_spent(&self) -> bool
-        ensures { result ≡ (self.now.left == 0) }
+        ensures { result ≡ (self.now.statements_left == 0) }
     {
-        self.left == 0
+        self.statements_left == 0
     }
 
     /// A batch begins.
@@ -126,23 +129,23 @@ impl SessionState {
         ensures { self.new ≡ made begins self.old }
     {
         self.tokens.clear();
-        self.room = BATCH_LIMIT;
-        self.left = STATEMENT_LIMIT;
+        self.bytes_left = BATCH_LIMIT - END_SIZE;
+        self.statements_left = STATEMENT_LIMIT;
     }
 
     /// One statement more begins.
     pub(crate) fn begin_statement(&mut self)
-        requires { 0 < self.old.left }
+        requires { 0 < self.old.statements_left }
         ensures { self.new ≡ made counts self.old }
     {
-        self.left -= 1;
+        self.statements_left -= 1;
     }
 
     /// Whether tokens are more bytes than the batch may still send.
     pub(crate) fn is_full(&self, tokens: &TokenList) -> bool
-        ensures { result ≡ nat_lt self.now.room (size_of tokens.now) }
+        ensures { result ≡ nat_lt self.now.bytes_left (size_of tokens.now) }
     {
-        u64::from(self.room) < bytes_of_tokens(tokens.as_slice())
+        u64::from(self.bytes_left) < bytes_of_tokens(tokens.as_slice())
     }
 
     /// Sends tokens; all of them, or none where memory is wanting.
@@ -150,10 +153,10 @@ impl SessionState {
         ensures sent { IfOk result (λ _. self.new ≡ made (sends tokens) self.old) }
         ensures kept { IfErr result (λ _. self.new ≡ self.old) }
     {
-        let room = room_behind(self.room, tokens.as_slice());
+        let behind = left_behind(self.bytes_left, tokens.as_slice());
         let mut tokens = tokens.into_vec();
         self.tokens.append(&mut tokens)?;
-        self.room = room;
+        self.bytes_left = behind;
         Ok(())
     }
 
@@ -180,12 +183,12 @@ impl SessionState {
 }
 
 /// How many bytes may still be sent behind tokens.
-fn room_behind(room: u32, tokens: &[Token]) -> u32
-    ensures { result ≡ room - size_of tokens.now }
+fn left_behind(bytes_left: u32, tokens: &[Token]) -> u32
+    ensures { result ≡ bytes_left - size_of tokens.now }
 {
     let size = bytes_of_tokens(tokens);
-    if size < u64::from(room) {
-        room - size as u32
+    if size < u64::from(bytes_left) {
+        bytes_left - size as u32
     } else {
         0
     }

@@ -18,7 +18,7 @@ use crate::numbers::{
     DEADLOCK, DUPLICATE_KEY, LOCK_TIMEOUT, NO_MEMORY, NOT_BUILT, OBJECT_PRESENT, RESULT_FULL,
     STATEMENTS_SPENT, UNKNOWN_TABLE,
 };
-use crate::query::{answered_alone, names_any, select};
+use crate::query::{answered_unasked, asks_any, select};
 use crate::ranges::read_rows;
 use crate::sendable::TokenList;
 use crate::state::SessionState;
@@ -65,13 +65,8 @@ fn run_statements<P: Port>(
 {
     for statement in statements {
         if session.is_spent() {
-            return act(
-                alloc,
-                session,
-                port,
-                statement,
-                &Failure::plain(STATEMENTS_SPENT),
-            );
+            let spent = Err(Failure::plain(STATEMENTS_SPENT));
+            return finish(alloc, session, port, statement, spent);
         }
         session.begin_statement();
         match run_statement(alloc, session, port, statement)? {
@@ -121,7 +116,7 @@ fn finish<P: Port>(
     }
 }
 
-/// The failure of a statement; where there is no room for its error, one that says so.
+/// The failure of a statement; where its error has more bytes than the batch may still send, one that says so.
 fn or_full(
     alloc: Global,
     session: &SessionState,
@@ -208,7 +203,7 @@ fn come<P: Port>(
     }
 }
 
-/// What comes of a SELECT; where it names no table nothing is asked.
+/// What comes of a SELECT; where nothing is looked up for it nothing is asked.
 fn come_of_query<P: Port>(
     alloc: Global,
     session: &mut SessionState,
@@ -221,10 +216,10 @@ fn come_of_query<P: Port>(
     ensures does { Did (P.past port.old) (P.past port.new) (came_of form.now) session.old (Ok result) session.new }
     ensures ready { Ready session.new (P.past port.new) }
 {
-    match names_any(alloc, statement) {
+    match asks_any(alloc, statement) {
         Ok(true) => run_own(alloc, session, port, form),
-        Ok(false) => match answered_alone(alloc, statement) {
-            Ok(tokens) => if_room(session, tokens),
+        Ok(false) => match answered_unasked(alloc, statement) {
+            Ok(tokens) => if_bytes_left(session, tokens),
             Err(failure) => Err(failure),
         },
         Err(_) => Err(Failure::plain(NO_MEMORY)),
@@ -232,7 +227,7 @@ fn come_of_query<P: Port>(
 }
 
 /// Tokens that the batch may still send; too many bytes are an error.
-fn if_room(session: &SessionState, tokens: TokenList) -> Result<TokenList, Failure>
+fn if_bytes_left(session: &SessionState, tokens: TokenList) -> Result<TokenList, Failure>
     ensures { result ≡ roomed tokens session.now }
 {
     if session.is_full(&tokens) {
@@ -339,7 +334,7 @@ fn work<P: Port>(
     ensures begun { session.new.is_open ≡ true }
 {
     let tokens = run(alloc, session, port, statement)?;
-    if_room(session, tokens)
+    if_bytes_left(session, tokens)
 }
 
 /// What a statement does within a transaction.

@@ -39,10 +39,10 @@ use Rattle.batch_meaning.specs.declared.form.Form.{Form}
 use Rattle.batch_meaning.specs.declared.form.Form.TheVariants.{Query, CreateTable, Insert, NotBuilt, Refused}
 use Rattle.batch_meaning.specs.declared.form.Served.{Served}
 use Rattle.batch_meaning.specs.Failures.{plain}
-use Rattle.batch_meaning.specs.Selecting.{as_served, answered, answered_alone, answered_by, bound_over, shape_of, fits, row_limit, result_full, not_built, unknown_table, first_system, columns_of}
+use Rattle.batch_meaning.specs.Selecting.{as_served, answered, answered_unasked, answered_by, bound_over, shape_of, fits, row_limit, result_full, not_built, unknown_table, first_system, columns_of}
 use Rattle.batch_meaning.specs.Progress.{SessionProgress, begins, counts, sends, made, asked, size_of}
 use Rattle.batch_meaning.specs.Doing.{Doing, over, makes, defines, asks, ◌then◌, Held}
-use Rattle.batch_meaning.specs.Meaning.{unless_refused, ◌gives◌, on_ok, ◌>>=◌, fails, with_room, known, definition_fetch, look_up, rows_or_failure, reads_rows, placed, marked, puts, creates, finds, inserts, with_found, looks_up, reads_images, over_query, over_definitions, selects, done_for, if_room, work_of, where_ended, where_done, relaxes, closes, where_begun, own, asks_any, alone, came_of, object_present, action_for, ended_by, rolls_back_open, acted, or_full, finished, means, goes_on, each_of, batch, statements_spent}
+use Rattle.batch_meaning.specs.Meaning.{unless_refused, ◌gives◌, on_ok, ◌>>=◌, fails, with_room, known, definition_fetch, look_up, rows_or_failure, reads_rows, placed, marked, puts, creates, finds, inserts, is_table, with_found, looks_up, reads_images, over_query, over_definitions, selects, done_for, if_bytes_left, work_of, where_ended, where_done, relaxes, closes, where_begun, own, asks_any, unasked, came_of, object_present, action_for, ended_by, rolls_back_open, acted, or_full, finished, means, goes_on, each_of, batch, statements_spent}
 use Rattle.batch_meaning.specs.Statements.{is_query, WritesAlone}
 use Rattle.batch_meaning.specs.Tokens.{row_tokens, result_tokens, inserted_tokens, failure_tokens, batch_done}
 use Rattle.batch_meaning.specs.Tables.{table_of, table_key, table_row}
@@ -182,7 +182,8 @@ module _ (Kept : Commits → Type 0) where
   looks_up_work : (names : List (List ℕ)) (definitions : List Definition) → Work (looks_up definitions names) []
   unfolding looks_up
   looks_up_work [] definitions = work_over definitions
-  looks_up_work (name ∷ names) definitions = work_bind _ _ [] [] (look_up_work name) (λ found. work_room _ [] (looks_up_work names (with_found definitions found)))
+  looks_up_work (name ∷ names) definitions = work_bind _ _ [] [] (look_up_work name)
+      (λ found. λ stand commits p. ways_if (is_table found) _ _ _ _ _ _ _ (λ is. work_room _ [] (looks_up_work names (with_found definitions found)) stand commits p) (λ is. work_over definitions stand commits p))
 
   images_work : (definitions : List Definition) (tables : List TableName) (images : List Rows) → Work (reads_images definitions images tables) []
   unfolding reads_images
@@ -202,8 +203,8 @@ module _ (Kept : Commits → Type 0) where
   selects_work statement = work_bind _ _ [] [] (looks_up_work (looked_up statement) []) (bound_work statement)
 
   -- what the batch has room for
-  room_work : (tokens : List Token) → Work (if_room tokens) []
-  room_work tokens stand commits p = ways_if (nat_lt p.room (size_of tokens)) _ _ _ _ _ _ _ (λ is. (refl, refl)) (λ is. work_over tokens stand commits p)
+  bytes_work : (tokens : List Token) → Work (if_bytes_left tokens) []
+  bytes_work tokens stand commits p = ways_if (nat_lt p.bytes_left (size_of tokens)) _ _ _ _ _ _ _ (λ is. (refl, refl)) (λ is. work_over tokens stand commits p)
 
 -- what a statement writes where it succeeds
 abbrev pub writes_of : Form → List Planned
@@ -222,7 +223,7 @@ module _ (Kept : Commits → Type 0) where
   done_work (Refused code near) = λ stand commits p. (refl, refl)
 
   pub statement_work : (statement : Form) → Work Kept (work_of statement) (writes_of statement)
-  statement_work statement = subst (λ (l : List Planned). Work Kept (work_of statement) l) (append-nil (writes_of statement)) (work_bind Kept (done_for statement) if_room (writes_of statement) [] (done_work statement) (room_work Kept))
+  statement_work statement = subst (λ (l : List Planned). Work Kept (work_of statement) l) (append-nil (writes_of statement)) (work_bind Kept (done_for statement) if_bytes_left (writes_of statement) [] (done_work statement) (bytes_work Kept))
 
 -- ---- a transaction of its own
 
@@ -366,11 +367,11 @@ quiet_bind {A = A} tree go after stand commits p = ways_bind tree (on_ok go) _ _
     by_came (Err failure) s c q none = tt
 
 -- what there is room for is sent as it is
-quiet_sent : (tree : Doing (Result (List Token) Failure)) → Quiet tree → Quiet (tree >>= if_room)
-quiet_sent tree quiet stand commits p = ways_bind tree (on_ok if_room) _ _ _ _ Silent _ (quiet stand commits p) by_came
+quiet_sent : (tree : Doing (Result (List Token) Failure)) → Quiet tree → Quiet (tree >>= if_bytes_left)
+quiet_sent tree quiet stand commits p = ways_bind tree (on_ok if_bytes_left) _ _ _ _ Silent _ (quiet stand commits p) by_came
   where
-    by_came : (came : Result (List Token) Failure) (s : Stand) (c : Commits) (q : SessionProgress) → NoErrors came → Ways (on_ok if_room came) s c q (λ c. Unit {0}) Silent
-    by_came (Ok tokens) s c q none = ways_if (nat_lt q.room (size_of tokens)) _ _ _ _ _ _ _ (λ is. tt) (λ is. none)
+    by_came : (came : Result (List Token) Failure) (s : Stand) (c : Commits) (q : SessionProgress) → NoErrors came → Ways (on_ok if_bytes_left came) s c q (λ c. Unit {0}) Silent
+    by_came (Ok tokens) s c q none = ways_if (nat_lt q.bytes_left (size_of tokens)) _ _ _ _ _ _ _ (λ is. tt) (λ is. none)
     by_came (Err failure) s c q none = tt
 
 quiet_own : (work : Doing (Result (List Token) Failure)) → Quiet work → Quiet (own work)
@@ -397,7 +398,7 @@ answered_quiet query (Ok rows) = by_test (nat_le (length rows) row_limit)
     by_test false = tt
 answered_quiet query (Err number) = tt
 
-alone_quiet : (query : Result BoundQuery Failure) → NoErrors (answered_alone query)
+alone_quiet : (query : Result BoundQuery Failure) → NoErrors (answered_unasked query)
 alone_quiet (Ok query) = answered_quiet query (Ans [] first_system query [])
 alone_quiet (Err failure) = tt
 
@@ -456,19 +457,19 @@ module _ (Kept : Commits → Type 0) (statement : Form) (commits : Commits) (p :
   unless_ways false number = own_came
 
 -- a SELECT for which nothing is asked
-alone_ways : (Kept : Commits → Type 0) (statement : StatementTree) (commits : Commits) (p : SessionProgress) → p.is_open ≡ false → Ways (alone statement) none_open commits p Kept (CameTo (Query statement) commits p)
-alone_ways Kept statement commits p shut =
-    ways_bind (with_room (over (answered_alone (bound_over [] statement)))) (on_ok if_room) _ _ _ _ (λ came s c q. (s ≡ none_open) × (c ≡ commits) × (q ≡ p)) _
+unasked_ways : (Kept : Commits → Type 0) (statement : StatementTree) (commits : Commits) (p : SessionProgress) → p.is_open ≡ false → Ways (unasked statement) none_open commits p Kept (CameTo (Query statement) commits p)
+unasked_ways Kept statement commits p shut =
+    ways_bind (with_room (over (answered_unasked (bound_over [] statement)))) (on_ok if_bytes_left) _ _ _ _ (λ came s c q. (s ≡ none_open) × (c ≡ commits) × (q ≡ p)) _
     (λ enough. ways_if enough _ _ _ _ _ _ _ (λ is. (refl, refl, refl)) (λ is. (refl, refl, refl))) by_came
   where
-    by_came : (came : Result (List Token) Failure) (s : Stand) (c : Commits) (q : SessionProgress) → (s ≡ none_open) × (c ≡ commits) × (q ≡ p) → Ways (on_ok if_room came) s c q Kept (CameTo (Query statement) commits p)
-    by_came (Ok tokens) s c q is = rw (is.0, is.1, is.2) (ways_if (nat_lt p.room (size_of tokens)) _ _ _ _ _ _ _ (λ full. ((refl, refl, shut), refl)) (λ fits. ((refl, refl, shut), refl)))
+    by_came : (came : Result (List Token) Failure) (s : Stand) (c : Commits) (q : SessionProgress) → (s ≡ none_open) × (c ≡ commits) × (q ≡ p) → Ways (on_ok if_bytes_left came) s c q Kept (CameTo (Query statement) commits p)
+    by_came (Ok tokens) s c q is = rw (is.0, is.1, is.2) (ways_if (nat_lt p.bytes_left (size_of tokens)) _ _ _ _ _ _ _ (λ full. ((refl, refl, shut), refl)) (λ fits. ((refl, refl, shut), refl)))
     by_came (Err failure) s c q is = rw (is.0, is.1, is.2) ((refl, refl, shut), refl)
 
 came_ways : (Kept : Commits → Type 0) (statement : Form) (commits : Commits) (p : SessionProgress) → Kept commits → Kept (with_commits commits (commits_by statement)) → p.is_open ≡ false → Ways (came_of statement) none_open commits p Kept (CameTo statement commits p)
 unfolding came_of
 came_ways Kept (Query statement) commits p kept whole shut = λ enough. ways_if enough _ _ _ _ _ _ _
-    (λ is. ways_if (asks_any (looked_up statement)) _ _ _ _ _ _ _ (λ some. own_came Kept (Query statement) commits p kept whole shut) (λ none. alone_ways Kept statement commits p shut))
+    (λ is. ways_if (asks_any (looked_up statement)) _ _ _ _ _ _ _ (λ some. own_came Kept (Query statement) commits p kept whole shut) (λ none. unasked_ways Kept statement commits p shut))
     (λ is. ((refl, refl, shut), refl))
 came_ways Kept (CreateTable name text) commits p kept whole shut = unless_ways Kept (CreateTable name text) commits p kept whole shut (is_objects name) object_present
 came_ways Kept (Insert name key value) commits p kept whole shut = unless_ways Kept (Insert name key value) commits p kept whole shut (is_objects name) unknown_table
@@ -591,7 +592,7 @@ module _ (Kept : Commits → Type 0) (commits : Commits) (kept : Kept commits) w
   each_ways [] are p shut = (refl, refl, shut)
   each_ways (statement ∷ others) are p shut =
       let parts = and_parts (is_query statement.form) (list_all (λ other. is_query other.form) others) are in
-      ways_if (nat_eq p.left 0) _ _ _ _ _ _ _ (λ spent. acted_ways statement (plain statements_spent) commits p refl shut)
+      ways_if (nat_eq p.statements_left 0) _ _ _ _ _ _ _ (λ spent. sent_ways statement (Err (plain statements_spent)) commits p refl shut)
       (λ some. ways_bind (means statement) (goes_on (each_of others)) _ _ _ _ Shut _ (query_ways statement parts.0 (made counts p) shut) (behind_query others (each_ways others parts.1)))
 
   queries_ways : (statements : List Served) → list_all (λ statement. is_query statement.form) statements ≡ true → (p : SessionProgress) → p.is_open ≡ false → Ways (batch statements) none_open commits p Kept (Told statements commits)

@@ -42,7 +42,7 @@ served form = record { line = pos 1; form = form }
 
 -- behind the first batch, of one statement, which has sent these tokens
 abbrev behind_one : List Token → SessionProgress
-behind_one tokens = record first_progress { tokens = tokens; room = batch_limit - size_of tokens; left = 999999 }
+behind_one tokens = record first_progress { tokens = tokens; bytes_left = batch_limit - size_of tokens; statements_left = 999999 }
 
 -- ---- SELECT 1
 
@@ -56,7 +56,7 @@ select_result = refl
 -- ---- an empty batch, and texts that are not served
 
 -- a batch without statements has its DONE alone
-empty_held : Held (batch []) first_progress [] tt (record first_progress { tokens = Finished Done 0 0 0 ∷ []; room = batch_limit - 13; left = 1000000 })
+empty_held : Held (batch []) first_progress [] tt (record first_progress { tokens = Finished Done 0 0 0 ∷ []; bytes_left = batch_limit - 13; left = 1000000 })
 unfolding Held ◌then◌ batch each_of tokens_bytes
 empty_held = (refl, refl, refl)
 

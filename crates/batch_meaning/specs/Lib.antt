@@ -2,7 +2,7 @@
 pub mod Tables  -- table_row: the rows that batches write
 pub mod Statements  -- ReadsAs: which statements a text is read as
 pub mod Failures  -- plain: why a statement failed
-pub mod Tokens  -- effect_tokens: the tokens of a statement, by what came of it
+pub mod Tokens  -- result_tokens, failure_tokens: the tokens of a statement, by what came of it
 pub mod Selecting  -- answered: what a SELECT comes to, apart from what is asked for it
 pub mod Progress  -- Ready: how far a session has come, and the steps by which that changes
 pub mod Doing  -- Did: what a session does, as a tree of steps and operations

@@ -3,12 +3,12 @@
 -- COMMITTED. Outside a transaction a statement that asks anything is one of its own, committed where it
 -- succeeds and else rolled back. A meaning is a tree; the code asks the port, and goes on by its replies.
 use Rattle.std.specs.Prelude.{ℕ, ℤ, ◌==◌, ◌++◌, not, Bool, true, false, nat_lt, is_ok, if◌then◌else◌, List, [], ◌∷◌, Option, None, Some, Result, Ok, Err}
-use Rattle.std.specs.List.{list_any}
 use Rattle.lock_modes.specs.declared.KeyPart.TheVariants.{S}
 use Rattle.value_types.specs.Units.{same_units}
 use Rattle.value_types.specs.declared.table_name.TableName.{TableName}
 use Rattle.value_types.specs.declared.value.Value.{Value}
 use Rattle.tsql_tree.specs.declared.definition.Definition.{Definition}
+use Rattle.tsql_tree.specs.declared.definition.Definition.TheVariants.{Table, Procedure, Trigger}
 use Rattle.tsql_tree.specs.declared.definition.TableTree.{TableTree}
 use Rattle.tsql_tree.specs.declared.statement.Statement.{Statement as StatementTree}
 use Rattle.bound_tree.specs.declared.query.BoundQuery.{BoundQuery}
@@ -37,7 +37,7 @@ use Rattle.batch_meaning.specs.declared.form.Form.{Form}
 use Rattle.batch_meaning.specs.declared.form.Form.TheVariants.{Query, CreateTable, Insert, NotBuilt, Refused}
 use Rattle.batch_meaning.specs.declared.form.Served.{Served}
 use Rattle.batch_meaning.specs.Failures.{plain}
-use Rattle.batch_meaning.specs.Selecting.{unknown_table, result_full, not_built, as_served, answered, answered_alone, bound_over, shape_of, fits}
+use Rattle.batch_meaning.specs.Selecting.{unknown_table, result_full, not_built, as_served, answered, answered_unasked, bound_over, shape_of, fits}
 use Rattle.batch_meaning.specs.Progress.{SessionProgress, begins, counts, sends, size_of}
 use Rattle.batch_meaning.specs.Doing.{Doing, over, reads, makes, defines, asks, room, never, ◌then◌}
 use Rattle.batch_meaning.specs.Tokens.{duplicate_key, inserted_tokens, failure_tokens, batch_done}
@@ -149,17 +149,24 @@ inserts name key value = do
   inserted ← puts (table_of name) (table_key key) (table_row key value) duplicate_key
   with_room (over (Ok inserted_tokens))
 
+-- what was found is a table
+abbrev pub is_table : Option Definition → Bool
+is_table None = false
+is_table (Some (Table table)) = true
+is_table (Some (Procedure procedure)) = false
+is_table (Some (Trigger trigger)) = false
+
 -- a definition more, where there is one
 abbrev pub with_found : List Definition → Option Definition → List Definition
 with_found definitions None = definitions
 with_found definitions (Some definition) = definitions ++ definition ∷ []
 
--- names are looked up one after another, behind these definitions
+-- names are looked up one after another, behind these definitions; the first that is no table's is the last
 unfoldable pub looks_up : List Definition → List (List ℕ) → Doing (Result (List Definition) Failure)
 looks_up definitions [] = over (Ok definitions)
 looks_up definitions (name ∷ names) = do
   found ← look_up name
-  with_room (looks_up (with_found definitions found) names)
+  if is_table found then with_room (looks_up (with_found definitions found) names) else over (Ok definitions)
 
 -- tables are read one after another, behind these images
 unfoldable pub reads_images : List Definition → List Rows → List TableName → Doing (Result (List Rows) Failure)
@@ -195,11 +202,11 @@ done_for NotBuilt = fails not_built
 done_for (Refused code near) = fails code
 
 -- tokens that the batch may still send; too many bytes are an error of their statement
-abbrev pub if_room : List Token → Doing (Result (List Token) Failure)
-if_room tokens = reads λ p. if nat_lt p.room (size_of tokens) then fails result_full else over (Ok tokens)
+abbrev pub if_bytes_left : List Token → Doing (Result (List Token) Failure)
+if_bytes_left tokens = reads λ p. if nat_lt p.bytes_left (size_of tokens) then fails result_full else over (Ok tokens)
 
 abbrev pub work_of : Form → Doing (Result (List Token) Failure)
-work_of statement = done_for statement >>= if_room
+work_of statement = done_for statement >>= if_bytes_left
 
 -- ---- transactions
 
@@ -243,17 +250,18 @@ rolls_back_open = reads λ p. if p.is_open then asks ops.Rollback (where_ended (
 abbrev pub unless_objects : List ℕ → ℕ → Doing (Result (List Token) Failure) → Doing (Result (List Token) Failure)
 unless_objects name number work = if is_objects name then fails number else own work
 
--- something is asked where one of these names is looked up
+-- something is asked where the first name is looked up
 abbrev pub asks_any : List (List ℕ) → Bool
-asks_any names = list_any (λ name. not (is_objects name)) names
+asks_any [] = false
+asks_any (name ∷ names) = not (is_objects name)
 
--- a SELECT that names no table, for which nothing is asked
-abbrev pub alone : StatementTree → Doing (Result (List Token) Failure)
-alone statement = with_room (over (answered_alone (bound_over [] statement))) >>= if_room
+-- a SELECT for which nothing is asked
+abbrev pub unasked : StatementTree → Doing (Result (List Token) Failure)
+unasked statement = with_room (over (answered_unasked (bound_over [] statement))) >>= if_bytes_left
 
 -- what comes of a statement: the tokens that are sent for it, or why it failed
 unfoldable pub came_of : Form → Doing (Result (List Token) Failure)
-came_of (Query statement) = with_room (if asks_any (looked_up statement) then own (work_of (Query statement)) else alone statement)
+came_of (Query statement) = with_room (if asks_any (looked_up statement) then own (work_of (Query statement)) else unasked statement)
 came_of (CreateTable name text) = unless_objects name object_present (work_of (CreateTable name text))
 came_of (Insert name key value) = unless_objects name unknown_table (work_of (Insert name key value))
 came_of statement = done_for statement
@@ -278,9 +286,9 @@ acted_by action statement failure = makes (sends (failure_tokens statement failu
 unfoldable pub acted : Served → Failure → Doing Exit
 acted statement failure = acted_by (action_for statement.form failure) statement failure
 
--- an error for which there is no room is one that says so
+-- an error of more bytes than the batch may still send is one that says so
 abbrev pub or_full : Served → Failure → SessionProgress → Failure
-or_full statement failure p = if nat_lt p.room (size_of (failure_tokens statement failure (action_for statement.form failure))) then plain result_full else failure
+or_full statement failure p = if nat_lt p.bytes_left (size_of (failure_tokens statement failure (action_for statement.form failure))) then plain result_full else failure
 
 -- what is sent for a statement that came to this
 unfoldable pub finished : Served → Result (List Token) Failure → Doing Exit
@@ -301,7 +309,7 @@ goes_on next End = over End
 -- statements one after another; each counts as it begins
 unfoldable pub each_of : List Served → Doing Exit
 each_of [] = over On
-each_of (statement ∷ others) = reads λ p. if p.left == 0 then acted statement (plain statements_spent) else makes counts (means statement then goes_on (each_of others))
+each_of (statement ∷ others) = reads λ p. if p.statements_left == 0 then finished statement (Err (plain statements_spent)) else makes counts (means statement then goes_on (each_of others))
 
 -- a batch; however it ends, that is told
 unfoldable pub batch : List Served → Doing (Unit {0})

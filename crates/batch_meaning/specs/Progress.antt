@@ -16,9 +16,9 @@ pub record SessionProgress : Type 0 where
   -- what the batch that runs has sent
   pub tokens : List Token
   -- how many bytes it may still send
-  pub room : ℕ
+  pub bytes_left : ℕ
   -- how many statements it may still begin
-  pub left : ℕ
+  pub statements_left : ℕ
   -- whether a transaction is open at the port
   pub is_open : Bool
   -- whether something was fetched or written since that began, or since its last Relax
@@ -32,7 +32,7 @@ first_manner = record { patience = Forever; priority = pos 0 }
 
 -- before its first batch
 abbrev pub first_progress : SessionProgress
-first_progress = record { tokens = []; room = 0; left = 0; is_open = false; touched = false; manner = first_manner }
+first_progress = record { tokens = []; bytes_left = 0; statements_left = 0; is_open = false; touched = false; manner = first_manner }
 
 -- ---- steps
 
@@ -50,15 +50,19 @@ statement_limit = 1000000
 abbrev pub batch_limit : ℕ
 batch_limit = 134217728
 
+-- of these, its own end has so many: it is one DONE, and always sent
+abbrev pub end_size : ℕ
+end_size = 13
+
 -- how many bytes tokens have
 abbrev pub size_of : List Token → ℕ
 size_of tokens = length (TokenBytes tokens)
 
 -- the progress after a step
 abbrev pub made : SessionStep → SessionProgress → SessionProgress
-made begins p = record p { tokens = []; room = batch_limit; left = statement_limit }
-made counts p = record p { left = p.left - 1 }
-made (sends tokens) p = record p { tokens = p.tokens ++ tokens; room = p.room - size_of tokens }
+made begins p = record p { tokens = []; bytes_left = batch_limit - end_size; statements_left = statement_limit }
+made counts p = record p { statements_left = p.statements_left - 1 }
+made (sends tokens) p = record p { tokens = p.tokens ++ tokens; bytes_left = p.bytes_left - size_of tokens }
 
 -- ---- exchanges
 

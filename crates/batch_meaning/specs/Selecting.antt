@@ -96,6 +96,6 @@ abbrev pub answered : BoundQuery → List Rows → Result (List Token) Failure
 answered query images = answered_by query (Ans [] first_system query images)
 
 -- the same of what is bound over no table
-abbrev pub answered_alone : Result BoundQuery Failure → Result (List Token) Failure
-answered_alone (Ok query) = answered query []
-answered_alone (Err failure) = Err failure
+abbrev pub answered_unasked : Result BoundQuery Failure → Result (List Token) Failure
+answered_unasked (Ok query) = answered query []
+answered_unasked (Err failure) = Err failure

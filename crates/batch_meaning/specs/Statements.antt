@@ -1,5 +1,5 @@
 -- Own: which statements a text is read as, by the tree that it stands for. So blanks, comments, the case of
--- keywords, quotes round names and `dbo.` make no difference, and no parentheses round an expression do. Any
+-- keywords, quotes round names and `dbo.` make no difference, and no parentheses round the numbers of an INSERT do. Any
 -- number of SELECTs is served, one after another, unless the text names a value of the session; and one statement of one of
 -- the forms
 --
@@ -34,7 +34,7 @@ use Rattle.tsql_lexer.specs.declared.lexeme.Spanned.{Spanned}
 use Rattle.tsql_grammar.specs.declared.kind.Kind.{Kind}
 use Rattle.tsql_grammar.specs.declared.kind.Kind.TheVariants as kind
 use Rattle.tsql_grammar.specs.declared.kind.Function.{Function}
-use Rattle.tsql_grammar.specs.declared.kind.Function.TheVariants.{Cast, IsNull, Len, Count, Sum, Avg, Min, Max}
+use Rattle.tsql_grammar.specs.declared.kind.Function.TheVariants.{XactState, ErrorNumber, ErrorMessage, ErrorSeverity, ErrorState, ErrorLine, ErrorProcedure}
 use Rattle.tsql_grammar.specs.Words.{kind_of}
 use Rattle.batch_meaning.specs.declared.form.Form.{Form}
 use Rattle.batch_meaning.specs.declared.form.Form.TheVariants.{Query, CreateTable, Insert, NotBuilt, Refused}
@@ -179,15 +179,14 @@ is_system other = false
 
 -- XACT_STATE, and the functions of an error
 abbrev pub is_of_session : Function → Bool
-is_of_session Cast = false
-is_of_session IsNull = false
-is_of_session Len = false
-is_of_session Count = false
-is_of_session Sum = false
-is_of_session Avg = false
-is_of_session Min = false
-is_of_session Max = false
-is_of_session function = true
+is_of_session XactState = true
+is_of_session ErrorNumber = true
+is_of_session ErrorMessage = true
+is_of_session ErrorSeverity = true
+is_of_session ErrorState = true
+is_of_session ErrorLine = true
+is_of_session ErrorProcedure = true
+is_of_session other = false
 
 abbrev pub is_session_function : Kind → Bool
 is_session_function (kind.Function function) = is_of_session function

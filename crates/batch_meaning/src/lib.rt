@@ -3,7 +3,8 @@
 //!
 //! Read `specs/Lib.antt`: it names the definitions in order. The layers above rely on the tree `batch`, whose
 //! words are those of `specs/Doing`, and on two laws: a text is read as one list of statements
-//! ([`law_reading`]), and a batch of one statement commits what its tokens tell ([`law_commits`]).
+//! ([`law_reading`]), and a batch of SELECTs, or of one statement at most,
+//! commits what its tokens tell ([`law_commits`]).
 #![tactic(auto)]
 
 mod exit;

@@ -76,7 +76,8 @@ fn row_checks<'d>(
         definitions: &none,
         vars,
     };
-    let sources = [TableSource::new(&table.name, table.columns.as_slice())];
+    let columns = table.columns.as_slice();
+    let sources = [TableSource::by_name(alloc, &table.name, columns)?];
     let at = Context {
         sources: &sources,
         groups: &[],

@@ -17,7 +17,7 @@ use std::alloc::{AllocError, Global};
 use std::marker::Model;
 use tsql_tree::{ColumnTree, KeyTree, TableRef, TableTree};
 use typed_nodes::BindFault;
-use value_types::{SqlType, Units};
+use value_types::{Memory, SqlType, Units};
 
 /// The greatest place that a tree can name.
 pub(crate) const MAX_PLACE: usize = 65_535;
@@ -33,7 +33,7 @@ const MAX_REFERENCES: usize = 8;
 pub struct TableSource<'a> {
     name: &'a Units,
     pub(crate) columns: &'a [ColumnTree],
-    by_name: Option<&'a ColumnsByName<'a>>,
+    by_name: Option<ColumnsByName<'a>>,
 }
 
 impl<'a> Model for TableSource<'a> {
@@ -44,7 +44,7 @@ impl<'a> Model for TableSource<'a> {
 
     ghost view = { λ source. record { name = source.name.now; columns = source.columns.now } };
 
-    ghost invariant = { λ source. IfSome source.by_name (λ columns. columns.now ≡ source.columns.now) };
+    ghost invariant = { λ source. IfSome source.by_name (λ columns. columns ≡ source.columns.now) };
 }
 
 /// A column that a name means.
@@ -92,21 +92,26 @@ impl<'a> TableSource<'a> {
     }
 
     /// The same, whose columns are found by name.
-    pub fn by_name(name: &'a Units, columns: &'a ColumnsByName<'a>) -> TableSource<'a>
-        ensures { result ≡ record { name = name.now; columns = columns.now } }
+    pub fn by_name(
+        alloc: Global,
+        name: &'a Units,
+        columns: &'a [ColumnTree],
+    ) -> Result<TableSource<'a>, Memory>
+        ensures { IfOk result (λ source. source ≡ record { name = name.now; columns = columns.now }) }
     {
-        TableSource {
+        let by_name = Some(ColumnsByName::new(alloc, columns)?);
+        Ok(TableSource {
             name,
-            columns: columns.columns(),
-            by_name: Some(columns),
-        }
+            columns,
+            by_name,
+        })
     }
 
     /// What is found of the name in this table too, whose columns are counted from a place on.
     fn found(&self, name: &Units, first: usize, before: Matches) -> Matches
         ensures { result ≡ spec.found_in name.now first self.now.columns before }
     {
-        match self.by_name {
+        match &self.by_name {
             Some(columns) => found_by(columns, name, first, before),
             None => found_in(name, first, self.columns, before),
         }

@@ -20,7 +20,7 @@ loop-table-preserved g c =
     record {
       ready = c.in_ok-rows.ensures.ready;
       begun = c.in_ok-rows.ensures.begun;
-      fit = rw pushed (images_taken c.args.definitions.now _ _ _ c.loop-table.images _ c.table-item.is c.loop-table-test.true c.loop-table.invariant.fit c.in_ok-rows.ensures.fit);
+      fit = rw pushed (images_taken c.args.shapes.now _ _ _ c.loop-table.images _ c.table-item.is c.loop-table-test.true c.loop-table.invariant.fit c.in_ok-rows.ensures.fit);
       leads = rw pushed (leads_on _ _ (next_table _ _ _ _ _ c.table-item.is c.loop-table-test.true c.loop-table.invariant.leads) c.in_ok-rows.ensures.does);
     }
 

@@ -10,6 +10,6 @@ abbrev pub invariant-loop-table : goal.invariant-loop-table
 invariant-loop-table g l = record {
   ready : Ready l.session (g.P.Port.past l.port);
   begun : l.session.is_open ≡ true;
-  fit : ImagesFit l.definitions (take l.table-index l.tables) l.images;
-  leads : Leads (g.P.Port.past l.initial.port) (g.P.Port.past l.port) (reads_images l.definitions [] l.tables) l.initial.session (reads_images l.definitions l.images (drop l.table-index l.tables)) l.session;
+  fit : ImagesFit l.shapes (take l.table-index l.tables) l.images;
+  leads : Leads (g.P.Port.past l.initial.port) (g.P.Port.past l.port) (reads_images l.shapes [] l.tables) l.initial.session (reads_images l.shapes l.images (drop l.table-index l.tables)) l.session;
 }

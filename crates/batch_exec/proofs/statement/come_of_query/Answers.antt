@@ -11,12 +11,12 @@ returns-in-Ok-true-clause-does g c = rw c.requires.form (does_room true (does_ye
 pub returns-in-Ok-clause-does : goal.returns-in-Ok-clause-does
 unfolding came_of
 returns-in-Ok-clause-does g c = rw c.requires.form (does_room true (does_no _ _ _ (sym c.in-Ok-false.ensures ∙ c.in-Ok-false.field-0-test)
-    (does_bind _ _ (does_result _ _ (rw c.in-Ok.is at c.answered_alone.ensures)) (does_roomed _ c.if_room.ensures))))
+    (does_bind _ _ (does_result _ _ (rw c.in-Ok.is at c.answered_unasked.ensures)) (does_roomed _ c.if_bytes_left.ensures))))
 
-pub returns-in-Err-answered_alone-clause-does : goal.returns-in-Err-answered_alone-clause-does
+pub returns-in-Err-answered_unasked-clause-does : goal.returns-in-Err-answered_unasked-clause-does
 unfolding came_of
-returns-in-Err-answered_alone-clause-does g c = rw c.requires.form (does_room true (does_no _ _ _ (sym c.in-Ok-false.ensures ∙ c.in-Ok-false.field-0-test)
-    (does_failed _ _ (does_result _ _ (rw c.in-Err-answered_alone.is at c.answered_alone.ensures)))))
+returns-in-Err-answered_unasked-clause-does g c = rw c.requires.form (does_room true (does_no _ _ _ (sym c.in-Ok-false.ensures ∙ c.in-Ok-false.field-0-test)
+    (does_failed _ _ (does_result _ _ (rw c.in-Err-answered_unasked.is at c.answered_unasked.ensures)))))
 
 pub returns-in-Err-clause-does : goal.returns-in-Err-clause-does
 unfolding came_of

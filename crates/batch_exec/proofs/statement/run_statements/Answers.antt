@@ -4,7 +4,7 @@ use Rattle.batch_meaning.proofs.Composed.{does_over, does_then, does_leave, lead
 use Rattle.batch_exec.proofs.statement.run_statements.Goals as goal
 
 pub returns-then-is_spent-clause-does : goal.returns-then-is_spent-clause-does
-returns-then-is_spent-clause-does g c = leads_to (next_spent _ _ _ (next_item c.args.statements.now _ _ c.statement-item.is c.loop-statement-test.true) c.if-is_spent.ensures c.loop-statement.invariant.leads) (rw c.plain.ensures at c.act.ensures.does)
+returns-then-is_spent-clause-does g c = leads_to (next_spent _ _ _ (next_item c.args.statements.now _ _ c.statement-item.is c.loop-statement-test.true) c.if-is_spent.ensures c.loop-statement.invariant.leads) (rw c.plain.ensures at c.finish.ensures.does)
 
 pub returns-in_err-run_statement-clause-does : goal.returns-in_err-run_statement-clause-does
 returns-in_err-run_statement-clause-does g c = leads_to (next_begins _ _ _ (next_item c.args.statements.now _ _ c.statement-item.is c.loop-statement-test.true) c.if-is_spent.ensures c.begin_statement.ensures c.loop-statement.invariant.leads) (does_leave _ _ _ c.from_residual.ensures.0 c.in_err-run_statement.ensures.does)

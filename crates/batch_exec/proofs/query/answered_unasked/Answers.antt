@@ -1,6 +1,6 @@
 use Rattle.batch_exec.proofs.Fitting.{alone_fits}
 use Rattle.batch_exec.proofs.Selects.{alone_bound, alone_failed, meant_ok}
-use Rattle.batch_exec.proofs.query.answered_alone.Goals as goal
+use Rattle.batch_exec.proofs.query.answered_unasked.Goals as goal
 
 pub returns-in-Ok : goal.returns-in-Ok
 returns-in-Ok c = alone_bound _ _ _ (rw c.in-Ok.is at c.bound.ensures) c.answer.ensures
