@@ -167,8 +167,9 @@ fn read_from<'a>(
     alloc: Global,
     definitions: &'a [Definition],
     query: &BoundQuery,
-) -> Result<(TablesByName<'a>, Items<TableName>), Memory>
-    ensures { IfOk result (λ from. from ≡ (definitions.now, tables_read query.now)) }
+) -> Result<(TablesByName<'a>, Vec<TableName>), Memory>
+    ensures shapes { IfOk result (λ from. from.0 ≡ definitions.now) }
+    ensures tables { IfOk result (λ from. from.1.items ≡ tables_read query.now) }
 {
     Ok((
         TablesByName::new(alloc, definitions)?,

@@ -4,10 +4,10 @@ use Rattle.batch_exec.proofs.Selects.{does_made}
 use Rattle.batch_exec.proofs.query.read_images.Goals as goal
 
 pub returns-in-Ok-clause-does : goal.returns-in-Ok-clause-does
-returns-in-Ok-clause-does g c = does_room true (rw (c.as_slice.ensures.value, c.in-Ok.ensures) at c.read_tables.ensures.does)
+returns-in-Ok-clause-does g c = does_room true (rw (c.in-Ok.ensures.shapes, c.as_slice.ensures.value, c.in-Ok.ensures.tables) at c.read_tables.ensures.does)
 
 pub returns-in-Err-clause-does : goal.returns-in-Err-clause-does
 returns-in-Err-clause-does g c = does_room false (does_made (ap Err c.plain.ensures))
 
 pub returns-in-Ok-clause-fit : goal.returns-in-Ok-clause-fit
-returns-in-Ok-clause-fit g c = rw (c.as_slice.ensures.value, c.in-Ok.ensures) at c.read_tables.ensures.fit
+returns-in-Ok-clause-fit g c = rw (c.in-Ok.ensures.shapes, c.as_slice.ensures.value, c.in-Ok.ensures.tables) at c.read_tables.ensures.fit
