@@ -151,6 +151,82 @@ Rollback
 ERROR 208 class 16 state 1 line 1: Invalid object name 't'.
 DONE(02,0,0)
 ---
+C1 t r -
+SELECT 1 FROM nosuch, t
+Begin
+Fetch objects At ('nosuch') Within ('nosuch') Range S
+Relax
+Rollback
+=>
+ERROR 208 class 16 state 1 line 1: Invalid object name 'nosuch'.
+DONE(02,0,0)
+---
+C1 t r -
+SELECT 1 FROM t, objects, nosuch
+Begin
+Fetch objects At ('t') Within ('t') Range S
+Relax
+Rollback
+=>
+ERROR 208 class 16 state 1 line 1: Invalid object name 'objects'.
+DONE(02,0,0)
+---
+C1 t r -
+SELECT MAX(a.k), (SELECT MIN(v) FROM t WHERE k = 2) FROM t a, t b
+Begin
+Fetch objects At ('t') Within ('t') Range S
+Fetch t First Last Row S
+Fetch t Past (1) Last Row S
+Fetch t Past (2) Last Row S
+Fetch t Past (3) Last Row S
+Fetch t First Last Row S
+Fetch t Past (1) Last Row S
+Fetch t Past (2) Last Row S
+Fetch t Past (3) Last Row S
+Fetch t First Last Row S
+Fetch t Past (1) Last Row S
+Fetch t Past (2) Last Row S
+Fetch t Past (3) Last Row S
+Relax
+Commit
+=>
+COL( INT,  INT)
+ROW(3, 20)
+DONE(11,C1,1)
+DONE(00,0,0)
+---
+C1 t r -
+SELECT k, nosuch FROM t
+Begin
+Fetch objects At ('t') Within ('t') Range S
+Relax
+Rollback
+=>
+ERROR 207 class 16 state 1 line 1: Invalid column name 'nosuch'.
+DONE(02,0,0)
+---
+C1 t r -
+SELECT 1 / (k - 2) FROM t
+Begin
+Fetch objects At ('t') Within ('t') Range S
+Fetch t First Last Row S
+Fetch t Past (1) Last Row S
+Fetch t Past (2) Last Row S
+Fetch t Past (3) Last Row S
+Relax
+Rollback
+=>
+ERROR 8134 class 16 state 1 line 1: Divide by zero error encountered.
+DONE(03,C1,0)
+DONE(00,0,0)
+---
+C1 t r -
+SELECT 1 / 0
+=>
+ERROR 8134 class 16 state 1 line 1: Divide by zero error encountered.
+DONE(03,C1,0)
+DONE(00,0,0)
+---
 C3 t - -
 INSERT INTO objects VALUES (2, 30)
 =>
@@ -158,7 +234,7 @@ ERROR 208 class 16 state 1 line 1: Invalid object name 'objects'.
 DONE(02,0,0)
 ---
 C1 t - -
-SELECT k, v FROM objects
+SELECT 1 FROM objects, t
 =>
 ERROR 208 class 16 state 1 line 1: Invalid object name 'objects'.
 DONE(02,0,0)
