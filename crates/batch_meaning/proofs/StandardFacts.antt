@@ -25,9 +25,10 @@ use Rattle.batch_meaning.specs.declared.form.Served.{Served}
 use Rattle.batch_meaning.specs.Statements.{created_name, not_built_statement}
 use Rattle.error_table.specs.Table as table
 use Rattle.batch_meaning.specs.Tokens.{result_tokens, batch_done}
-use Rattle.batch_meaning.specs.declared.exit.Exit.TheVariants.{On}
+use Rattle.batch_meaning.specs.declared.exit.Exit.{Exit}
+use Rattle.batch_meaning.specs.declared.exit.Exit.TheVariants.{On, End}
 use Rattle.batch_meaning.specs.Tables.{table_of, table_key, table_row}
-use Rattle.batch_meaning.specs.Progress.{SessionProgress, first_manner, first_progress, batch_limit, size_of}
+use Rattle.batch_meaning.specs.Progress.{SessionProgress, first_manner, first_progress, batch_limit, end_size, size_of}
 use Rattle.batch_meaning.specs.Doing.{◌then◌, Held}
 use Rattle.batch_meaning.specs.Meaning.{◌gives◌, definition_fetch, look_up, reads_rows, puts, finds, inserts, relaxes, closes, own, came_of, acted, ended_by, finished, means, each_of, batch}
 use Rattle.batch_meaning.specs.Told.{row_commit, told_commits}
@@ -42,7 +43,15 @@ served form = record { line = pos 1; form = form }
 
 -- behind the first batch, of one statement, which has sent these tokens
 abbrev behind_one : List Token → SessionProgress
-behind_one tokens = record first_progress { tokens = tokens; bytes_left = batch_limit - size_of tokens; statements_left = 999999 }
+behind_one tokens = record first_progress { tokens = tokens; bytes_left = batch_limit - end_size - size_of tokens; statements_left = 999999 }
+
+-- ---- a batch's end
+
+-- it has the bytes that are kept for it
+end_bytes : (exit : Exit) → size_of (batch_done exit ∷ []) ≡ end_size
+unfolding tokens_bytes
+end_bytes On = refl
+end_bytes End = refl
 
 -- ---- SELECT 1
 
@@ -56,7 +65,7 @@ select_result = refl
 -- ---- an empty batch, and texts that are not served
 
 -- a batch without statements has its DONE alone
-empty_held : Held (batch []) first_progress [] tt (record first_progress { tokens = Finished Done 0 0 0 ∷ []; bytes_left = batch_limit - 13; left = 1000000 })
+empty_held : Held (batch []) first_progress [] tt (record first_progress { tokens = Finished Done 0 0 0 ∷ []; bytes_left = batch_limit - end_size - 13; statements_left = 1000000 })
 unfolding Held ◌then◌ batch each_of tokens_bytes
 empty_held = (refl, refl, refl)
 
