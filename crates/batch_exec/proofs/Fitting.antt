@@ -185,8 +185,8 @@ answer_fits definitions statement query images is fit rows answers = by_select (
         let formed = select_formed definitions [] b.select b.selected b.is b.within in
         let same : b.selected.query ≡ query = b.same in
         let typed = select_typed definitions [] b.select b.selected b.is b.within (All-nil HasItsType) first_system (refl, (refl, (refl, (refl, (refl, (tt, (tt, (tt, (tt, (tt, (tt, tt))))))))))) images rows
-            (subst (λ (q : BoundQuery). ImagesOf (tables_in definitions) (references_of q) images) (sym same) (images_of definitions (references_of query) images fit))
-            (subst (λ (q : BoundQuery). Ans [] first_system q images ≡ Ok rows) (sym same) answers) in
+        (subst (λ (q : BoundQuery). ImagesOf (tables_in definitions) (references_of q) images) (sym same) (images_of definitions (references_of query) images fit))
+        (subst (λ (q : BoundQuery). Ans [] first_system q images ≡ Ok rows) (sym same) answers) in
         subst (λ (q : BoundQuery). IsResult (columns_of q) rows) same (result_fits (items_of b.selected.query) rows formed.1 (formed.2 b.plain) typed)
 
 -- of what is bound over no table no image is read
@@ -202,7 +202,7 @@ alone_fits statement query is rows answers = by_select (bound_select [] statemen
         let formed = select_formed [] [] b.select b.selected b.is b.within in
         let same : b.selected.query ≡ query = b.same in
         let typed = select_typed [] [] b.select b.selected b.is b.within (All-nil HasItsType) first_system (refl, (refl, (refl, (refl, (refl, (tt, (tt, (tt, (tt, (tt, (tt, tt))))))))))) [] rows
-            (none (references_of b.selected.query)) (subst (λ (q : BoundQuery). Ans [] first_system q [] ≡ Ok rows) (sym same) answers) in
+        (none (references_of b.selected.query)) (subst (λ (q : BoundQuery). Ans [] first_system q [] ≡ Ok rows) (sym same) answers) in
         subst (λ (q : BoundQuery). IsResult (columns_of q) rows) same (result_fits (items_of b.selected.query) rows formed.1 (formed.2 b.plain) typed)
 
 -- ---- errors

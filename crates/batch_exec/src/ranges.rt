@@ -112,12 +112,7 @@ fn past(fetch: Op, key: Key) -> Op
 }
 
 /// Adds a row, if it is one of a table of this shape.
-fn keep(
-    shape: Option<&TableTree>,
-    rows: &mut RowList,
-    key: &Key,
-    row: Row,
-) -> Result<(), Memory>
+fn keep(shape: Option<&TableTree>, rows: &mut RowList, key: &Key, row: Row) -> Result<(), Memory>
     requires fit { AreKept (option_map (λ of. of.now) shape) rows.old }
     ensures kept { IfOk result (λ _. rows.new ≡ with_row (fits (option_map (λ of. of.now) shape.entry)) rows.old key.now row) }
     ensures fit { IfOk result (λ _. AreKept (option_map (λ of. of.now) shape.entry) rows.new) }

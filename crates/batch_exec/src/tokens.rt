@@ -133,9 +133,7 @@ pub(crate) fn failure_tokens(
 ) -> Result<TokenList, Memory>
     ensures { IfOk result (λ tokens. tokens ≡ failure_tokens statement.now failure.now action) }
 {
-    Ok(TokenList::new(tokens_of_failure(
-        alloc, statement, failure, action,
-    )?))
+    Ok(TokenList::new(tokens_of_failure(alloc, statement, failure, action)?))
 }
 
 /// An error, and the end of its statement where the batch goes on.
@@ -236,12 +234,7 @@ fn text_with(alloc: Global, text: &str, name: &[u16]) -> Result<Units, Memory>
 }
 
 /// A name between two parts of a text, which are ASCII.
-fn around(
-    alloc: Global,
-    before: &str,
-    name: &[u16],
-    behind: &str,
-) -> Result<Units, Memory>
+fn around(alloc: Global, before: &str, name: &[u16], behind: &str) -> Result<Units, Memory>
     ensures { IfOk result (λ text. text ≡ before.now ++ name.now ++ behind.now) }
 {
     let mut units = Vec::new(alloc);

@@ -17,7 +17,8 @@ use stmt_parser::{ParseFault, parse_batch};
 use tsql_grammar::{Function, Kind, kind_of};
 use tsql_lexer::{Sign, Spanned, lexing_of};
 use tsql_tree::{
-    Batch, ColumnTree, Definition, Expr, Form as TreeForm, InsertRows, KeyTree, Statement, TableTree,
+    Batch, ColumnTree, Definition, Expr, Form as TreeForm, InsertRows, KeyTree, Statement,
+    TableTree,
 };
 use value_types::{Memory, SqlType, Units};
 
@@ -90,11 +91,7 @@ fn are_selects(body: &[Statement]) -> bool
 }
 
 /// SELECTs, unless their text names a value of the session.
-fn selects_of(
-    alloc: Global,
-    text: &Units,
-    body: Items<Statement>,
-) -> Result<Vec<Served>, Memory>
+fn selects_of(alloc: Global, text: &Units, body: Items<Statement>) -> Result<Vec<Served>, Memory>
     ensures { IfOk result (λ statements. statements.items ≡ selects_of (names_session text.now) body) }
 {
     if names_session(alloc, text)? {

@@ -504,7 +504,7 @@ finish_ways : (Kept : Commits → Type 0) (statement : Served) (commits : Commit
 unfolding finished acted
 finish_ways Kept statement commits (Ok tokens) c p is shut clear none =
     let tells : commits_by statement.form ≡ told_commits (statement ∷ []) ((p.tokens ++ tokens) ++ batch_done On ∷ []) =
-        rw (clear, tells_both tokens (batch_done On ∷ []) none refl) (sym (append-nil (commits_by statement.form))) in
+    rw (clear, tells_both tokens (batch_done On ∷ []) none refl) (sym (append-nil (commits_by statement.form))) in
     (is ∙ ap (with_commits commits) tells, refl, shut)
 finish_ways Kept statement commits (Err failure) c p is shut clear none =
     ended_ways Kept (action_for statement.form told) none_open c (made (sends (failure_tokens statement told (action_for statement.form told))) p) (Behind Kept statement commits) shut by_exit
