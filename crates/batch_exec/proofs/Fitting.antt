@@ -1,9 +1,8 @@
 -- The tokens that are sent have bytes: counts, texts and values fit their fields.
-use Rattle.std.proofs.Common.{◌≡◌, ℕ, ℤ, pos, negsuc, ◌+◌, ◌^◌, ◌<◌, ◌≤◌, ◌&&◌, ◌||◌, Bool, true, false, if◌then◌else◌, List, [], ◌∷◌, ◌++◌, length, map, take, Option, Result, Ok, Err, FitsSigned, IfOk, IsTrue, refl, sym, subst, length-take, rules, arith, All, suc, ap, T}
+use Rattle.std.proofs.Common.{◌≡◌, ℕ, ℤ, pos, negsuc, ◌+◌, ◌^◌, ◌<◌, ◌≤◌, ◌||◌, Bool, true, false, if◌then◌else◌, List, [], ◌∷◌, ◌++◌, length, map, take, Option, Result, Ok, Err, IfOk, refl, sym, subst, length-take, arith, All, suc, ap, T}
 use Rattle.std.specs.Prelude.{nat_le}
-use Rattle.std.specs.Int.{w32, w64}
 use Rattle.std.proofs.lemmas.Bool.{leb-true, le-leb, and_parts}
-use Rattle.std.proofs.lemmas.List.Elements.{All-head, All-tail, All-cons, All-nil}
+use Rattle.std.proofs.lemmas.List.Elements.{All-cons, All-nil}
 use Rattle.std.specs.declared.alloc.Global.{Global}
 use Rattle.std.specs.declared.vec.Vec.{Vec}
 use Rattle.error_table.specs.declared.action.Action.{Action}
@@ -52,7 +51,6 @@ use Rattle.tds_tokens.proofs.Lengths.{length-notice_bytes}
 use Rattle.batch_meaning.specs.declared.exit.Exit.{Exit}
 use Rattle.batch_meaning.specs.declared.exit.Exit.TheVariants.{On, End}
 use Rattle.batch_meaning.specs.declared.failure.Failure.{Failure}
-use Rattle.batch_meaning.specs.declared.form.Form.{Form}
 use Rattle.batch_meaning.specs.declared.form.Served.{Served}
 use Rattle.batch_meaning.specs.Failures.{plain}
 use Rattle.batch_meaning.specs.Statements.{is_select_step}

@@ -1,5 +1,5 @@
 -- What is committed by what a batch of one statement asks, and what it tells.
-use Rattle.std.proofs.Common.{◌≡◌, ℕ, inl, inr, zero, suc, Bool, true, false, if◌then◌else◌, List, [], ◌∷◌, ◌++◌, Option, None, Some, Result, Ok, Err, is_ok, refl, sym, ap, ◌∙◌, subst, append_assoc, append-nil, arith}
+use Rattle.std.proofs.Common.{◌≡◌, ℕ, inl, inr, zero, suc, Bool, true, false, if◌then◌else◌, List, [], ◌∷◌, ◌++◌, Option, None, Result, Ok, Err, is_ok, refl, sym, ap, ◌∙◌, subst, append_assoc, append-nil, arith}
 use Rattle.std.specs.Prelude.{◌≤◌, ◌||◌, nat_eq, nat_le, nat_lt, length}
 use Rattle.std.specs.List.{list_all}
 use Rattle.std.proofs.lemmas.Bool.{and_parts}
@@ -30,7 +30,7 @@ use Rattle.bound_tree.specs.Outcomes as value
 use Rattle.query_eval.specs.Ans.{Ans}
 use Rattle.query_eval.specs.Given.{tables_read}
 use Rattle.binder.specs.Names.{looked_up}
-use Rattle.catalog_rows.specs.Definitions.{objects_name, is_objects, object_key, row_of, IsDefinitionAt}
+use Rattle.catalog_rows.specs.Definitions.{objects_name, is_objects, object_key, row_of}
 use Rattle.tds_tokens.specs.declared.token.Token.{Token}
 use Rattle.batch_meaning.specs.declared.exit.Exit.{Exit}
 use Rattle.batch_meaning.specs.declared.exit.Exit.TheVariants.{On, End}
@@ -39,9 +39,9 @@ use Rattle.batch_meaning.specs.declared.form.Form.{Form}
 use Rattle.batch_meaning.specs.declared.form.Form.TheVariants.{Query, CreateTable, Insert, NotBuilt, Refused}
 use Rattle.batch_meaning.specs.declared.form.Served.{Served}
 use Rattle.batch_meaning.specs.Failures.{plain}
-use Rattle.batch_meaning.specs.Selecting.{as_served, answered, answered_unasked, answered_by, bound_over, shape_of, fits, row_limit, result_full, not_built, unknown_table, first_system, columns_of}
+use Rattle.batch_meaning.specs.Selecting.{as_served, answered, answered_unasked, answered_by, bound_over, shape_of, fits, row_limit, result_full, unknown_table, first_system, columns_of}
 use Rattle.batch_meaning.specs.Progress.{SessionProgress, begins, counts, sends, made, asked, size_of}
-use Rattle.batch_meaning.specs.Doing.{Doing, over, makes, defines, asks, ◌then◌, Held}
+use Rattle.batch_meaning.specs.Doing.{Doing, over, makes, asks, ◌then◌, Held}
 use Rattle.batch_meaning.specs.Meaning.{unless_refused, ◌gives◌, on_ok, ◌>>=◌, fails, with_room, known, definition_fetch, look_up, rows_or_failure, reads_rows, placed, marked, puts, creates, finds, inserts, is_table, with_found, looks_up, reads_images, over_query, over_definitions, selects, done_for, if_bytes_left, work_of, where_ended, where_done, relaxes, closes, where_begun, own, asks_any, unasked, came_of, object_present, action_for, ended_by, rolls_back_open, acted, or_full, finished, means, goes_on, each_of, batch, statements_spent}
 use Rattle.batch_meaning.specs.Statements.{is_query, WritesAlone}
 use Rattle.batch_meaning.specs.Tokens.{row_tokens, result_tokens, inserted_tokens, failure_tokens, batch_done}

@@ -1,5 +1,5 @@
 -- What a tree does, from what its parts do.
-use Rattle.std.proofs.Common.{◌≡◌, ℕ, Bool, true, false, if◌then◌else◌, inl, inr, List, [], ◌∷◌, ◌++◌, Option, Result, Ok, Err, refl, sym, subst, append_assoc}
+use Rattle.std.proofs.Common.{◌≡◌, Bool, true, false, if◌then◌else◌, inl, inr, List, [], ◌∷◌, ◌++◌, Option, Result, Ok, Err, refl, sym, subst, append_assoc}
 use Rattle.step_model.proofs.Pasts.{goes_nowhere, goes_further}
 use Rattle.std.specs.Result.{IsErr, IsErrAnd}
 use Rattle.value_types.specs.declared.memory.Memory.{Memory}

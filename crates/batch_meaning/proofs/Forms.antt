@@ -1,11 +1,11 @@
 -- Worked trees and lexemes: which statements are served.
-use Rattle.std.proofs.Common.{◌≡◌, ℕ, ℤ, pos, true, false, List, [], ◌∷◌, Option, None, Some, refl, sym, ap, ◌∙◌, rules}
+use Rattle.std.proofs.Common.{◌≡◌, ℤ, pos, true, false, [], ◌∷◌, None, Some, refl, sym, ap, ◌∙◌, rules}
 use Rattle.std.specs.Prelude.{codes}
 use Rattle.tsql_lexer.specs.declared.lexeme.Lexeme.{Lexeme}
 use Rattle.tsql_lexer.specs.declared.lexeme.Lexeme.TheVariants as lexeme
 use Rattle.tsql_lexer.specs.declared.lexeme.Sign.TheVariants as sign
 use Rattle.tsql_lexer.specs.declared.lexeme.Spanned.{Spanned}
-use Rattle.tsql_tree.specs.declared.query.Expr.{Expr, fold-roll-Expr}
+use Rattle.tsql_tree.specs.declared.query.Expr.{fold-roll-Expr}
 use Rattle.tsql_tree.specs.declared.query.Expr.TheVariants as expr
 use Rattle.tsql_tree.specs.declared.query.Item.TheVariants as item
 use Rattle.tsql_tree.specs.declared.query.Select.{Select, roll-Select}

@@ -1,5 +1,5 @@
 -- A text is read as one list of statements: of SELECTs, or of one statement at most.
-use Rattle.std.proofs.Common.{◌≡◌, ◌≤◌, ℕ, pos, Bool, true, false, if◌then◌else◌, inl, inr, List, [], ◌∷◌, length, map, Result, Ok, Err, refl, sym, ap, ◌∙◌, subst, arith}
+use Rattle.std.proofs.Common.{◌≡◌, ℕ, pos, Bool, true, false, if◌then◌else◌, inl, inr, List, [], ◌∷◌, map, Result, Ok, Err, refl, sym, ap, ◌∙◌, subst, arith}
 use Rattle.std.specs.List.{list_all}
 use Rattle.tsql_tree.specs.declared.statement.Statement.{Statement}
 use Rattle.tsql_tree.specs.declared.statement.Batch.{Batch}

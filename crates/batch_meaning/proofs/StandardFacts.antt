@@ -1,7 +1,7 @@
 -- Batches of known statements: what is asked for them, what they send, and what is committed.
-use Rattle.std.proofs.Common.{◌≡◌, ℕ, ◌-◌, true, List, [], ◌∷◌, ◌++◌, None, Some, Ok, pos, refl}
+use Rattle.std.proofs.Common.{◌≡◌, ℕ, ◌-◌, true, List, [], ◌∷◌, ◌++◌, None, Some, pos, refl}
 use Rattle.std.specs.Prelude.{codes, replicate}
-use Rattle.value_types.specs.declared.sql_type.SqlType.TheVariants.{Int, BigInt}
+use Rattle.value_types.specs.declared.sql_type.SqlType.TheVariants.{Int}
 use Rattle.value_types.specs.declared.value.Value.TheVariants.{Whole}
 use Rattle.step_model.specs.declared.op.Hold.TheVariants.{Range}
 use Rattle.step_model.specs.declared.op.Op.{Op}

@@ -4,7 +4,6 @@
 -- succeeds and else rolled back. A meaning is a tree; the code asks the port, and goes on by its replies.
 use Rattle.std.specs.Prelude.{ℕ, ℤ, ◌==◌, ◌++◌, not, Bool, true, false, nat_lt, is_ok, if◌then◌else◌, List, [], ◌∷◌, Option, None, Some, Result, Ok, Err}
 use Rattle.lock_modes.specs.declared.KeyPart.TheVariants.{S}
-use Rattle.value_types.specs.Units.{same_units}
 use Rattle.value_types.specs.declared.table_name.TableName.{TableName}
 use Rattle.value_types.specs.declared.value.Value.{Value}
 use Rattle.tsql_tree.specs.declared.definition.Definition.{Definition}

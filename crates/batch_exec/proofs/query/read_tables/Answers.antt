@@ -1,6 +1,6 @@
 use Rattle.std.proofs.Common.{◌≡◌, [], ◌∷◌, ◌++◌, Err, ap, rules}
 use Rattle.batch_meaning.proofs.Composed.{does_fail, leads_here, leads_to}
-use Rattle.batch_exec.proofs.Selects.{does_made, images_more, images_taken, leads_on, leads_out, next_table, tables_done}
+use Rattle.batch_exec.proofs.Selects.{does_made, images_taken, leads_on, leads_out, next_table, tables_done}
 use Rattle.batch_exec.proofs.query.read_tables.Goals as goal
 
 pub loop-table-init : goal.loop-table-init

@@ -1,5 +1,5 @@
 use Rattle.std.proofs.Common.{true, false, Err, ap}
-use Rattle.batch_meaning.proofs.Composed.{does_over, does_room}
+use Rattle.batch_meaning.proofs.Composed.{does_room}
 use Rattle.batch_exec.proofs.Selects.{does_made}
 use Rattle.batch_exec.proofs.query.select.Goals as goal
 

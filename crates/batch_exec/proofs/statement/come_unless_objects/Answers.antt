@@ -1,5 +1,5 @@
 use Rattle.std.proofs.Common.{sym, Err, ap}
-use Rattle.batch_meaning.proofs.Composed.{does_over, does_yes, does_no}
+use Rattle.batch_meaning.proofs.Composed.{does_yes, does_no}
 use Rattle.batch_exec.proofs.Selects.{does_made}
 use Rattle.batch_exec.proofs.statement.come_unless_objects.Goals as goal
 

@@ -1,6 +1,6 @@
 use Rattle.std.proofs.Common.{true, false, Err, ap}
 use Rattle.batch_meaning.specs.Meaning.{reads_rows}
-use Rattle.batch_meaning.proofs.Composed.{does_over, does_room}
+use Rattle.batch_meaning.proofs.Composed.{does_room}
 use Rattle.batch_exec.proofs.Selects.{does_made}
 use Rattle.batch_exec.proofs.statement.look_for_triggers.Goals as goal
 

@@ -1,5 +1,5 @@
 use Rattle.std.proofs.Common.{Err, ap}
-use Rattle.batch_meaning.proofs.Composed.{does_over, does_asks}
+use Rattle.batch_meaning.proofs.Composed.{does_asks}
 use Rattle.batch_exec.proofs.Selects.{does_made}
 use Rattle.batch_exec.proofs.statement.put.Goals as goal
 

@@ -8,7 +8,7 @@ use Rattle.value_types.specs.declared.row.Row.{Row}
 use Rattle.batch_meaning.specs.Doing.{Did, asks}
 use Rattle.batch_meaning.specs.Meaning.{unless_refused, placed, marked, puts}
 use Rattle.batch_meaning.specs.Tokens.{duplicate_key}
-use Rattle.batch_meaning.proofs.Composed.{does_over, does_room}
+use Rattle.batch_meaning.proofs.Composed.{does_room}
 use Rattle.batch_exec.proofs.Selects.{does_made}
 use Rattle.batch_exec.proofs.statement.put_row.Goals as goal
 
