@@ -21,6 +21,7 @@ within an inner query; a test as a value. The rows of a query without an order a
 places of ties, of classes and of the first of equal rows are not compared. Columns are: each is of the type INT,
 and has its alias or its column's name, or none."""
 import argparse
+import os
 import re
 import sqlite3
 import subprocess
@@ -379,7 +380,9 @@ def ours(program, tables, batches):
     """The tables that tsqld answers to each query of each batch: its columns, and its rows."""
     texts = [*setup(tables), *(" ".join(chosen(query.text, 1) + ";" for query in batch) for batch in batches)]
     sent = b"".join(rows.batch(text) for text in texts)
-    run = subprocess.run([program, "pipe", "--bare"], input=sent, stdout=subprocess.PIPE, check=True)
+    run = subprocess.run([program, "pipe", "--bare"], input=sent, stdout=subprocess.PIPE, check=False)
+    if run.returncode != 0:
+        sys.exit(f"{program} ended with status {run.returncode}")
     replies = [rows.Tokens(payload).lines() for _, payload in rows.replies_of(run.stdout)]
     return [tables_of(lines) for lines in replies[-len(batches) :]]
 
@@ -441,6 +444,8 @@ def main():
     words.add_argument("--queries", type=int, default=1000)
     words.add_argument("--seed", type=int, default=1)
     said = words.parse_args()
+    if not os.path.exists(said.bin):
+        sys.exit(f"{said.bin} is not there: ./tsqld builds it")
     rand, seen, done, found_rows = Random(said.seed), Counter(), 0, 0
     maker = Maker(rand, seen)
     while done < said.queries:
