@@ -68,7 +68,7 @@ next_of : {A : Type 0} (l : List A) (i : ℕ) (item : A) → item ≡ get_or l i
 next_of {A = A} l i item is within = drop-cons l i item within ∙ ap (λ (x : A). x ∷ drop (suc i) l) (sym is) ∙ ap (λ (n : ℕ). item ∷ drop n l) (sym (add-one i))
 
 -- the next name is looked up
-next_name : {before now : PortPast} {whole : Doing (Result (List Definition) Failure)} {old mid : SessionProgress} (names : List (List ℕ)) (i : ℕ) (name : List ℕ) (definitions : List Definition)
+pub next_name : {before now : PortPast} {whole : Doing (Result (List Definition) Failure)} {old mid : SessionProgress} (names : List (List ℕ)) (i : ℕ) (name : List ℕ) (definitions : List Definition)
     → name ≡ get_or names i name → i < length names → Leads before now whole old (looks_up definitions (drop i names)) mid
     → Leads before now whole old (look_up name >>= λ found. if is_table found then with_room (looks_up (with_found definitions found) (drop (i + 1) names)) else over (Ok definitions)) mid
 unfolding looks_up
@@ -76,10 +76,6 @@ next_name names i name definitions is within leads = rw (next_of names i name is
 
 module _ {before now : PortPast} {whole : Doing (Result (List Definition) Failure)} {old mid : SessionProgress} (names : List (List ℕ)) (i : ℕ) (name : List ℕ) (definitions : List Definition)
     (is : name ≡ get_or names i name) (within : i < length names) (leads : Leads before now whole old (looks_up definitions (drop i names)) mid) where
-  -- it could not be
-  pub name_failed : {after : PortPast} {q : SessionProgress} {failure : Failure} → Did now after (look_up name) mid (Ok (Err failure)) q → Did before after whole old (Ok (Err failure)) q
-  name_failed does = leads_to (next_name names i name definitions is within leads) (does_failed (look_up name) _ does)
-
   -- it is a table's
   pub name_found : {after : PortPast} {q : SessionProgress} (found : Option Definition) → Did now after (look_up name) mid (Ok (Ok found)) q → is_table found ≡ true → Leads before after whole old (with_room (looks_up (with_found definitions found) (drop (i + 1) names))) q
   name_found found does table = leads_yes (is_table found) _ _ table (leads_then (look_up name) (on_ok _) (next_name names i name definitions is within leads) does)

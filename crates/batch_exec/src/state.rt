@@ -6,7 +6,7 @@ ghost use Rattle.batch_meaning.specs.Doing.{Exchanged, Did};
 ghost use Rattle.batch_meaning.specs.Meaning.{rolls_back_open};
 ghost use Rattle.batch_exec.specs.Sendable.{IsFit};
 ghost use Rattle.tds_tokens.specs.Fit.{FitTokens};
-ghost use Rattle.batch_meaning.specs.Progress.{Ready, first_progress, made, asked, begins, counts, sends, size_of};
+ghost use Rattle.batch_meaning.specs.Progress.{Ready, first_progress, made, asked, begins, counts, is_open_after, sends, size_of, touched_after};
 
 use crate::sendable::TokenList;
 use std::alloc::Global;
@@ -165,20 +165,35 @@ impl SessionState {
         requires { CanReply op.now reply.now }
         ensures { self.new ≡ asked op.now reply.now self.old }
     {
-        match reply {
-            Reply::Began => self.is_open = true,
-            Reply::Ended { .. } => self.is_open = false,
-            _ => {}
-        }
-        match op {
-            Op::Fetch { .. } => self.touched = true,
-            Op::Insert { .. } => self.touched = true,
-            Op::Replace { .. } => self.touched = true,
-            Op::Erase { .. } => self.touched = true,
-            Op::Mark => {}
-            Op::BackTo { .. } => {}
-            _ => self.touched = false,
-        }
+        self.is_open = is_open_after(self.is_open, op, reply);
+        self.touched = touched_after(self.touched, op);
+    }
+}
+
+/// Whether a transaction is open behind a reply to an operation.
+fn is_open_after(before: bool, op: &Op, reply: &Reply) -> bool
+    requires { CanReply op.now reply.now }
+    ensures { result ≡ is_open_after before op.now reply.now }
+{
+    match reply {
+        Reply::Began => true,
+        Reply::Ended { .. } => false,
+        _ => before,
+    }
+}
+
+/// Whether something was fetched or written behind an operation, since the last Relax.
+fn touched_after(before: bool, op: &Op) -> bool
+    ensures { result ≡ touched_after before op.now }
+{
+    match op {
+        Op::Fetch { .. } => true,
+        Op::Insert { .. } => true,
+        Op::Replace { .. } => true,
+        Op::Erase { .. } => true,
+        Op::Mark => before,
+        Op::BackTo { .. } => before,
+        _ => false,
     }
 }
 

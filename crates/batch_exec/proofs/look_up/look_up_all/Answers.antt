@@ -1,14 +1,15 @@
-use Rattle.std.proofs.Common.{◌≡◌, Err, ap, sym, rules}
+use Rattle.std.proofs.Common.{◌≡◌, true, false, Err, ap, sym, rules}
 use Rattle.batch_meaning.specs.Meaning.{with_found}
-use Rattle.batch_meaning.proofs.Composed.{leads_here, leads_room, leads_to}
-use Rattle.batch_exec.proofs.Selects.{does_made, name_failed, name_found, name_last, names_done}
+use Rattle.batch_meaning.proofs.Composed.{does_fail, leads_here, leads_room, leads_to}
+use Rattle.batch_exec.proofs.Selects.{does_made, name_found, name_last, names_done, next_name}
 use Rattle.batch_exec.proofs.look_up.look_up_all.Goals as goal
 
 pub loop-name-init : goal.loop-name-init
 loop-name-init g c = record { ready = c.requires.ready; begun = c.requires.begun; leads = rw c.new-definitions.ensures leads_here }
 
 pub returns-in_err-found-clause-does : goal.returns-in_err-found-clause-does
-returns-in_err-found-clause-does g c = rw (c.from_residual.ensures.0, c.from_residual.ensures.1) (name_failed _ _ _ _ c.name-item.is c.loop-name-test.true c.loop-name.invariant.leads c.in_err-found.ensures.does)
+returns-in_err-found-clause-does g c = leads_to (next_name _ _ _ _ c.name-item.is c.loop-name-test.true c.loop-name.invariant.leads)
+    (does_fail _ _ _ c.from_residual.ensures.0 c.from_residual.ensures.1 c.in_err-found.ensures.does)
 
 pub returns-then-not-is_table-clause-does : goal.returns-then-not-is_table-clause-does
 returns-then-not-is_table-clause-does g c = name_last _ _ _ _ c.name-item.is c.loop-name-test.true c.loop-name.invariant.leads _ c.in_ok-found.ensures.does (sym c.if-not-is_table.ensures)
