@@ -27,10 +27,10 @@ const SEVERAL_ROWS: i32 = 512;
 
 /// What a statement reads beside its own tree.
 #[derive(Clone, Copy)]
-struct Source<'a> {
-    images: &'a [Image],
-    vars: &'a Vars,
-    system: &'a SystemValues,
+pub(crate) struct Source<'a> {
+    pub(crate) images: &'a [Image],
+    pub(crate) vars: &'a Vars,
+    pub(crate) system: &'a SystemValues,
 }
 
 /// What a query answers on images, which stand for the references of its inner queries first, and then for
@@ -161,7 +161,7 @@ fn query_rows(
 /// The answers of inner queries, one after another.
 #[cycle(inner_queries)]
 #[tactic(auto, using(crate::proofs::Inner::inner_onto_is))]
-fn inner_tables(
+pub(crate) fn inner_tables(
     alloc: Global,
     inners: &[InnerQuery],
     source: &Source<'_>,

@@ -19,9 +19,11 @@ mod limit;
 mod phases;
 mod references;
 mod side;
+mod target;
 
 pub use answering::{answer, answer_rows};
 pub use key_tests::ColumnTest;
 pub use laws::{law_images, law_key_tests};
 pub use limit::{PAIR_LIMIT, law_pair_limit};
 pub use references::tables_read;
+pub use target::{InnerAnswers, inner_answers, rows_meant};

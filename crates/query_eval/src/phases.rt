@@ -50,7 +50,7 @@ fn width_of(refs: &[Reference]) -> Result<u32, Memory>
 }
 
 /// The rows of which a test is true, where there is one: WHERE and HAVING.
-fn rows_where(
+pub(crate) fn rows_where(
     alloc: Global,
     context: &Context<'_>,
     test: &Option<BoundTest>,

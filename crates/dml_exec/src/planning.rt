@@ -1,0 +1,116 @@
+//! The plan of a write.
+
+ghost use Rattle.std.specs.Prelude.{◌≡◌, ◌≤◌, Some, Ok, length};
+ghost use Rattle.value_types.specs.Order.{key_limit};
+ghost use Rattle.clause_binder.specs.Scope as scope;
+ghost use Rattle.scalar_eval.specs.Scopes.{values_of};
+ghost use Rattle.dml_exec.specs.Planning as spec;
+ghost use Rattle.dml_exec.specs.Plans.{Plans};
+
+use crate::changes::changes_of;
+use crate::fault::widened;
+use crate::keys::{has_key, key_places};
+use crate::rewriting::{Source, rewritten};
+use crate::rewritten::Rewritten;
+use bound_tree::{BoundTest, BoundWrite, Image, SystemValues};
+use constraint_check::first_local;
+use scalar_eval::EvalFault;
+use session_vars::Vars;
+use std::alloc::Global;
+use step_model::Planned;
+use tsql_tree::TableTree;
+use value_types::{Row, TableName};
+
+/// The error of a table whose key has no column, or too many.
+const OUTSIDE_LIMITS: i32 = 49007;
+
+/// The changes of a write, in the order in which they are asked: all erasures, and then what is written. `images` stand for the
+/// references of its inner queries, or of the select of an INSERT, and then for its target; `shape` is the table that is
+/// written, and `checks` are what its CHECKs are bound to, in their order.
+///
+/// # Errors
+///
+/// `Number` with the first error of an inner query, of WHERE, or of a value, also where that can't be stored in its
+/// column; with that of a CHECK; and with 49007 where the table has no key. `Named` with 515 and the column's name, or
+/// with 547 and the CHECK's.
+pub fn plan_write(
+    alloc: Global,
+    write: &BoundWrite,
+    images: &[Image],
+    shape: &TableTree,
+    checks: &[BoundTest],
+    vars: &Vars,
+    system: &SystemValues,
+) -> Result<Vec<Planned>, EvalFault>
+    ensures { Plans result (spec.Chg (values_of vars.now) system.now shape.now checks.now write.now images.now) }
+{
+    let Ok(key) = key_places(alloc, shape) else {
+        return Err(EvalFault::Memory);
+    };
+    if !has_key(key.as_slice()) {
+        return Err(EvalFault::Number(OUTSIDE_LIMITS));
+    }
+    let source = Source {
+        shape,
+        key: key.as_slice(),
+        images,
+        vars,
+        system,
+    };
+    match rewritten(alloc, write, &source) {
+        Ok(rows) => checked(
+            alloc,
+            table_written(write),
+            shape,
+            key.as_slice(),
+            checks,
+            rows,
+        ),
+        Err(stop) => Err(widened(stop)),
+    }
+}
+
+/// The changes that rows are written by, once nothing is wrong with the new rows by themselves.
+fn checked(
+    alloc: Global,
+    table: &TableName,
+    shape: &TableTree,
+    key: &[u16],
+    checks: &[BoundTest],
+    rows: Rewritten,
+) -> Result<Vec<Planned>, EvalFault>
+    requires key { key.now ≡ scope.key_places (Some shape.now) }
+    requires not_empty { 1 ≤ length key.now }
+    requires within_limit { length key.now ≤ key_limit }
+    ensures { Plans result (spec.checked table.now shape.now checks.now (Ok rows)) }
+{
+    match first_local(alloc, new_rows(&rows), shape, checks) {
+        Ok(()) => match changes_of(alloc, table, key, rows) {
+            Ok(changes) => Ok(changes),
+            Err(_) => Err(EvalFault::Memory),
+        },
+        Err(fault) => Err(fault),
+    }
+}
+
+/// The rows that the write leaves.
+fn new_rows(rows: &Rewritten) -> &[Row]
+    ensures { result.now ≡ spec.new_rows rows.now }
+{
+    match rows {
+        Rewritten::Inserted(rows) => rows.as_slice(),
+        Rewritten::Set(_, news) => news.as_slice(),
+        Rewritten::Erased(_) => &[],
+    }
+}
+
+/// The table that is written.
+fn table_written(write: &BoundWrite) -> &TableName
+    ensures { result.now ≡ spec.table_written write.now }
+{
+    match write {
+        BoundWrite::Insert { table, .. } => table,
+        BoundWrite::Update { table, .. } => table,
+        BoundWrite::Delete { table, .. } => table,
+    }
+}
