@@ -161,12 +161,7 @@ fn rewrite(
 }
 
 /// A row that is inserted at its key.
-fn insertion(
-    alloc: Global,
-    table: &TableName,
-    key: &[u16],
-    row: Row,
-) -> Result<Planned, Memory>
+fn insertion(alloc: Global, table: &TableName, key: &[u16], row: Row) -> Result<Planned, Memory>
     requires not_empty { 1 ≤ length key.now }
     requires within_limit { length key.now ≤ key_limit }
     ensures { IfOk result (λ change. change ≡ spec.insertion table.now key.now row) }

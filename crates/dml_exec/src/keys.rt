@@ -18,11 +18,7 @@ pub(crate) fn key_places(alloc: Global, shape: &TableTree) -> Result<Vec<u16>, M
 {
     match shape.key.as_slice() {
         [] => Ok(Vec::new(alloc)),
-        [key, ..] => Ok(places_in(
-            alloc,
-            shape.columns.as_slice(),
-            key.columns.as_slice(),
-        )?),
+        [key, ..] => Ok(places_in(alloc, shape.columns.as_slice(), key.columns.as_slice())?),
     }
 }
 

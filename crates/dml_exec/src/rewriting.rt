@@ -138,13 +138,7 @@ fn valued_in(
 {
     let mut rows = Vec::with_capacity(alloc, values.len())?;
     for exprs in values {
-        rows.push(row_of_values(
-            alloc,
-            columns,
-            places,
-            exprs.as_slice(),
-            scope,
-        )?)?;
+        rows.push(row_of_values(alloc, columns, places, exprs.as_slice(), scope)?)?;
     }
     Ok(rows)
 }
@@ -233,11 +227,7 @@ fn deleted(
 }
 
 /// The answers of the inner queries.
-fn answers(
-    alloc: Global,
-    inner: &[InnerQuery],
-    source: &Source<'_>,
-) -> Result<InnerAnswers, Stop>
+fn answers(alloc: Global, inner: &[InnerQuery], source: &Source<'_>) -> Result<InnerAnswers, Stop>
     ensures { FindsBy (λ answers. (inner_rows answers.tables, drop answers.read source.now.images.now)) result
         (targets.inner_answers (values_of source.now.vars.now) source.now.system.now inner.now source.now.images.now) }
 {
