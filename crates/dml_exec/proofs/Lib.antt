@@ -3,3 +3,7 @@ pub mod Each  -- steps one behind another: a fault stands
 pub mod Pairs  -- two lists at once
 pub mod Filled  -- the next value of a row
 pub mod Updated  -- the steps of an UPDATE
+pub mod Held  -- what a dialog comes to, from its parts
+pub mod RangeSteps  -- ranges and parts, by a loop
+pub mod Writes  -- what comes of a change and of a check
+mod StandardFacts  -- worked rows

@@ -1,6 +1,12 @@
 -- Read in this order; the comment behind a name says what the file is for.
+
+-- What a write changes
 pub mod Filling  -- filled: a row in which given values are stored
 pub mod Planning  -- Chg: the changes of a write, or its first error
 pub mod Plans  -- Plans: an answer is the plan that is meant
--- What private contracts alone cite.
+-- What is asked for it
+pub mod Asking  -- parts of a dialog that may fail
+pub mod Reading  -- images_of: how the images of a statement are read
+pub mod Writing  -- writes: how changes are asked, and checked
+-- What private contracts alone cite
 pub mod Found  -- Finds: an answer within the crate is the outcome that is meant

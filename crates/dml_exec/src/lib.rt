@@ -1,17 +1,28 @@
-//! What a write changes: the rows that it makes, checked by themselves, and the list of its changes.
+//! What a write changes, and what is asked of the port for it.
 //!
 //! `specs/Lib.antt` says in which order to read. The layers above rely on [`plan_write`] giving exactly the changes of a write
-//! on images of its tables, in their order, or its first error. Nothing is asked of the caller. Only tests show that want of
-//! memory is not answered where there is memory. It recurses as deep as inner queries nest, and as deep as trees are.
+//! on images of its tables, in their order, or its first error; and on [`read_images`] and [`apply_write`] asking exactly what
+//! `images_of` and `writes` ask, and giving what these come to by the replies. The last two want an open transaction and a
+//! priority that may be asked. Only tests show that want of memory is not answered where there is memory. It recurses as deep as inner
+//! queries nest, and as deep as trees are.
 #![tactic(auto)]
 
 mod changes;
 mod fault;
 mod filling;
+mod images;
 mod keys;
 mod planning;
+mod ranges;
+mod refusal;
 mod rewriting;
 mod rewritten;
+mod writing;
+mod written;
 
+pub use images::read_images;
 pub use planning::plan_write;
+pub use refusal::{Level, Refusal};
 pub use rewritten::Rewritten;
+pub use writing::apply_write;
+pub use written::Written;

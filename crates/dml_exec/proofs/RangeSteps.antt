@@ -1,0 +1,136 @@
+-- How a range is read, and lists of parts, by a loop: what is left leads to the whole.
+use Rattle.std.proofs.Common.{◌≡◌, Bool, if◌then◌else◌, ℕ, zero, suc, ◌+◌, ◌-◌, ◌<◌, ◌≤◌, true, false, List, [], ◌∷◌, ◌++◌, length, drop, get_or, Option, Some, None, Result, Ok, Err, refl, sym, ap, ◌∙◌, subst, arith}
+use Rattle.std.proofs.lemmas.List.{drop_more, length-drop}
+use Rattle.tsql_tree.specs.declared.definition.TableTree.{TableTree}
+use Rattle.value_types.specs.declared.value.Value.{Value}
+use Rattle.step_model.specs.declared.manner.Manner.{Manner}
+use Rattle.step_model.specs.declared.op.Op.{Op}
+use Rattle.step_model.specs.declared.op.Op.TheVariants.{Fetch, Insert, Replace, Erase}
+use Rattle.step_model.specs.declared.reply.Reply.{Reply}
+use Rattle.step_model.specs.declared.reply.Reply.TheVariants as replies
+use Rattle.step_model.specs.Exchange.{CanReply, IsPartOfFetch, MayCome, Standing}
+use Rattle.step_model.specs.Port.{PortPast, GoesOn, standing_after}
+use Rattle.step_model.specs.Dialog.{Dialog, over, room, Leads, Asks}
+use Rattle.step_model.specs.Ranges.{Keeps, Rows}
+use Rattle.dml_exec.specs.declared.refusal.Refusal.{Refusal}
+use Rattle.dml_exec.specs.declared.refusal.Refusal.TheVariants.{Limit, Memory}
+use Rattle.dml_exec.specs.declared.refusal.Level.{Level}
+use Rattle.dml_exec.specs.declared.written.Halt.{Halt}
+use Rattle.dml_exec.specs.Asking.{MayWork, on_ok, ◌>>=◌, with_room}
+use Rattle.dml_exec.specs.Reading.{IsFetch, TableRead, fetches, images_from, part_of, past, read_by, reads_on, reads_table, rows_from}
+use Rattle.dml_exec.proofs.Held.{asks_behind, asks_failed, asks_one, asks_over, asks_room, leads_then, leads_to}
+use Rattle.step_model.proofs.Dialogs.{front_room}
+use Rattle.dml_exec.proofs.Pairs.{none_of}
+
+-- ---- a fetch
+
+pub fetched : {before mid after : PortPast} {manner : Manner} (keeps : Keeps) (op : Op) (so_far : Rows) (reply : Reply) {result : Result (Rows × Option (List Value)) Refusal}
+    → IsFetch op → GoesOn before mid (record { op = op; manner = manner; reply = reply } ∷ []) → CanReply op reply → Asks mid after manner (read_by keeps so_far reply) result → Asks before after manner (fetches keeps op so_far) result
+fetched keeps (Fetch table start stop hold part) so_far reply is went can was = asks_one tt (read_by keeps so_far) reply went can was
+fetched keeps op so_far reply is went can was = absurd is
+
+-- it may come, and leaves the session where it stands
+pub fetch_may : (standing : Standing) (op : Op) → IsFetch op → standing.is_open ≡ true → MayCome standing op
+fetch_may standing (Fetch table start stop hold part) is begun = (begun, is)
+fetch_may standing op is begun = absurd is
+
+pub fetch_stays : (before : Standing) (op : Op) (reply : Reply) → IsFetch op → CanReply op reply → standing_after before op reply ≡ before
+fetch_stays before (Fetch table start stop hold part) (replies.Ended place) is can = absurd can
+fetch_stays before (Fetch table start stop hold part) reply is can = refl
+fetch_stays before op reply is can = absurd is
+
+-- what is behind a key of its range is a fetch, too
+pub past_fetches : (op : Op) (key : List Value) → IsFetch op → IsFetch (past op key)
+past_fetches (Fetch table start stop hold part) key is = is
+past_fetches op key is = absurd is
+
+-- where the session stands as before it may go on
+pub may_on : {before after : PortPast} {manner : Manner} → MayWork before manner → after.standing ≡ before.standing → MayWork after manner
+may_on may same = record { begun = ap (λ (s : Standing). s.is_open) same ∙ may.begun; priority = may.priority }
+
+-- ---- a range
+
+module _ {before now : PortPast} {manner : Manner} {whole : Dialog (Result Rows Refusal)} (keeps : Keeps) (fetch : Op) (so_far : Rows) where
+  -- no key more is looked at
+  pub range_limited : (left : ℕ) → left ≡ 0 → Leads before now manner whole (rows_from keeps left fetch so_far) → Asks before now manner whole (Err Limit)
+  unfolding rows_from
+  range_limited zero none leads = leads_to leads (asks_over refl)
+  range_limited (suc left) none leads = absurd (omega (arith, none))
+
+  -- it failed
+  pub range_failed : {next : PortPast} (left : ℕ) (refusal : Refusal) → 0 < left → Leads before now manner whole (rows_from keeps left fetch so_far) → Asks now next manner (fetches keeps fetch so_far) (Err refusal) → Asks before next manner whole (Err refusal)
+  unfolding rows_from
+  range_failed zero refusal some leads was = absurd (omega (arith, some))
+  range_failed (suc left) refusal some leads was = leads_to leads (asks_failed (fetches keeps fetch so_far) (reads_on (λ more key. rows_from keeps left (past fetch key) more)) refusal was)
+
+  -- it was answered by the end
+  pub range_ended : {next : PortPast} (left : ℕ) (more : Rows) → 0 < left → Leads before now manner whole (rows_from keeps left fetch so_far) → Asks now next manner (fetches keeps fetch so_far) (Ok (more, None)) → Asks before next manner whole (Ok more)
+  unfolding rows_from
+  range_ended zero more some leads was = absurd (omega (arith, some))
+  range_ended (suc left) more some leads was =
+      leads_to leads (asks_behind (fetches keeps fetch so_far) (reads_on (λ found key. rows_from keeps left (past fetch key) found)) (more, None) (Ok more) was (asks_over refl))
+
+  -- it was answered by a key
+  pub range_next : {next : PortPast} (left : ℕ) (more : Rows) (key : List Value) → 0 < left → Leads before now manner whole (rows_from keeps left fetch so_far) → Asks now next manner (fetches keeps fetch so_far) (Ok (more, Some key))
+      → Leads before next manner whole (rows_from keeps (left - 1) (past fetch key) more)
+  unfolding rows_from
+  range_next zero more key some leads was = absurd (omega (arith, some))
+  range_next {next = next} (suc left) more key some leads was =
+      let fewer : suc left - 1 ≡ left = omega arith in
+      subst (λ n. Leads before next manner whole (rows_from keeps n (past fetch key) more)) (sym fewer)
+      (leads_then (fetches keeps fetch so_far) (on_ok (reads_on (λ found last. rows_from keeps left (past fetch last) found))) leads was)
+
+-- ---- parts one after another
+
+module _ {A : Type 0} (part : A → Dialog (Result (Unit {0}) Halt)) (parts : List A → Dialog (Result (Unit {0}) Halt))
+    (none : parts [] ≡ over (Ok tt)) (one : (x : A) (xs : List A) → parts (x ∷ xs) ≡ (part x >>= λ done. parts xs))
+    {before now : PortPast} {manner : Manner} {whole : Dialog (Result (Unit {0}) Halt)} (xs : List A) (i : ℕ) (leads : Leads before now manner whole (parts (drop i xs))) where
+  pub parts_done : length xs ≤ i → Asks before now manner whole (Ok tt)
+  parts_done all =
+      let left : drop i xs ≡ [] = none_of (drop i xs) (simp length-drop (omega arith)) in
+      leads_to (subst (λ (d : Dialog (Result (Unit {0}) Halt)). Leads before now manner whole d) (ap parts left ∙ none) leads) (asks_over refl)
+
+  module _ (x : A) (below : i < length xs) (is : x ≡ get_or xs i x) where
+    here : Leads before now manner whole (part x >>= λ done. parts (drop (i + 1) xs))
+    here = subst (λ (d : Dialog (Result (Unit {0}) Halt)). Leads before now manner whole d) (ap parts (drop_more xs i x below ∙ ap (λ y. y ∷ drop (i + 1) xs) (sym is)) ∙ one x (drop (i + 1) xs)) leads
+
+    pub parts_failed : {next : PortPast} (halt : Halt) → Asks now next manner (part x) (Err halt) → Asks before next manner whole (Err halt)
+    parts_failed halt was = leads_to here (asks_failed (part x) (λ done. parts (drop (i + 1) xs)) halt was)
+
+    pub parts_next : {next : PortPast} → Asks now next manner (part x) (Ok tt) → Leads before next manner whole (parts (drop (i + 1) xs))
+    parts_next was = leads_then (part x) (on_ok (λ done. parts (drop (i + 1) xs))) here was
+
+-- ---- tables
+
+pub part_fetches : (is_target : Bool) → IsPartOfFetch (part_of is_target)
+part_fetches true = tt
+part_fetches false = tt
+
+module _ {before now : PortPast} {manner : Manner} {whole : Dialog (Result (List Rows) Refusal)} (shapes : List TableTree) (level : Level) (images : List Rows) where
+  -- all tables are read
+  pub images_done : (reads : List TableRead) → reads ≡ [] → Leads before now manner whole (images_from shapes level images reads) → Asks before now manner whole (Ok images)
+  unfolding images_from
+  images_done [] none leads = leads_to leads (asks_over refl)
+  images_done (read ∷ reads) none leads = absurd (cc)
+
+  module _ (all : List TableRead) (read : TableRead) (reads : List TableRead) (is : all ≡ read ∷ reads) (leads : Leads before now manner whole (images_from shapes level images all)) where
+    abbrev this : Leads before now manner whole (images_from shapes level images (read ∷ reads))
+    this = subst (λ (l : List TableRead). Leads before now manner whole (images_from shapes level images l)) is leads
+
+    -- one can't be read
+    pub images_failed : {next : PortPast} (refusal : Refusal) → Asks now next manner (reads_table shapes level read) (Err refusal) → Asks before next manner whole (Err refusal)
+    unfolding images_from
+    images_failed refusal was = leads_to this (asks_failed (reads_table shapes level read) (λ rows. with_room Memory (images_from shapes level (images ++ rows ∷ []) reads)) refusal was)
+
+    -- one is read, and there is no room for it
+    pub images_full : {next : PortPast} (rows : Rows) → Asks now next manner (reads_table shapes level read) (Ok rows) → Asks before next manner whole (Err Memory)
+    unfolding images_from
+    images_full rows was =
+        leads_to this (asks_behind (reads_table shapes level read) (λ found. with_room Memory (images_from shapes level (images ++ found ∷ []) reads)) rows (Err Memory) was (asks_room false _ (asks_over refl)))
+
+    -- one is read
+    pub images_next : {next : PortPast} (rows : Rows) → Asks now next manner (reads_table shapes level read) (Ok rows) → Leads before next manner whole (images_from shapes level (images ++ rows ∷ []) reads)
+    unfolding images_from
+    images_next rows was =
+        front_room true (λ enough. if enough then images_from shapes level (images ++ rows ∷ []) reads else over (Err Memory))
+        (leads_then (reads_table shapes level read) (on_ok (λ found. with_room Memory (images_from shapes level (images ++ found ∷ []) reads))) this was)

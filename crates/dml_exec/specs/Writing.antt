@@ -1,0 +1,165 @@
+-- Own: what is asked for the changes of a write. A mark comes first; then the changes in their order; then the reads of UNIQUE
+-- and FOREIGN KEY, each judged before the next. At an error or a refusal the rest is left, and the changes are taken back to
+-- the mark. The end of the statement's locks is no part of it.
+use Rattle.std.specs.Prelude.{◌≡◌, ◌⊎◌, ℕ, ℤ, pos, Bool, true, false, List, [], ◌∷◌, Option, Some, None, Result, Ok, Err, if◌then◌else◌}
+use Rattle.lock_modes.specs.declared.KeyPart.TheVariants.{S}
+use Rattle.value_types.specs.declared.table_name.TableName.{TableName}
+use Rattle.value_types.specs.declared.value.Value.{Value}
+use Rattle.tsql_tree.specs.declared.definition.KeyTree.{KeyTree}
+use Rattle.tsql_tree.specs.declared.definition.TableTree.{TableTree}
+use Rattle.step_model.specs.declared.change.Deed.{Deed}
+use Rattle.step_model.specs.declared.change.Deed.TheVariants as deed
+use Rattle.step_model.specs.declared.change.Planned.{Planned}
+use Rattle.step_model.specs.declared.op.Hold.TheVariants as hold
+use Rattle.step_model.specs.declared.op.Op.TheVariants as ops
+use Rattle.step_model.specs.declared.range.KeyRange.{KeyRange}
+use Rattle.step_model.specs.declared.range.Start.{Start}
+use Rattle.step_model.specs.declared.range.Start.TheVariants.{At}
+use Rattle.step_model.specs.declared.reply.Reply.{Reply}
+use Rattle.step_model.specs.declared.reply.Reply.TheVariants as replies
+use Rattle.step_model.specs.Dialog.{Dialog, over, asks, room, never, tries, ◌then◌}
+use Rattle.step_model.specs.Ranges.{Rows}
+use Rattle.catalog_rows.specs.Definitions.{is_objects, name_in}
+use Rattle.constraint_check.specs.declared.check_read.CheckRead.{CheckRead}
+use Rattle.constraint_check.specs.Reads.{reads_for, shape_of}
+use Rattle.constraint_check.specs.Judged.{duplicate, judge}
+use Rattle.dml_exec.specs.declared.refusal.Refusal.{Refusal}
+use Rattle.dml_exec.specs.declared.refusal.Refusal.TheVariants.{Victim, TimedOut, Limit, Memory}
+use Rattle.dml_exec.specs.declared.written.Halt.{Halt}
+use Rattle.dml_exec.specs.declared.written.Halt.TheVariants as halt
+use Rattle.dml_exec.specs.declared.written.Written.{Written}
+use Rattle.dml_exec.specs.declared.written.Written.TheVariants as written
+use Rattle.dml_exec.specs.Asking.{◌>>=◌, with_room}
+use Rattle.dml_exec.specs.Reading.{fetch_of, fits, rows_in}
+
+-- memory is wanting
+abbrev pub no_room : Halt
+no_room = halt.Refused Memory
+
+-- this is why, or there was no memory for its name
+abbrev pub IsOrNoRoom : Halt → Halt → Type 0
+IsOrNoRoom why halted = (halted ≡ why) ⊎ (halted ≡ no_room)
+
+-- ---- one change
+
+-- the error of a row that is there
+abbrev pub object_present : ℤ
+object_present = pos 2714
+
+-- what has no name is nameless
+abbrev pub or_nameless : Option (List ℕ) → List ℕ
+or_nameless None = []
+or_nameless (Some name) = name
+
+-- the name of the PRIMARY KEY of a table
+abbrev pub first_name : List KeyTree → Option (List ℕ)
+first_name [] = None
+first_name (key ∷ keys) = Some key.name
+
+abbrev pub primary_name : Option TableTree → Option (List ℕ)
+primary_name None = None
+primary_name (Some shape) = first_name shape.key
+
+abbrev pub broken : ℤ → List ℕ → Halt
+broken number name = halt.Broken number name
+
+-- what stands in the way of an insertion: in `objects` an object of that name, elsewhere a row of that key
+abbrev pub present : List TableTree → TableName → List Value → Halt
+present shapes table key =
+    if is_objects table.object then broken object_present (or_nameless (name_in key)) else broken duplicate (or_nameless (primary_name (shape_of table shapes)))
+
+-- What a reply says of a change. A row that is to be changed and is not there is told as wanting memory: where
+-- it was fetched with U, or with its range, since the last Relax, that reply does not come (own).
+abbrev pub done_by : List TableTree → Planned → Reply → Dialog (Result (Unit {0}) Halt)
+done_by shapes change replies.Done = over (Ok tt)
+done_by shapes change replies.Exists = with_room no_room (over (Err (present shapes change.table change.key)))
+done_by shapes change replies.Missing = over (Err no_room)
+done_by shapes change replies.Memory = over (Err no_room)
+done_by shapes change (replies.TimedOut holder held asked on) = over (Err (halt.Refused TimedOut))
+done_by shapes change (replies.Victim cycle) = over (Err (halt.Refused Victim))
+done_by shapes change reply = never
+
+-- the replies that a change may have
+abbrev pub IsWriteReply : Reply → Type 0
+IsWriteReply replies.Done = Unit {0}
+IsWriteReply replies.Exists = Unit {0}
+IsWriteReply replies.Missing = Unit {0}
+IsWriteReply replies.Memory = Unit {0}
+IsWriteReply (replies.TimedOut holder held asked on) = Unit {0}
+IsWriteReply (replies.Victim cycle) = Unit {0}
+IsWriteReply reply = ⊥
+
+-- a change is asked
+abbrev pub asks_deed : TableName → List Value → Deed → Dialog Reply
+asks_deed table key deed.Erase = tries (ops.Erase table key) tt over
+asks_deed table key (deed.Replace row) = tries (ops.Replace table key row) tt over
+asks_deed table key (deed.Insert row) = tries (ops.Insert table key row) tt over
+
+unfoldable pub writes_one : List TableTree → Planned → Dialog (Result (Unit {0}) Halt)
+writes_one shapes change = asks_deed change.table change.key change.deed then done_by shapes change
+
+-- one after another
+unfoldable pub writes_all : List TableTree → List Planned → Dialog (Result (Unit {0}) Halt)
+writes_all shapes [] = over (Ok tt)
+writes_all shapes (change ∷ changes) = writes_one shapes change >>= λ done. writes_all shapes changes
+
+-- ---- checks
+
+abbrev pub halted : Result Rows Refusal → Dialog (Result Rows Halt)
+halted (Ok rows) = over (Ok rows)
+halted (Err refusal) = over (Err (halt.Refused refusal))
+
+-- the range is one whole key
+abbrev pub is_one_key : Start → Bool
+is_one_key (At key) = true
+is_one_key start = false
+
+-- the rows are read
+unfoldable pub rows_checked : List TableTree → KeyRange → Dialog (Result Rows Halt)
+rows_checked shapes range = with_room no_room (rows_in (fits (shape_of range.table shapes)) (is_one_key range.start) (fetch_of range hold.Range S) then halted)
+
+-- the error that rows that were read give
+abbrev pub broken_by : CheckRead → Option ℤ → Dialog (Result (Unit {0}) Halt)
+broken_by read None = over (Ok tt)
+broken_by read (Some number) = with_room no_room (over (Err (broken number read.name)))
+
+-- and judged
+unfoldable pub checks_one : List TableTree → CheckRead → Dialog (Result (Unit {0}) Halt)
+checks_one shapes read = do
+  found ← rows_checked shapes read.range
+  broken_by read (judge read found)
+
+unfoldable pub checks_all : List TableTree → List CheckRead → Dialog (Result (Unit {0}) Halt)
+checks_all shapes [] = over (Ok tt)
+checks_all shapes (read ∷ reads) = checks_one shapes read >>= λ done. checks_all shapes reads
+
+-- ---- the whole
+
+unfoldable pub works : List TableTree → List Planned → Dialog (Result (Unit {0}) Halt)
+works shapes changes = do
+  done ← writes_all shapes changes
+  with_room no_room (checks_all shapes (reads_for changes shapes))
+
+-- why it was taken back
+abbrev pub outcome : Halt → Result Written Refusal
+outcome (halt.Broken number name) = Ok (written.Refused number name)
+outcome (halt.Refused refusal) = Err refusal
+
+-- behind a reply that says that it is done
+abbrev pub where_done : {A : Type 0} → Dialog A → Reply → Dialog A
+where_done next replies.Done = next
+where_done next reply = never
+
+-- the statement's mark, or the changes are taken back to it
+abbrev pub ends : ℕ → Result (Unit {0}) Halt → Dialog (Result Written Refusal)
+ends mark (Ok done) = over (Ok (written.Done mark))
+ends mark (Err why) = asks (ops.BackTo mark) tt (where_done (over (outcome why)))
+
+abbrev pub marked : List TableTree → List Planned → Reply → Dialog (Result Written Refusal)
+marked shapes changes (replies.Marked mark) = works shapes changes then ends mark
+marked shapes changes replies.Memory = over (Err Memory)
+marked shapes changes reply = never
+
+-- The changes of a write are asked, and their checks; it gives the statement's mark.
+unfoldable pub writes : List TableTree → List Planned → Dialog (Result Written Refusal)
+writes shapes changes = asks ops.Mark tt (marked shapes changes)
