@@ -23,14 +23,12 @@ use Rattle.step_model.specs.declared.op.Hold.TheVariants as hold
 use Rattle.step_model.specs.declared.op.Op.{Op}
 use Rattle.step_model.specs.declared.op.Op.TheVariants.{Fetch}
 use Rattle.step_model.specs.declared.range.KeyRange.{KeyRange}
-use Rattle.step_model.specs.declared.range.Start.{Start}
-use Rattle.step_model.specs.declared.range.Start.TheVariants.{First, At, Past}
-use Rattle.step_model.specs.declared.range.Stop.{Stop}
-use Rattle.step_model.specs.declared.range.Stop.TheVariants.{Last, Within}
+use Rattle.step_model.specs.declared.range.Start.TheVariants.{First, Past}
+use Rattle.step_model.specs.declared.range.Stop.TheVariants.{Last}
 use Rattle.step_model.specs.declared.reply.Reply.{Reply}
 use Rattle.step_model.specs.declared.reply.Reply.TheVariants as replies
 use Rattle.step_model.specs.Exchange.{IsPartOfFetch}
-use Rattle.step_model.specs.Dialog.{Dialog, over, asks, room, never, ◌then◌}
+use Rattle.step_model.specs.Dialog.{Dialog, over, asks, never}
 use Rattle.step_model.specs.Ranges.{Rows, Keeps, range_limit, with_row}
 use Rattle.catalog_rows.specs.Rows.{row_fits}
 use Rattle.catalog_rows.specs.Definitions.{name_in, objects_name, text_in}

@@ -1,6 +1,6 @@
 //! The images that a statement is answered or planned on.
 
-ghost use Rattle.std.specs.Prelude.{◌≡◌, ◌++◌, [], ◌∷◌, IfOk, IsTrue, map, true};
+ghost use Rattle.std.specs.Prelude.{◌≡◌, ◌++◌, [], ◌∷◌, IfOk, IsTrue, true};
 ghost use Rattle.step_model.specs.Dialog.{Asks};
 ghost use Rattle.dml_exec.specs.Asking.{MayWork, seen};
 ghost use Rattle.dml_exec.specs.Reading as spec;

@@ -7,7 +7,6 @@ ghost use Rattle.lock_modes.specs.declared.KeyPart.TheVariants.{S};
 ghost use Rattle.step_model.specs.declared.op.Hold.TheVariants as hold;
 ghost use Rattle.step_model.specs.declared.op.Op.TheVariants as ops;
 ghost use Rattle.step_model.specs.Dialog.{Asks, tries, over};
-ghost use Rattle.constraint_check.specs.Judged as judged;
 ghost use Rattle.catalog_rows.specs.Definitions as names;
 ghost use Rattle.dml_exec.specs.Asking.{MayWork};
 ghost use Rattle.dml_exec.specs.Reading.{fetch_of};
