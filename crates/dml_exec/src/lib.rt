@@ -23,7 +23,7 @@ mod written;
 
 pub use images::read_images;
 pub use objects::read_objects;
-pub use planning::plan_write;
+pub use planning::{plan_write, rows_told};
 pub use refusal::{Level, Refusal};
 pub use rewritten::Rewritten;
 pub use writing::apply_write;
