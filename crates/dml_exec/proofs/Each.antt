@@ -1,5 +1,5 @@
 -- Lists made element by element, and steps one behind another: a fault stands.
-use Rattle.std.proofs.Common.{◌≡◌, refl, sym, ap, ◌∙◌, ℕ, ◌+◌, ◌<◌, List, [], ◌∷◌, ◌++◌, length, get_or, drop, Ok, Err}
+use Rattle.std.proofs.Common.{◌≡◌, sym, ap, ◌∙◌, ℕ, ◌+◌, ◌<◌, List, [], ◌∷◌, ◌++◌, length, get_or, drop, Err}
 use Rattle.std.proofs.lemmas.List.{drop_more}
 use Rattle.bound_tree.specs.Outcomes.{Outcome, after}
 use Rattle.query_eval.proofs.Each.{each_onto}

@@ -5,12 +5,12 @@ use Rattle.tsql_tree.specs.declared.definition.TableTree.{TableTree}
 use Rattle.value_types.specs.declared.value.Value.{Value}
 use Rattle.step_model.specs.declared.manner.Manner.{Manner}
 use Rattle.step_model.specs.declared.op.Op.{Op}
-use Rattle.step_model.specs.declared.op.Op.TheVariants.{Fetch, Insert, Replace, Erase}
+use Rattle.step_model.specs.declared.op.Op.TheVariants.{Fetch}
 use Rattle.step_model.specs.declared.reply.Reply.{Reply}
 use Rattle.step_model.specs.declared.reply.Reply.TheVariants as replies
 use Rattle.step_model.specs.Exchange.{CanReply, IsPartOfFetch, MayCome, Standing}
 use Rattle.step_model.specs.Port.{PortPast, GoesOn, standing_after}
-use Rattle.step_model.specs.Dialog.{Dialog, over, room, Leads, Asks}
+use Rattle.step_model.specs.Dialog.{Dialog, over, Leads, Asks}
 use Rattle.step_model.specs.Ranges.{Keeps, Rows}
 use Rattle.dml_exec.specs.declared.refusal.Refusal.{Refusal}
 use Rattle.dml_exec.specs.declared.refusal.Refusal.TheVariants.{Limit, Memory}

@@ -1,5 +1,5 @@
 -- Worked rows of the definitions, over CREATE TABLE t (k INT PRIMARY KEY, n NVARCHAR(3), b TINYINT NOT NULL).
-use Rattle.std.proofs.Common.{◌≡◌, ℕ, Bool, true, false, refl, ℤ, pos, List, [], ◌∷◌, Some, None, Result, Ok, Err}
+use Rattle.std.proofs.Common.{◌≡◌, ℕ, Bool, true, false, refl, pos, List, [], ◌∷◌, Some, Ok, Err}
 use Rattle.std.specs.Prelude.{codes}
 use Rattle.value_types.specs.declared.sql_type.SqlType.{SqlType}
 use Rattle.value_types.specs.declared.sql_type.SqlType.TheVariants.{Int, NText, TinyInt, BigInt}

@@ -1,7 +1,7 @@
 -- Transact-SQL reference, "INSERT" and "UPDATE": how a row is filled. Of the values that are given for its columns each is
 -- evaluated, converted to its column's type and stored, before the next is looked at; the first error stands. A text that is
 -- longer than its column is refused, where CAST would cut it.
-use Rattle.std.specs.Prelude.{◌≡◌, ℕ, List, [], ◌∷◌, map, slice_get, slice_set, Option, Some, None, Result, Ok, Err}
+use Rattle.std.specs.Prelude.{ℕ, List, [], ◌∷◌, map, slice_get, slice_set, Option, Some, None, Result, Ok, Err}
 use Rattle.value_types.specs.declared.sql_type.SqlType.{SqlType}
 use Rattle.value_types.specs.declared.value.Value.{Value}
 use Rattle.value_types.specs.declared.value.Value.TheVariants.{Null}

@@ -4,7 +4,7 @@
 -- found first, and then each is set, all its columns from the row as it was. Then the new rows are checked by
 -- themselves: NULLs of all of them, and then CHECKs. The changes are all erasures in the order of the rows, and then what
 -- is written, in that order: a row whose key stays is replaced, one whose key changes is erased and inserted.
-use Rattle.std.specs.Prelude.{ℕ, ℤ, pos, Bool, ◌&&◌, nat_le, if◌then◌else◌, List, [], ◌∷◌, ◌++◌, length, map, Option, Some, None, Result, Ok, Err}
+use Rattle.std.specs.Prelude.{ℕ, ℤ, pos, Bool, not, ◌&&◌, nat_le, if◌then◌else◌, List, [], ◌∷◌, ◌++◌, length, map, filter, Option, Some, None, Result, Ok, Err}
 use Rattle.std.specs.List.{flat_map, zip}
 use Rattle.value_types.specs.declared.table_name.TableName.{TableName}
 use Rattle.value_types.specs.declared.value.Value.{Value}
@@ -32,6 +32,7 @@ use Rattle.step_model.specs.declared.change.Deed.TheVariants.{Erase, Replace, In
 use Rattle.step_model.specs.declared.change.Planned.{Planned}
 use Rattle.catalog_rows.specs.Rows.{same_key, values_at}
 use Rattle.constraint_check.specs.Local.{first_local}
+use Rattle.constraint_check.specs.Reads.{is_erase}
 use Rattle.dml_exec.specs.declared.rewritten.Rewritten.{Rewritten}
 use Rattle.dml_exec.specs.declared.rewritten.Rewritten.TheVariants.{Inserted, Set, Erased}
 use Rattle.dml_exec.specs.Filling.{Row, Given, filled, null_row}
@@ -66,25 +67,25 @@ module _ (vars system : List Value) (shape : TableTree) where
 
   -- the rows that UPDATE sets, as they were and as they are to be
   abbrev pub rows_updated : List BoundSet → Option BoundTest → List InnerQuery → List (List Row) → Outcome Rewritten
-  rows_updated sets filter inner images = do
+  rows_updated sets test inner images = do
     answers ← inner_answers vars system inner images
-    olds ← rows_meant vars system answers.0 (key_places (Some shape)) filter (image_of answers.1)
+    olds ← rows_meant vars system answers.0 (key_places (Some shape)) test (image_of answers.1)
     news ← each (row_set answers.0 sets) olds
     Ok (Set olds news)
 
   -- the rows that DELETE erases
   abbrev pub rows_deleted : Option BoundTest → List InnerQuery → List (List Row) → Outcome Rewritten
-  rows_deleted filter inner images = do
+  rows_deleted test inner images = do
     answers ← inner_answers vars system inner images
-    olds ← rows_meant vars system answers.0 (key_places (Some shape)) filter (image_of answers.1)
+    olds ← rows_meant vars system answers.0 (key_places (Some shape)) test (image_of answers.1)
     Ok (Erased olds)
 
   abbrev pub rewritten : BoundWrite → List (List Row) → Outcome Rewritten
   rewritten (write.Insert table places given) images = do
     added ← rows_added places given images
     Ok (Inserted added)
-  rewritten (write.Update table sets filter inner) images = rows_updated sets filter inner images
-  rewritten (write.Delete table filter inner) images = rows_deleted filter inner images
+  rewritten (write.Update table sets test inner) images = rows_updated sets test inner images
+  rewritten (write.Delete table test inner) images = rows_deleted test inner images
 
 -- ---- changes
 
@@ -122,6 +123,16 @@ module _ (table : TableName) (key : List ℕ) where
   changes_of (Set olds news) = flat_map moved (zip olds news) ++ map rewrite (zip olds news)
   changes_of (Erased rows) = map erasure rows
 
+-- a change that leaves a row
+abbrev pub leaves_row : Planned → Bool
+leaves_row change = not (is_erase change.deed)
+
+-- how many rows the statement tells: of DELETE those that go, of the others those that it leaves
+abbrev pub rows_told : BoundWrite → List Planned → ℕ
+rows_told (write.Insert table places given) changes = length (filter leaves_row changes)
+rows_told (write.Update table sets test inner) changes = length (filter leaves_row changes)
+rows_told (write.Delete table test inner) changes = length changes
+
 -- ---- the whole
 
 -- the changes, or the first error, which may name a column or a constraint
@@ -138,8 +149,8 @@ checked table shape checks (Ok rows) = unless_wrong (first_local (new_rows rows)
 
 abbrev pub table_written : BoundWrite → TableName
 table_written (write.Insert table places given) = table
-table_written (write.Update table sets filter inner) = table
-table_written (write.Delete table filter inner) = table
+table_written (write.Update table sets test inner) = table
+table_written (write.Delete table test inner) = table
 
 -- a table whose key has no column, or too many, is outside the limits: no CREATE TABLE makes one (own)
 abbrev pub outside_limits : ℤ

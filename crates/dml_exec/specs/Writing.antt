@@ -17,14 +17,14 @@ use Rattle.step_model.specs.declared.range.Start.{Start}
 use Rattle.step_model.specs.declared.range.Start.TheVariants.{At}
 use Rattle.step_model.specs.declared.reply.Reply.{Reply}
 use Rattle.step_model.specs.declared.reply.Reply.TheVariants as replies
-use Rattle.step_model.specs.Dialog.{Dialog, over, asks, room, never, tries, ◌then◌}
+use Rattle.step_model.specs.Dialog.{Dialog, over, asks, never, tries, ◌then◌}
 use Rattle.step_model.specs.Ranges.{Rows}
 use Rattle.catalog_rows.specs.Definitions.{is_objects, name_in}
 use Rattle.constraint_check.specs.declared.check_read.CheckRead.{CheckRead}
 use Rattle.constraint_check.specs.Reads.{reads_for, shape_of}
 use Rattle.constraint_check.specs.Judged.{duplicate, judge}
 use Rattle.dml_exec.specs.declared.refusal.Refusal.{Refusal}
-use Rattle.dml_exec.specs.declared.refusal.Refusal.TheVariants.{Victim, TimedOut, Limit, Memory}
+use Rattle.dml_exec.specs.declared.refusal.Refusal.TheVariants.{Victim, TimedOut, Memory}
 use Rattle.dml_exec.specs.declared.written.Halt.{Halt}
 use Rattle.dml_exec.specs.declared.written.Halt.TheVariants as halt
 use Rattle.dml_exec.specs.declared.written.Written.{Written}

@@ -3,7 +3,6 @@
 ghost use Rattle.std.specs.Prelude.{◌≡◌, ◌≤◌, ◌++◌, IfOk, length, map};
 ghost use Rattle.std.specs.List.{flat_map, zip};
 ghost use Rattle.value_types.specs.Order.{key_limit};
-ghost use Rattle.catalog_rows.specs.Rows.{values_at};
 ghost use Rattle.dml_exec.specs.Planning as spec;
 
 use crate::keys::key_of;

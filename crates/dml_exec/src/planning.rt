@@ -1,6 +1,7 @@
 //! The plan of a write.
 
-ghost use Rattle.std.specs.Prelude.{◌≡◌, ◌≤◌, Some, Ok, length};
+ghost use Rattle.std.specs.Prelude.{◌≡◌, ◌≤◌, Some, Ok, filter, length, not};
+ghost use Rattle.constraint_check.specs.Reads.{is_erase};
 ghost use Rattle.value_types.specs.Order.{key_limit};
 ghost use Rattle.clause_binder.specs.Scope as scope;
 ghost use Rattle.scalar_eval.specs.Scopes.{values_of};
@@ -17,7 +18,7 @@ use constraint_check::first_local;
 use scalar_eval::EvalFault;
 use session_vars::Vars;
 use std::alloc::Global;
-use step_model::Planned;
+use step_model::{Deed, Planned};
 use tsql_tree::TableTree;
 use value_types::{Row, TableName};
 
@@ -90,6 +91,37 @@ fn checked(
             Err(_) => Err(EvalFault::Memory),
         },
         Err(fault) => Err(fault),
+    }
+}
+
+/// How many rows a write tells of its changes: of DELETE those that go, of the others those that it leaves.
+pub fn rows_told(write: &BoundWrite, changes: &[Planned]) -> usize
+    ensures { result ≡ spec.rows_told write.now changes.now }
+{
+    match write {
+        BoundWrite::Insert { .. } => rows_left(changes),
+        BoundWrite::Update { .. } => rows_left(changes),
+        BoundWrite::Delete { .. } => changes.len(),
+    }
+}
+
+/// How many changes leave a row.
+fn rows_left(changes: &[Planned]) -> usize
+    ensures { result ≡ length (filter spec.leaves_row changes.now) }
+{
+    changes
+        .iter()
+        .filter(|change| leaves_row(&change.deed))
+        .count()
+}
+
+fn leaves_row(deed: &Deed) -> bool
+    ensures { result ≡ not (is_erase deed.now) }
+{
+    match deed {
+        Deed::Erase => false,
+        Deed::Replace(_) => true,
+        Deed::Insert(_) => true,
     }
 }
 

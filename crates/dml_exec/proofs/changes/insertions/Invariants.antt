@@ -1,4 +1,4 @@
-use Rattle.std.proofs.Common.{◌≡◌, ◌++◌, map}
+use Rattle.std.proofs.Common.{◌≡◌, map}
 use Rattle.dml_exec.specs.Planning.{insertion}
 use Rattle.dml_exec.proofs.changes.insertions.Given as goal
 
