@@ -1,6 +1,6 @@
 -- Equals in a list: what one more at the end changes.
 use Rattle.std.proofs.Common.{◌≡◌, ℕ, suc, ◌+◌, ◌<◌, Bool, true, false, not, ◌||◌, cond, List, [], ◌∷◌, ◌++◌, length, map, set, get_or, take, Option, Some, None, option_map, refl, sym, ◌∙◌, ap, subst, arith, append-nil, length-append}
-use Rattle.std.specs.Cmp.{IsEquivalence, eq_by_cmp_equiv}
+use Rattle.std.specs.Cmp.{IsEquivalence, eq_by_cmp_equiv, on_total}
 use Rattle.std.specs.Global.{Vec}
 use Rattle.std.specs.List.{filter, items_where_true, list_any, zip, AllByRecursion}
 use Rattle.std.proofs.lemmas.List.{get_or-map, length-map, length-take-le, map-set, map_push, take_more}
@@ -289,20 +289,26 @@ module _ {X : Type 0} (same : X → X → Bool) (laws : IsEquivalence same) wher
         | false ↦ refl
       ])
 
+  any-told : (s t : X → Bool) → ((x : X) → s x ≡ t x) → (xs : List X) → list_any s xs ≡ list_any t xs
+  any-told s t says [] = refl
+  any-told s t says (x ∷ xs) = ap (λ b. b || list_any s xs) (says x) ∙ ap (λ b. t x || b) (any-told s t says xs)
+
+  -- one more, that is compared as the key is
+  pub Kept-alike : {Q : Type 0} (view : Q → X) (xs : List X) (flags : List Bool) (seen later : Q → Bool) (key : Q) (k : X) (added : Bool) → ((x : X) → same k x ≡ same (view key) x) → Kept view xs flags seen → added ≡ not (seen key) → ((q : Q) → later q ≡ cond (same (view key) (view q)) true (seen q)) → Kept view (xs ++ k ∷ []) (flags ++ added ∷ []) later
+  Kept-alike view xs flags seen later key k added alike so_far adds changes = record {
+    long = length-append flags (added ∷ []) ∙ ap (λ n. n + 1) so_far.long ∙ sym (length-append xs (k ∷ []));
+    firsts_are = ap (λ b. items_where_true (flags ++ b ∷ []) (xs ++ k ∷ [])) (adds ∙ ap not (so_far.sees key ∙ sym (any-told (same k) (same (view key)) alike xs)))
+        ∙ where_true-push flags xs (list_any (same k) xs) k so_far.long
+        ∙ ap (λ l. l ++ unless (list_any (same k) xs) k) so_far.firsts_are
+        ∙ sym (firsts-push xs k);
+    sees = λ q. changes q
+        ∙ ap (λ t. cond (same (view key) (view q)) true t) (so_far.sees q)
+        ∙ ap (λ s. cond s true (list_any (same (view q)) xs)) (sym (alike (view q)) ∙ laws.symm k (view q))
+        ∙ sym (any-push (view q) k xs);
+  }
+
   pub Kept-more : {Q : Type 0} (view : Q → X) (xs : List X) (flags : List Bool) (seen later : Q → Bool) (key : Q) (added : Bool) → Kept view xs flags seen → added ≡ not (seen key) → ((q : Q) → later q ≡ cond (same (view key) (view q)) true (seen q)) → Kept view (xs ++ view key ∷ []) (flags ++ added ∷ []) later
-  Kept-more view xs flags seen later key added so_far adds changes =
-      let k = view key in
-      record {
-        long = length-append flags (added ∷ []) ∙ ap (λ n. n + 1) so_far.long ∙ sym (length-append xs (k ∷ []));
-        firsts_are = ap (λ b. items_where_true (flags ++ b ∷ []) (xs ++ k ∷ [])) (adds ∙ ap not (so_far.sees key))
-            ∙ where_true-push flags xs (list_any (same k) xs) k so_far.long
-            ∙ ap (λ l. l ++ unless (list_any (same k) xs) k) so_far.firsts_are
-            ∙ sym (firsts-push xs k);
-        sees = λ q. changes q
-            ∙ ap (λ t. cond (same k (view q)) true t) (so_far.sees q)
-            ∙ ap (λ s. cond s true (list_any (same (view q)) xs)) (laws.symm k (view q))
-            ∙ sym (any-push (view q) k xs);
-      }
+  Kept-more view xs flags seen later key added so_far adds changes = Kept-alike view xs flags seen later key (view key) added (λ x. refl) so_far adds changes
 
 -- ---- rows
 
@@ -322,6 +328,21 @@ pub Kept-next : (rows : List (List Value)) (i : ℕ) (row : List Value) (flags :
 Kept-next rows i row flags seen later key added below is of so_far adds changes =
     subst (λ l. Kept same_row same_row_laws row_of l (flags ++ added ∷ []) later) (sym (next_row rows i row key below is of))
     (Kept-more same_row same_row_laws row_of (take i rows) flags seen later key added so_far adds changes)
+
+-- the second row of a pair tells pairs apart
+abbrev pub same_second : List Value × List Value → List Value × List Value → Bool
+same_second a b = same_row a.1 b.1
+
+pub same_second_laws : IsEquivalence same_second
+same_second_laws = eq_by_cmp_equiv (on_total (λ (pair : List Value × List Value). pair.1) key_cmp_total)
+
+abbrev pub pair_of : Keyed → List Value × List Value
+pair_of key = ([], row_of key)
+
+pub Kept-next_pair : (pairs : List (List Value × List Value)) (i : ℕ) (pair : List Value × List Value) (flags : List Bool) (seen later : Keyed → Bool) (key : Keyed) (added : Bool) → i < length pairs → pair ≡ get_or pairs i pair → row_of key ≡ pair.1 → Kept same_second same_second_laws pair_of (take i pairs) flags seen → added ≡ not (seen key) → ((q : Keyed) → later q ≡ cond (same_row (row_of key) (row_of q)) true (seen q)) → Kept same_second same_second_laws pair_of (take (i + 1) pairs) (flags ++ added ∷ []) later
+Kept-next_pair pairs i pair flags seen later key added below is of so_far adds changes =
+    subst (λ l. Kept same_second same_second_laws pair_of l (flags ++ added ∷ []) later) (sym (take_more pairs i pair below ∙ ap (λ r. take i pairs ++ r ∷ []) (sym is)))
+    (Kept-alike same_second same_second_laws pair_of (take i pairs) flags seen later key pair added (λ x. ap (λ r. same_row r x.1) (sym of)) so_far adds changes)
 
 pub Gathered-next_old : (rows : List (List Value)) (i : ℕ) (row : List Value) (found : List (List ℕ)) (find : Keyed → Option ℕ) (key : Keyed) (n : ℕ) → i < length rows → row ≡ get_or rows i row → row_of key ≡ row → Gathered same_row same_row_laws row_of (take i rows) found find → find key ≡ Some n → Gathered same_row same_row_laws row_of (take (i + 1) rows) (set found n (get_or found n [] ++ i ∷ [])) find
 Gathered-next_old rows i row found find key n below is of so_far at =

@@ -39,6 +39,44 @@ pub fn distinct(alloc: Global, rows: Vec<Row>) -> Result<Vec<Row>, Memory>
     rows_kept(alloc, rows, kept)
 }
 
+/// The pairs whose second rows equal none before them, in order.
+pub fn distinct_pairs(alloc: Global, pairs: Vec<(Row, Row)>) -> Result<Vec<(Row, Row)>, Memory>
+    ensures { IfOk result (λ found. found.items ≡ spec.firsts (λ a b. same_row a.1 b.1) pairs.items) }
+{
+    let kept = are_first_pairs(alloc, &pairs)?;
+    pairs_kept(alloc, pairs, kept)
+}
+
+/// The pairs that are kept, in order.
+fn pairs_kept(
+    alloc: Global,
+    pairs: Vec<(Row, Row)>,
+    kept: Vec<bool>,
+) -> Result<Vec<(Row, Row)>, Memory>
+    ensures { IfOk result (λ found. found.items ≡ map (λ pair. pair.0) (filter (λ pair. pair.1) (zip pairs.items kept.items))) }
+{
+    let beside = pairs.into_iter().zip(kept);
+    Ok(
+        beside
+            .filter(|pair| pair.1)
+            .map(|pair| pair.0)
+            .collect(alloc)?,
+    )
+}
+
+/// Of each pair, whether its second row equals none before it.
+fn are_first_pairs(alloc: Global, pairs: &[(Row, Row)]) -> Result<Vec<bool>, Memory>
+    ensures same_length { IfOk result (λ kept. length kept.items ≡ length pairs.now) }
+    ensures firsts { IfOk result (λ kept. items_where_true kept.items pairs.now ≡ spec.firsts (λ a b. same_row a.1 b.1) pairs.now) }
+{
+    let mut seen: BTreeSet<Keyed<'_>> = BTreeSet::new(alloc);
+    let mut kept = Vec::with_capacity(alloc, pairs.len())?;
+    for pair in pairs {
+        kept.push(seen.insert(Keyed { row: &pair.1 })?)?;
+    }
+    Ok(kept)
+}
+
 /// The rows that are kept, in order.
 fn rows_kept(alloc: Global, rows: Vec<Row>, kept: Vec<bool>) -> Result<Vec<Row>, Memory>
     ensures { IfOk result (λ found. found.items ≡ map (λ pair. pair.0) (filter (λ pair. pair.1) (zip rows.items kept.items))) }

@@ -1,5 +1,5 @@
 -- What a function gives for each of a list, from the first on, as a loop finds it: what is so far, and then the rest.
-use Rattle.std.proofs.Common.{◌≡◌, refl, sym, ap, ◌∙◌, ℕ, ◌+◌, ◌<◌, List, [], ◌∷◌, ◌++◌, map, length, get_or, drop, Ok, Err, append-nil, append_assoc, arith}
+use Rattle.std.proofs.Common.{◌≡◌, refl, sym, ap, ◌∙◌, ℕ, ◌+◌, ◌<◌, List, [], ◌∷◌, ◌++◌, map, length, get_or, drop, Ok, Err, append-nil, append_assoc}
 use Rattle.std.proofs.lemmas.List.{drop_more}
 use Rattle.bound_tree.specs.Outcomes.{Outcome, after}
 use Rattle.query_eval.specs.declared.fault.Stop.{Stop}
@@ -62,18 +62,7 @@ module _ {A B : Type 0} (f : A → Outcome B) (xs : List A) (whole : Outcome (Li
   each_fault (Number number) gives = sym each_here ∙ ap (λ (o : Outcome B). after o (λ z. each_onto f (done ++ z ∷ []) (drop (i + 1) xs))) gives
   each_fault Memory gives = tt
 
--- ---- as many, and what comes first
-
-pub each_length : {A B : Type 0} (f : A → Outcome B) (xs : List A) (ys : List B) → each f xs ≡ Ok ys → length xs ≡ length ys
-each_length f [] ys is = let none : [] ≡ ys = cc in ap length none
-each_length {A} {B} f (x ∷ xs) ys is =
-    elim (f x) as (λ (o : Outcome B). after o (λ y. after (each f xs) (λ zs. Ok (y ∷ zs))) ≡ Ok ys → length (x ∷ xs) ≡ length ys) [
-      | Ok y ↦ λ h. elim (each f xs) as (λ (o : Outcome (List B)). each f xs ≡ o → after o (λ zs. Ok (y ∷ zs)) ≡ Ok ys → length (x ∷ xs) ≡ length ys) [
-        | Ok zs ↦ λ e k. let same : y ∷ zs ≡ ys = cc in omega (arith, each_length f xs zs e, ap length same)
-        | Err number ↦ λ e k. absurd (cc)
-      ] refl h
-      | Err number ↦ λ h. absurd (cc)
-    ] is
+-- ---- what comes first
 
 pub fault_first : {A B : Type 0} (stop : Stop) (first : Outcome A) (next : A → Outcome B) → FindsFault stop first → FindsFault stop (after first next)
 fault_first (Number number) first next is = ap (λ o. after o next) is

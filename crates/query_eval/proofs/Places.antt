@@ -19,7 +19,7 @@ use Rattle.group_rows.specs.Equals.{classes, same_row}
 use Rattle.query_eval.specs.declared.fault.Stop.{Stop}
 use Rattle.query_eval.specs.Phases.{class_row, class_rows, classes_of, distinct_if, each, rows_where, with_items}
 use Rattle.query_eval.specs.Places.{row_at, rows_at_places}
-use Rattle.query_eval.proofs.Each.{FindsFault, each_length, each_map, fault_first}
+use Rattle.query_eval.proofs.Each.{FindsFault, each_map, fault_first}
 use Rattle.query_eval.proofs.Equals.{map_both}
 
 -- within a list it does not matter what stands behind it
@@ -95,9 +95,6 @@ module _ (setting_at : Row → Setting) (distinct : Bool) (items : List Item) (r
   items_fault listed same stop is =
       fault_first stop (each gives rows) (λ values. Ok (distinct_if distinct (zip rows values)))
       (subst (λ l. FindsFault stop (each gives l)) same is)
-
-  pub items_long : (listed : List Row) → listed ≡ rows → (values : List Row) → each gives listed ≡ Ok values → length rows ≡ length values
-  items_long listed same values is = each_length gives rows values (ap (each gives) (sym same) ∙ is)
 
   pub items_found : (listed : List Row) → listed ≡ rows → (values : List Row) (pairs : List (Row × Row)) → each gives listed ≡ Ok values → pairs ≡ distinct_if distinct (zip rows values)
       → with_items setting_at distinct items rows ≡ Ok pairs

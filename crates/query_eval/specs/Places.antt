@@ -8,7 +8,3 @@ row_at rows place = get_or rows place []
 
 abbrev pub rows_at_places : List Row → List ℕ → List Row
 rows_at_places rows places = map (row_at rows) places
-
--- the first place of a class
-abbrev pub first_place : List ℕ → ℕ
-first_place places = get_or places 0 0

@@ -11,11 +11,14 @@ ghost use Rattle.query_eval.specs.Places.{row_at, rows_at_places};
 
 use crate::context::Context;
 use crate::fault::Stop;
-use crate::firsts::{PLACE_LIMIT, distinct_values};
+use crate::firsts::distinct_values;
 use bound_tree::{BoundExpr, Sum};
 use group_rows::{classes, total};
 use std::alloc::Global;
 use value_types::{Memory, Row, Value};
+
+/// How many rows are put into classes at most; for more, memory is wanting.
+const PLACE_LIMIT: usize = 2147483648;
 
 /// The rows, or where they are gathered their classes, each as a row.
 pub(crate) fn class_rows(
@@ -178,7 +181,7 @@ fn first_values(
 }
 
 /// The row at a place; one without columns where there is none.
-pub(crate) fn row_copy(alloc: Global, rows: &[Row], place: u32) -> Result<Row, Memory>
+fn row_copy(alloc: Global, rows: &[Row], place: u32) -> Result<Row, Memory>
     ensures { IfOk result (λ row. row ≡ row_at rows.now place) }
 {
     match rows.get(place as usize) {

@@ -1,19 +1,14 @@
 //! The first of equal rows and values.
 
-ghost use Rattle.std.specs.Prelude.{◌≡◌, ◌∷◌, [], length, map, IfOk};
+ghost use Rattle.std.specs.Prelude.{◌≡◌, ◌∷◌, [], map, IfOk};
 ghost use Rattle.std.specs.List.{zip};
 ghost use Rattle.bound_tree.specs.Setting.{only_of};
-ghost use Rattle.group_rows.specs.Equals.{firsts, same_row};
+ghost use Rattle.group_rows.specs.Equals.{firsts};
 ghost use Rattle.query_eval.specs.Phases as spec;
-ghost use Rattle.query_eval.specs.Places.{first_place, row_at};
 
-use crate::classes::row_copy;
-use group_rows::{classes, distinct};
+use group_rows::{distinct, distinct_pairs};
 use std::alloc::Global;
 use value_types::{Memory, Row, Value};
-
-/// How many rows are put into classes at most; for more, memory is wanting.
-pub(crate) const PLACE_LIMIT: usize = 2147483648;
 
 /// Each row beside what the items give for it; with DISTINCT the first of those for which they give equal
 /// rows.
@@ -23,13 +18,13 @@ pub(crate) fn pairs_if(
     rows: Vec<Row>,
     values: Vec<Row>,
 ) -> Result<Vec<(Row, Row)>, Memory>
-    requires { length rows.items ≡ length values.items }
     ensures { IfOk result (λ pairs. pairs.items ≡ spec.distinct_if distinct (zip rows.items values.items)) }
 {
+    let pairs = pairs_of(alloc, rows, values)?;
     if distinct {
-        first_pairs(alloc, rows.as_slice(), values.as_slice())
+        distinct_pairs(alloc, pairs)
     } else {
-        pairs_of(alloc, rows, values)
+        Ok(pairs)
     }
 }
 
@@ -38,48 +33,6 @@ fn pairs_of(alloc: Global, rows: Vec<Row>, values: Vec<Row>) -> Result<Vec<(Row,
     ensures { IfOk result (λ pairs. pairs.items ≡ zip rows.items values.items) }
 {
     Ok(rows.into_iter().zip(values).collect(alloc)?)
-}
-
-/// The first rows, beside their items, of those whose items are equal.
-fn first_pairs(alloc: Global, rows: &[Row], values: &[Row]) -> Result<Vec<(Row, Row)>, Memory>
-    requires { length rows.now ≡ length values.now }
-    ensures { IfOk result (λ pairs. pairs.items ≡ firsts (λ a b. same_row a.1 b.1) (zip rows.now values.now)) }
-{
-    if values.len() >= PLACE_LIMIT {
-        return Err(Memory);
-    }
-    let found = classes(alloc, values)?;
-    pairs_at(alloc, rows, values, found.as_slice())
-}
-
-/// The first row of each class, beside its items.
-fn pairs_at(
-    alloc: Global,
-    rows: &[Row],
-    values: &[Row],
-    found: &[Vec<u32>],
-) -> Result<Vec<(Row, Row)>, Memory>
-    ensures { IfOk result (λ pairs. pairs.items
-        ≡ map (λ class. (row_at rows.now (first_place class.items), row_at values.now (first_place class.items))) found.now) }
-{
-    let mut pairs = Vec::with_capacity(alloc, found.len())?;
-    for class in found {
-        let place = first_place(class.as_slice());
-        let row = row_copy(alloc, rows, place)?;
-        let items = row_copy(alloc, values, place)?;
-        pairs.push((row, items))?;
-    }
-    Ok(pairs)
-}
-
-/// The first place of a class.
-fn first_place(class: &[u32]) -> u32
-    ensures { result ≡ first_place class.now }
-{
-    match class {
-        [place, ..] => *place,
-        [] => 0,
-    }
 }
 
 /// The first of equal values, in order.
