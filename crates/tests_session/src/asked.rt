@@ -421,6 +421,6 @@ fn statements_ask_these_operations(rt: HostRuntime) -> Result<(), Fail> {
         }
         statements = statements.wrapping_add(1);
     }
-    assert!(rt; statements == 12);
+    assert!(rt; statements == 18);
     Ok(())
 }
