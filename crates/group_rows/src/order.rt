@@ -10,6 +10,9 @@ use value_types::{Value, compare};
 pub(crate) fn value_order(a: &Value, b: &Value) -> Ordering
     ensures { result ≡ spec.value_order a.now b.now }
 {
+    if let (Value::Whole(x), Value::Whole(y)) = (a, b) {
+        return x.cmp(y);
+    }
     let (a_rank, b_rank) = (kind_rank(a), kind_rank(b));
     if a_rank != b_rank {
         return a_rank.cmp(&b_rank);
