@@ -74,7 +74,7 @@ fn put_rows(given: &mut String, rows: &[Row]) -> Result<(), AllocError> {
     Ok(())
 }
 
-fn put_row(given: &mut String, row: &[Value]) -> Result<(), AllocError> {
+pub(crate) fn put_row(given: &mut String, row: &[Value]) -> Result<(), AllocError> {
     given.push('(')?;
     let mut between = "";
     for value in row {

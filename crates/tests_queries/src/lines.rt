@@ -2,6 +2,7 @@
 
 use crate::answers::put_answer;
 use crate::tables::Tables;
+use crate::writes::put_plan_of;
 use binder::bind;
 use bound_tree::{Bound, BoundQuery, BoundWrite, Image, SystemValues};
 use query_eval::answer;
@@ -109,7 +110,7 @@ fn put_bound(
         Ok(Bound::Assign(query, places)) => {
             put_assigned(alloc, given, tables, query, places, vars)
         }
-        Ok(Bound::Write(write)) => Ok(put_write(given, write)?),
+        Ok(Bound::Write(write)) => put_write(alloc, given, tables, write, vars),
         Ok(Bound::Plain) => Ok(given.push_str("no query")?),
         Err(fault) => put_whole_refusal(given, fault),
     }
@@ -127,8 +128,14 @@ fn put_assigned(
     put_query(alloc, given, tables, query, vars, Style::Rows)
 }
 
-fn put_write(given: &mut String, _write: BoundWrite) -> Result<(), AllocError> {
-    given.push_str("a write")
+fn put_write(
+    alloc: Global,
+    given: &mut String,
+    tables: &Tables,
+    write: BoundWrite,
+    vars: &Vars,
+) -> Result<(), Memory> {
+    put_plan_of(alloc, given, tables, &write, vars)
 }
 
 fn put_whole_refusal(given: &mut String, fault: BindFault) -> Result<(), Memory> {
@@ -167,7 +174,7 @@ fn put_answer_to(
 }
 
 /// The values of a session: no transaction, no error, three rows counted, nothing fetched.
-fn system_of(alloc: Global) -> Result<SystemValues, AllocError> {
+pub(crate) fn system_of(alloc: Global) -> Result<SystemValues, AllocError> {
     Ok(SystemValues::new(Vec::from_array(
         alloc,
         [

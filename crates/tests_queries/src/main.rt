@@ -1,8 +1,8 @@
-//! Answers the queries of files, a line each, and prints for each file how many of them answer what is wanted, or
-//! where one does not.
+//! Answers the queries of files and plans their writes, a line each, and prints for each file how many of them give what
+//! is wanted, or where one does not.
 //!
 //! CREATE TABLE and INSERT on lines of their own make a table and its rows, which are written in the order of
-//! their keys. Every other line is a text, ` => ` and what its last statement answers on them; `docs/ROWS.md`
+//! their keys. Every other line is a text, ` => ` and what its last statement answers, or changes, on them; `docs/ROWS.md`
 //! has the form.
 //!
 //! The words after the program's name are the files; with none they are those that the file `files` names, a line
@@ -12,6 +12,7 @@
 mod answers;
 mod lines;
 mod tables;
+mod writes;
 
 use std::process::ExitCode;
 use tables::Tables;

@@ -55,6 +55,18 @@ impl Tables {
         self.definitions.as_slice()
     }
 
+    /// The table of that name.
+    pub(crate) fn shape_of(&self, name: &Units) -> Option<&TableTree> {
+        for definition in self.definitions.as_slice() {
+            if let Definition::Table(table) = definition {
+                if table.name == *name {
+                    return Some(table);
+                }
+            }
+        }
+        None
+    }
+
     /// Adds a table without rows, if the text is one.
     fn create(&mut self, alloc: Global, text: &str) -> Result<bool, Memory> {
         let Some(definition) = defined(alloc, text)? else {
@@ -128,7 +140,7 @@ impl Tables {
     }
 
     #[cycle(images)]
-    fn put_inner_images(
+    pub(crate) fn put_inner_images(
         &self,
         alloc: Global,
         inner: &[InnerQuery],
@@ -141,7 +153,7 @@ impl Tables {
     }
 
     /// The rows of a table, copied.
-    fn image_of(&self, alloc: Global, name: &Units) -> Result<Image, Memory> {
+    pub(crate) fn image_of(&self, alloc: Global, name: &Units) -> Result<Image, Memory> {
         let mut rows = Vec::new(alloc);
         for stored in &self.stored {
             if stored.name == *name {
