@@ -6,4 +6,5 @@ pub mod Updated  -- the steps of an UPDATE
 pub mod Held  -- what a dialog comes to, from its parts
 pub mod RangeSteps  -- ranges and parts, by a loop
 pub mod Writes  -- what comes of a change and of a check
+pub mod Halts  -- how it is told why changes are taken back
 mod StandardFacts  -- worked rows

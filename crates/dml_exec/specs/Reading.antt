@@ -1,9 +1,8 @@
 -- Own: how the rows of a range are fetched: from its start, and then past the last key, until End. A range of one whole key is
 -- one fetch. A range that was answered by so many keys is read no further. The code goes on in a loop; here the rest of the
 -- range is a dialog again.
-use Rattle.std.specs.Prelude.{ℕ, zero, suc, Bool, true, false, is_some, List, [], ◌∷◌, ◌++◌, map, Option, Some, None, Result, Ok, Err}
+use Rattle.std.specs.Prelude.{ℕ, zero, suc, Bool, true, false, List, [], ◌∷◌, ◌++◌, map, Option, Some, None, Result, Ok, Err}
 use Rattle.std.specs.List.{flat_map}
-use Rattle.std.specs.Option.{option_map}
 use Rattle.lock_modes.specs.declared.KeyPart.{KeyPart}
 use Rattle.lock_modes.specs.declared.KeyPart.TheVariants.{S, U}
 use Rattle.value_types.specs.declared.table_name.TableName.{TableName}
@@ -31,10 +30,7 @@ use Rattle.step_model.specs.Exchange.{IsPartOfFetch}
 use Rattle.step_model.specs.Dialog.{Dialog, over, asks, never}
 use Rattle.step_model.specs.Ranges.{Rows, Keeps, range_limit, with_row}
 use Rattle.catalog_rows.specs.Rows.{row_fits}
-use Rattle.catalog_rows.specs.Definitions.{name_in, objects_name, text_in}
 use Rattle.constraint_check.specs.Reads.{shape_of}
-use Rattle.dml_exec.specs.declared.ranges.Kept.{Kept}
-use Rattle.dml_exec.specs.declared.ranges.Kept.TheVariants.{Table, Objects}
 use Rattle.dml_exec.specs.declared.refusal.Refusal.{Refusal}
 use Rattle.dml_exec.specs.declared.refusal.Refusal.TheVariants.{Victim, TimedOut, Limit, Memory}
 use Rattle.dml_exec.specs.declared.refusal.Level.{Level}
@@ -47,23 +43,6 @@ use Rattle.dml_exec.specs.Asking.{◌>>=◌, with_room}
 abbrev pub fits : Option TableTree → Keeps
 fits None row = false
 fits (Some shape) row = row_fits shape 0 row.0 row.1
-
--- a row of `objects` is that of a name
-abbrev pub is_of_name : List ℕ → List Value → Bool
-is_of_name name row = is_some (text_in name row)
-
-abbrev pub stands_at : Option (List ℕ) → List Value → Bool
-stands_at None row = false
-stands_at (Some name) row = is_of_name name row
-
--- it stands at its name
-abbrev pub is_object : Keeps
-is_object entry = stands_at (name_in entry.0) entry.1
-
--- which rows are read, as the code has it
-abbrev pub keeps_of : Kept → Keeps
-keeps_of (Table shape) = fits (option_map (λ of. of.now) shape)
-keeps_of Objects = is_object
 
 -- the fetch of a range
 abbrev pub fetch_of : KeyRange → Hold → KeyPart → Op
@@ -108,14 +87,6 @@ rows_from keeps (suc left) fetch so_far = fetches keeps fetch so_far >>= reads_o
 unfoldable pub rows_in : Keeps → Bool → Op → Dialog (Result Rows Refusal)
 rows_in keeps true fetch = fetches keeps fetch [] >>= λ came. over (Ok came.0)
 rows_in keeps false fetch = rows_from keeps range_limit fetch []
-
--- ---- all of `objects`, for a write: the triggers of its table, and the tables that refer to it
-
-abbrev pub objects_fetch : Op
-objects_fetch = Fetch (record { object = objects_name; part = 0 }) First Last hold.Range S
-
-unfoldable pub objects_read : Dialog (Result Rows Refusal)
-objects_read = with_room Memory (rows_in is_object false objects_fetch)
 
 -- ---- the images of a statement
 

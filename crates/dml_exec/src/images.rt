@@ -5,7 +5,7 @@ ghost use Rattle.step_model.specs.Dialog.{Asks};
 ghost use Rattle.dml_exec.specs.Asking.{MayWork, seen};
 ghost use Rattle.dml_exec.specs.Reading as spec;
 
-use crate::ranges::{Kept, read_range, shape_of};
+use crate::ranges::{read_range, shape_of};
 use crate::refusal::{Level, Refusal};
 use bound_tree::{Bound, BoundQuery, BoundRows, BoundWrite, Image, InnerQuery};
 use lock_modes::KeyPart;
@@ -84,7 +84,7 @@ fn read_table<P: Port>(
 {
     let shape = shape_of(&read.0, shapes);
     let fetch = table_fetch(level, read);
-    read_range(alloc, port, manner, Kept::Table(shape), false, fetch)
+    read_range(alloc, port, manner, shape, false, fetch)
 }
 
 /// The fetch of a whole table.

@@ -137,7 +137,7 @@ fn new_rows(rows: &Rewritten) -> &[Row]
 }
 
 /// The table that is written.
-fn table_written(write: &BoundWrite) -> &TableName
+pub fn table_written(write: &BoundWrite) -> &TableName
     ensures { result.now ≡ spec.table_written write.now }
 {
     match write {

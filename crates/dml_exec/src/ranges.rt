@@ -13,38 +13,29 @@ use catalog_rows::row_fits;
 use std::alloc::Global;
 use step_model::{Manner, Op, Port, Reply, Start};
 use tsql_tree::TableTree;
-use value_types::{Key, Memory, Row, TableName, Units, Value};
+use value_types::{Key, Memory, Row, TableName};
 
 /// How many keys of one range are looked at, at most.
 const RANGE_LIMIT: u32 = 10_000_000;
-
-/// Which rows are read as rows.
-#[derive(Clone, Copy)]
-pub(crate) enum Kept<'a> {
-    /// Those of a table of this shape, at their own keys; of no shape there is none.
-    Table(Option<&'a TableTree>),
-    /// Those of `objects` that stand at their names.
-    Objects,
-}
 
 /// The rows of the range of a fetch, or the row at one whole key. What is not read as a row is left out.
 pub(crate) fn read_range<P: Port>(
     alloc: Global,
     port: &mut P,
     manner: Manner,
-    of: Kept<'_>,
+    shape: Option<&TableTree>,
     one: bool,
     fetch: Op,
 ) -> Result<Vec<Row>, Refusal>
     requires may { MayWork (P.past port.old) manner }
     requires fetch { spec.IsFetch fetch }
-    ensures asks { Asks (P.past port.old) (P.past port.new) manner (spec.rows_in (spec.keeps_of of.entry) one fetch) (seen result) }
+    ensures asks { Asks (P.past port.old) (P.past port.new) manner (spec.rows_in (spec.fits (option_map (λ of. of.now) shape.entry)) one fetch) (seen result) }
     ensures standing { (P.past port.new).standing ≡ (P.past port.old).standing }
 {
     if one {
-        read_key(alloc, port, manner, of, &fetch)
+        read_key(alloc, port, manner, shape, &fetch)
     } else {
-        read_rows(alloc, port, manner, of, fetch)
+        read_rows(alloc, port, manner, shape, fetch)
     }
 }
 
@@ -53,16 +44,16 @@ fn read_key<P: Port>(
     alloc: Global,
     port: &mut P,
     manner: Manner,
-    of: Kept<'_>,
+    shape: Option<&TableTree>,
     fetch: &Op,
 ) -> Result<Vec<Row>, Refusal>
     requires may { MayWork (P.past port.old) manner }
     requires fetch { spec.IsFetch fetch.now }
-    ensures asks { Asks (P.past port.old) (P.past port.new) manner (spec.rows_in (spec.keeps_of of.entry) true fetch.now) (seen result) }
+    ensures asks { Asks (P.past port.old) (P.past port.new) manner (spec.rows_in (spec.fits (option_map (λ of. of.now) shape.entry)) true fetch.now) (seen result) }
     ensures standing { (P.past port.new).standing ≡ (P.past port.old).standing }
 {
     let mut rows = Vec::new(alloc);
-    match read_next(port, manner, of, fetch, &mut rows) {
+    match read_next(port, manner, shape, fetch, &mut rows) {
         Ok(_) => Ok(rows),
         Err(refusal) => Err(refusal),
     }
@@ -73,19 +64,19 @@ fn read_rows<P: Port>(
     alloc: Global,
     port: &mut P,
     manner: Manner,
-    of: Kept<'_>,
+    shape: Option<&TableTree>,
     fetch: Op,
 ) -> Result<Vec<Row>, Refusal>
     requires may { MayWork (P.past port.old) manner }
     requires fetch { spec.IsFetch fetch }
-    ensures asks { Asks (P.past port.old) (P.past port.new) manner (spec.rows_from (spec.keeps_of of.entry) range_limit fetch []) (seen result) }
+    ensures asks { Asks (P.past port.old) (P.past port.new) manner (spec.rows_from (spec.fits (option_map (λ of. of.now) shape.entry)) range_limit fetch []) (seen result) }
     ensures standing { (P.past port.new).standing ≡ (P.past port.old).standing }
 {
     let mut rows = Vec::new(alloc);
     let mut fetch = fetch;
     let mut left = RANGE_LIMIT;
     while 0 < left {
-        match read_next(port, manner, of, &fetch, &mut rows)? {
+        match read_next(port, manner, shape, &fetch, &mut rows)? {
             Some(key) => fetch = past(fetch, key),
             None => return Ok(rows),
         }
@@ -98,17 +89,17 @@ fn read_rows<P: Port>(
 fn read_next<P: Port>(
     port: &mut P,
     manner: Manner,
-    of: Kept<'_>,
+    shape: Option<&TableTree>,
     fetch: &Op,
     rows: &mut Vec<Row>,
 ) -> Result<Option<Key>, Refusal>
     requires may { MayWork (P.past port.old) manner }
     requires fetch { spec.IsFetch fetch.now }
-    ensures asks { Asks (P.past port.old) (P.past port.new) manner (spec.fetches (spec.keeps_of of.entry) fetch.now rows.old.items) (beside rows.new.items result) }
+    ensures asks { Asks (P.past port.old) (P.past port.new) manner (spec.fetches (spec.fits (option_map (λ of. of.now) shape.entry)) fetch.now rows.old.items) (beside rows.new.items result) }
     ensures standing { (P.past port.new).standing ≡ (P.past port.old).standing }
 {
     match port.ask(fetch, manner) {
-        Reply::Row { key, row, .. } => match keep(of, rows, &key, row) {
+        Reply::Row { key, row, .. } => match keep(shape, rows, &key, row) {
             Ok(()) => Ok(Some(key)),
             Err(_) => Err(Refusal::Memory),
         },
@@ -144,48 +135,27 @@ fn past(fetch: Op, key: Key) -> Op
 }
 
 /// Adds a row, if it is read as one.
-fn keep(of: Kept<'_>, rows: &mut Vec<Row>, key: &Key, row: Row) -> Result<(), Memory>
-    ensures { IfOk result (λ _. rows.new.items ≡ with_row (spec.keeps_of of.entry) rows.old.items key.now row) }
+fn keep(shape: Option<&TableTree>, rows: &mut Vec<Row>, key: &Key, row: Row) -> Result<(), Memory>
+    ensures { IfOk result (λ _. rows.new.items ≡ with_row (spec.fits (option_map (λ of. of.now) shape.entry)) rows.old.items key.now row) }
 {
-    if is_kept(of, key, &row) {
+    if is_kept(shape, key, &row) {
         rows.push(row)?;
     }
     Ok(())
 }
 
 /// Whether a row is read as one.
-fn is_kept(of: Kept<'_>, key: &Key, row: &Row) -> bool
-    ensures { result ≡ spec.keeps_of of.entry (key.now, row.now) }
+fn is_kept(shape: Option<&TableTree>, key: &Key, row: &Row) -> bool
+    ensures { result ≡ spec.fits (option_map (λ of. of.now) shape.entry) (key.now, row.now) }
 {
-    match of {
-        Kept::Table(Some(shape)) => row_fits(row, key, shape, 0),
-        Kept::Table(None) => false,
-        Kept::Objects => is_object(key, row),
-    }
-}
-
-/// Whether a row of `objects` stands at its name.
-fn is_object(key: &Key, row: &Row) -> bool
-    ensures { result ≡ spec.is_object (key.now, row.now) }
-{
-    match key.as_slice() {
-        [Value::Text(name)] => is_of_name(name, row),
-        _ => false,
-    }
-}
-
-/// Whether a row of `objects` is that of a name.
-fn is_of_name(name: &Units, row: &Row) -> bool
-    ensures { result ≡ spec.is_of_name name.now row.now }
-{
-    match row.as_slice() {
-        [Value::Text(own), Value::Text(_)] => own == name,
-        _ => false,
+    match shape {
+        Some(shape) => row_fits(row, key, shape, 0),
+        None => false,
     }
 }
 
 /// The first shape of that table.
-pub(crate) fn shape_of<'a>(table: &TableName, shapes: &'a [TableTree]) -> Option<&'a TableTree>
+pub fn shape_of<'a>(table: &TableName, shapes: &'a [TableTree]) -> Option<&'a TableTree>
     ensures { option_map (λ shape. shape.now) result ≡ checks.shape_of table.now shapes.now }
 {
     for shape in shapes {

@@ -12,7 +12,7 @@ ghost use Rattle.dml_exec.specs.Asking.{MayWork};
 ghost use Rattle.dml_exec.specs.Reading.{fetch_of};
 ghost use Rattle.dml_exec.specs.Writing as spec;
 
-use crate::ranges::{Kept, read_range, shape_of};
+use crate::ranges::{read_range, shape_of};
 use crate::refusal::Refusal;
 use crate::written::{Halt, Written};
 use bound_tree::Image;
@@ -321,7 +321,7 @@ fn rows_checked<P: Port>(
     };
     let shape = shape_of(&range.table, shapes);
     let one = is_one_key(&range.start);
-    match read_range(alloc, port, manner, Kept::Table(shape), one, fetch) {
+    match read_range(alloc, port, manner, shape, one, fetch) {
         Ok(rows) => Ok(Image::from(rows)),
         Err(refusal) => Err(Halt::Refused(refusal)),
     }
