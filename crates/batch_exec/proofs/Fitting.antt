@@ -1,5 +1,5 @@
 -- The tokens that are sent have bytes: counts, texts and values fit their fields.
-use Rattle.std.proofs.Common.{◌≡◌, ℕ, ℤ, pos, negsuc, ◌+◌, ◌^◌, ◌<◌, ◌≤◌, ◌||◌, Bool, true, false, if◌then◌else◌, List, [], ◌∷◌, ◌++◌, length, map, take, Option, Result, Ok, Err, IfOk, refl, sym, subst, length-take, arith, All, suc, ap, T}
+use Rattle.std.proofs.Common.{◌≡◌, ℕ, ℤ, pos, negsuc, ◌+◌, ◌^◌, ◌<◌, ◌≤◌, ◌||◌, Bool, true, false, if◌then◌else◌, List, [], ◌∷◌, ◌++◌, length, map, take, Option, None, Some, Result, Ok, Err, IfOk, refl, sym, subst, nat_eq, ◌∙◌, length-take, arith, All, suc, ap, T}
 use Rattle.std.specs.Prelude.{nat_le}
 use Rattle.std.proofs.lemmas.Bool.{leb-true, le-leb, and_parts}
 use Rattle.std.proofs.lemmas.List.Elements.{All-cons, All-nil}
@@ -13,20 +13,29 @@ use Rattle.value_types.specs.declared.sql_type.SqlType.TheVariants.{TinyInt, Sma
 use Rattle.convert_rules.specs.Types.{IsOf}
 use Rattle.session_vars.specs.Variables.{HasItsType}
 use Rattle.tsql_tree.specs.declared.definition.Definition.{Definition}
+use Rattle.tsql_tree.specs.declared.definition.Definition.TheVariants.{Table, Procedure, Trigger}
 use Rattle.tsql_tree.specs.declared.query.Select.{Select}
 use Rattle.tsql_tree.specs.declared.statement.Form.{Form-F}
 use Rattle.tsql_tree.specs.declared.statement.Statement.{Statement}
 use Rattle.bound_tree.specs.declared.query.BoundQuery.{BoundQuery}
 use Rattle.bound_tree.specs.declared.query.Item.{Item}
 use Rattle.bound_tree.specs.declared.query.Reference.{Reference}
+use Rattle.bound_tree.specs.declared.write.Bound.{Bound}
 use Rattle.bound_tree.specs.declared.write.Bound.TheVariants as bound
+use Rattle.value_types.specs.declared.table_name.TableName.{TableName}
+use Rattle.value_types.specs.Units.{same_units}
+use Rattle.tsql_tree.specs.declared.definition.TableTree.{TableTree}
+use Rattle.clause_binder.specs.Scope.{or_first, table_of}
+use Rattle.catalog_rows.specs.Definitions.{tables_of}
+use Rattle.catalog_rows.proofs.Fitting.{image_typed}
+use Rattle.constraint_check.specs.Reads.{shape_of}
+use Rattle.dml_exec.specs.Reading.{reads_of, shared}
 use Rattle.typed_nodes.specs.Nodes.{is_kind}
 use Rattle.typed_nodes.specs.Refusals.{Outcome, after}
 use Rattle.clause_binder.specs.declared.operand.Selected.{Selected}
 use Rattle.clause_binder.specs.Bind.{query_of}
 use Rattle.clause_binder.specs.Operands.{items_of}
 use Rattle.query_eval.specs.Ans.{Ans, references_of}
-use Rattle.query_eval.specs.Given.{tables_read}
 use Rattle.query_laws.specs.Columns.{tables_in}
 use Rattle.query_laws.specs.Formed.{items_kinds}
 use Rattle.query_laws.specs.Laws.{AllOf, AreExactly, ImagesOf, IsFit as IsNamed, RowsOf}
@@ -40,7 +49,7 @@ use Rattle.value_types.specs.declared.value.Value.TheVariants.{Null, Whole, Bit,
 use Rattle.value_types.specs.declared.memory.Memory.{Memory}
 use Rattle.tds_tokens.specs.declared.columns.ColumnInfo.{ColumnInfo}
 use Rattle.tds_tokens.specs.declared.notice.Notice.{Notice}
-use Rattle.tds_tokens.specs.Numbers.{done_final, done_more, done_error, done_count, command_none, command_select, command_insert}
+use Rattle.tds_tokens.specs.Numbers.{done_final, done_more, done_error, done_count, command_none, command_select}
 use Rattle.tds_tokens.specs.declared.token.DoneKind.{DoneKind}
 use Rattle.tds_tokens.specs.declared.token.DoneKind.TheVariants.{Done}
 use Rattle.tds_tokens.specs.declared.token.Token.{Token}
@@ -52,12 +61,11 @@ use Rattle.batch_meaning.specs.declared.exit.Exit.{Exit}
 use Rattle.batch_meaning.specs.declared.exit.Exit.TheVariants.{On, End}
 use Rattle.batch_meaning.specs.declared.failure.Failure.{Failure}
 use Rattle.batch_meaning.specs.declared.form.Served.{Served}
-use Rattle.batch_meaning.specs.Failures.{plain}
-use Rattle.batch_meaning.specs.Statements.{is_select_step}
-use Rattle.batch_meaning.specs.Selecting.{bound_as, columns_of, first_system, not_built}
+use Rattle.batch_meaning.specs.Statements.{is_select, is_select_form}
+use Rattle.batch_meaning.specs.Selecting.{bound_as, bound_over, columns_of, first_system}
 use Rattle.batch_exec.specs.Sendable.{IsFit, IsResult}
-use Rattle.batch_exec.specs.Selected.{AnswerFits, ImagesFit, IsBound}
-use Rattle.batch_meaning.specs.Tokens.{subject_of, command_of, class_of, message_of, error_of, row_tokens, result_tokens, inserted_tokens, statement_done, batch_done, failure_tokens}
+use Rattle.batch_exec.specs.Selected.{AnswerFits, AreKept, ImagesFit, IsBoundOver}
+use Rattle.batch_meaning.specs.Tokens.{subject_of, command_of, class_of, message_of, error_of, row_tokens, result_tokens, written_tokens, statement_done, batch_done, failure_tokens}
 
 -- ---- one list behind another
 
@@ -133,7 +141,7 @@ result_fits items rows fit few are = λ columns.
 
 -- what was made of it, where nothing is outside a limit
 made_query : (beyond outside assigns : Bool) (q : BoundQuery) (places : List ℕ) (query : BoundQuery)
-    → bound_as (within_limits (beyond || outside) (if assigns then bound.Assign q places else bound.Query q)) ≡ Ok query → (beyond ≡ false) × (assigns ≡ false) × (q ≡ query)
+    → bound_as (within_limits (beyond || outside) (if assigns then bound.Assign q places else bound.Query q)) ≡ Ok (bound.Query query) → (beyond ≡ false) × (assigns ≡ false) × (q ≡ query)
 made_query true outside assigns q places query is = absurd cc
 made_query false true assigns q places query is = absurd cc
 made_query false false true q places query is = absurd cc
@@ -149,59 +157,88 @@ pub record BoundSelect (definitions : List Definition) (query : BoundQuery) : Ty
   pub same : selected.query ≡ query
 
 behind_select : (definitions : List Definition) (select : Select) (query : BoundQuery) (outcome : Outcome Selected) → query_of definitions [] select ≡ outcome
-    → bound_as (after (after outcome (λ s. Ok (select_made s))) (λ made. within_limits (made.beyond || false) made.bound)) ≡ Ok query → BoundSelect definitions query
+    → bound_as (after (after outcome (λ s. Ok (select_made s))) (λ made. within_limits (made.beyond || false) made.bound)) ≡ Ok (bound.Query query) → BoundSelect definitions query
 behind_select definitions select query (Ok s) of is =
     let parts = made_query s.beyond false s.assigns s.query s.places query is in
     record { select = select; selected = s; is = of; within = parts.0; plain = parts.1; same = parts.2 }
 behind_select definitions select query (Err refusal) of is = absurd cc
 
 behind_tables : (definitions : List Definition) (select : Select) (query : BoundQuery) (known : Outcome (Unit {0}))
-    → bound_as (after known (λ known. after (after (query_of definitions [] select) (λ s. Ok (select_made s))) (λ made. within_limits (made.beyond || false) made.bound))) ≡ Ok query → BoundSelect definitions query
+    → bound_as (after known (λ known. after (after (query_of definitions [] select) (λ s. Ok (select_made s))) (λ made. within_limits (made.beyond || false) made.bound))) ≡ Ok (bound.Query query) → BoundSelect definitions query
 behind_tables definitions select query (Ok known) is = behind_select definitions select query (query_of definitions [] select) refl is
 behind_tables definitions select query (Err refusal) is = absurd cc
 
-by_form : (definitions : List Definition) (query : BoundQuery) (form : Layer) → (if is_select_step form then bound_as (bind_form definitions [] form) else Err (plain not_built)) ≡ Ok query → BoundSelect definitions query
-by_form definitions query (Form-F.Select select) is = behind_tables definitions select query _ is
-by_form definitions query form is = absurd cc
+by_form : (definitions : List Definition) (query : BoundQuery) (form : Layer) → is_select_form form ≡ true → bound_as (bind_form definitions [] form) ≡ Ok (bound.Query query) → BoundSelect definitions query
+by_form definitions query (Form-F.Select select) selects is = behind_tables definitions select query _ is
+by_form definitions query form selects is = absurd cc
 
-pub bound_select : (definitions : List Definition) (statement : Statement) (query : BoundQuery) → IsBound definitions statement query → BoundSelect definitions query
-bound_select definitions statement query is = by_form definitions query (form_of statement) is
+pub bound_select : (definitions : List Definition) (statement : Statement) (query : BoundQuery) → is_select statement ≡ true → bound_over definitions statement ≡ Ok (bound.Query query) → BoundSelect definitions query
+bound_select definitions statement query selects is = by_form definitions query (form_of statement) selects is
 
 -- ---- what it answers
 
--- the images of its references are those of the tables that are read
-images_of : (definitions : List Definition) (refs : List Reference) (images : List Rows) → ImagesFit definitions (map (λ ref. ref.table) refs) images → ImagesOf (tables_in definitions) refs images
-images_of definitions [] images fit = tt
-images_of definitions (ref ∷ refs) [] fit = absurd fit
-images_of definitions (ref ∷ refs) (rows ∷ images) fit = (fit.0, images_of definitions refs images fit.1)
+-- a table by its name, among definitions and among their tables
+no_part : (table : TableName) (shapes : List TableTree) → nat_eq table.part 0 ≡ false → shape_of table shapes ≡ None
+no_part table [] other = refl
+no_part table (shape ∷ shapes) other = rw other (no_part table shapes other)
 
-pub answer_fits : (definitions : List Definition) (statement : Statement) (query : BoundQuery) (images : List Rows) → IsBound definitions statement query → ImagesFit definitions (tables_read query) images → AnswerFits query images
-answer_fits definitions statement query images is fit rows answers = by_select (bound_select definitions statement query is)
+first_named : (here : Bool) (first : TableTree) (later named : Option TableTree) (shape : TableTree) → (later ≡ Some shape → named ≡ Some shape)
+    → (if here then Some first else later) ≡ Some shape → or_first (if here then Some first else None) named ≡ Some shape
+first_named true first later named shape goes is = is
+first_named false first later named shape goes is = goes is
+
+rows_named : (definitions : List Definition) (table : TableName) (shape : TableTree) → nat_eq table.part 0 ≡ true → shape_of table (tables_of definitions) ≡ Some shape → table_of table.object definitions ≡ Some shape
+rows_named [] table shape own is = absurd cc
+rows_named (Table first ∷ definitions) table shape own is =
+    first_named (same_units table.object first.name) first (shape_of table (tables_of definitions)) (table_of table.object definitions) shape (rows_named definitions table shape own) (rw own at is)
+rows_named (Procedure procedure ∷ definitions) table shape own is = rows_named definitions table shape own is
+rows_named (Trigger trigger ∷ definitions) table shape own is = rows_named definitions table shape own is
+
+table_named : (definitions : List Definition) (table : TableName) (shape : TableTree) → shape_of table (tables_of definitions) ≡ Some shape → table_of table.object definitions ≡ Some shape
+table_named definitions table shape is = by_part (nat_eq table.part 0) refl
   where
-    by_select : BoundSelect definitions query → IsResult (columns_of query) rows
-    by_select b =
-        let formed = select_formed definitions [] b.select b.selected b.is b.within in
-        let same : b.selected.query ≡ query = b.same in
-        let typed = select_typed definitions [] b.select b.selected b.is b.within (All-nil HasItsType) first_system (refl, (refl, (refl, (refl, (refl, (tt, (tt, (tt, (tt, (tt, (tt, tt))))))))))) images rows
-        (subst (λ (q : BoundQuery). ImagesOf (tables_in definitions) (references_of q) images) (sym same) (images_of definitions (references_of query) images fit))
-        (subst (λ (q : BoundQuery). Ans [] first_system q images ≡ Ok rows) (sym same) answers) in
-        subst (λ (q : BoundQuery). IsResult (columns_of q) rows) same (result_fits (items_of b.selected.query) rows formed.1 (formed.2 b.plain) typed)
+    by_part : (own : Bool) → nat_eq table.part 0 ≡ own → table_of table.object definitions ≡ Some shape
+    by_part true own = rows_named definitions table shape own is
+    by_part false own = absurd (let none : shape_of table (tables_of definitions) ≡ None = no_part table (tables_of definitions) own in cc)
+
+-- rows that were kept are of their table's types
+kept_typed : (definitions : List Definition) (table : TableName) (rows : Rows) → AreKept (shape_of table (tables_of definitions)) rows → RowsOf (tables_in definitions table) rows
+kept_typed definitions table rows are = by_shape (shape_of table (tables_of definitions)) refl are
+  where
+    by_shape : (shape : Option TableTree) → shape_of table (tables_of definitions) ≡ shape → AreKept shape rows → RowsOf (tables_in definitions table) rows
+    by_shape None is kept = subst (λ (r : Rows). RowsOf (tables_in definitions table) r) (sym kept) tt
+    by_shape (Some shape) is kept = image_typed definitions table shape rows (table_named definitions table shape is) kept
+
+-- the images of its references are those of the tables that are read
+images_typed : (definitions : List Definition) (refs : List Reference) (images : List Rows) → ImagesFit (tables_of definitions) (map shared (map (λ ref. ref.table) refs)) images → ImagesOf (tables_in definitions) refs images
+images_typed definitions [] images fit = tt
+images_typed definitions (ref ∷ refs) [] fit = absurd fit
+images_typed definitions (ref ∷ refs) (rows ∷ images) fit = (kept_typed definitions ref.table rows fit.0, images_typed definitions refs images fit.1)
+
+query_fits : (definitions : List Definition) (query : BoundQuery) (images : List Rows) (rows : List (List Value)) → BoundSelect definitions query → ImagesOf (tables_in definitions) (references_of query) images → Ans [] first_system query images ≡ Ok rows → IsResult (columns_of query) rows
+query_fits definitions query images rows b typed_images answers =
+    let formed = select_formed definitions [] b.select b.selected b.is b.within in
+    let same : b.selected.query ≡ query = b.same in
+    let typed = select_typed definitions [] b.select b.selected b.is b.within (All-nil HasItsType) first_system (refl, (refl, (refl, (refl, (refl, (tt, (tt, (tt, (tt, (tt, (tt, tt))))))))))) images rows
+    (subst (λ (q : BoundQuery). ImagesOf (tables_in definitions) (references_of q) images) (sym same) typed_images)
+    (subst (λ (q : BoundQuery). Ans [] first_system q images ≡ Ok rows) (sym same) answers) in
+    subst (λ (q : BoundQuery). IsResult (columns_of q) rows) same (result_fits (items_of b.selected.query) rows formed.1 (formed.2 b.plain) typed)
+
+pub answer_fits : (shapes : List TableTree) (statement : Statement) (of : Bound) (query : BoundQuery) (images : List Rows)
+    → IsBoundOver shapes statement of → is_select statement ≡ true → of ≡ bound.Query query → ImagesFit shapes (reads_of of) images → AnswerFits query images
+answer_fits shapes statement of query images over selects is fit rows answers =
+    let definitions = over.0 in
+    let bound_to : bound_over definitions statement ≡ Ok (bound.Query query) = over.2 ∙ ap Ok is in
+    let fits : ImagesFit (tables_of definitions) (reads_of (bound.Query query)) images = subst (λ (o : Bound). ImagesFit (tables_of definitions) (reads_of o) images) is (subst (λ (s : List TableTree). ImagesFit s (reads_of of) images) over.1 fit) in
+    query_fits definitions query images rows (bound_select definitions statement query selects bound_to) (images_typed definitions (references_of query) images fits) answers
 
 -- of what is bound over no table no image is read
-pub alone_fits : (statement : Statement) (query : BoundQuery) → IsBound [] statement query → AnswerFits query []
-alone_fits statement query is rows answers = by_select (bound_select [] statement query is)
+pub alone_fits : (statement : Statement) (query : BoundQuery) → is_select statement ≡ true → bound_over [] statement ≡ Ok (bound.Query query) → AnswerFits query []
+alone_fits statement query selects is rows answers = query_fits [] query [] rows (bound_select [] statement query selects is) (none (references_of query)) answers
   where
     none : (refs : List Reference) → ImagesOf (tables_in []) refs []
     none [] = tt
     none (ref ∷ refs) = (tt, none refs)
-
-    by_select : BoundSelect [] query → IsResult (columns_of query) rows
-    by_select b =
-        let formed = select_formed [] [] b.select b.selected b.is b.within in
-        let same : b.selected.query ≡ query = b.same in
-        let typed = select_typed [] [] b.select b.selected b.is b.within (All-nil HasItsType) first_system (refl, (refl, (refl, (refl, (refl, (tt, (tt, (tt, (tt, (tt, (tt, tt))))))))))) [] rows
-        (none (references_of b.selected.query)) (subst (λ (q : BoundQuery). Ans [] first_system q [] ≡ Ok rows) (sym same) answers) in
-        subst (λ (q : BoundQuery). IsResult (columns_of q) rows) same (result_fits (items_of b.selected.query) rows formed.1 (formed.2 b.plain) typed)
 
 -- ---- errors
 
@@ -235,9 +272,9 @@ pub batch_done_fit : (exit : Exit) → IsFit (batch_done exit ∷ [])
 batch_done_fit On = done_fit Done done_final command_none 0
 batch_done_fit End = done_fit Done done_error command_none 0
 
--- a row was inserted
-pub inserted_fit : IsFit inserted_tokens
-inserted_fit = done_fit Done (done_more + done_count) command_insert 1
+-- so many rows were written
+pub written_fit : (command rows : ℕ) → IsFit (written_tokens command rows)
+written_fit command rows = done_fit Done (done_more + done_count) command rows
 
 -- what a statement sends where it fails
 pub failure_fits : (statement : Served) (failure : Failure) (action : Action) → IsFit (failure_tokens statement failure action)

@@ -1,4 +1,7 @@
 pub mod Batches
+pub mod Changes
 pub mod Fitting
-pub mod RangeReading
+pub mod Forms
+pub mod ImagesReading
+pub mod ObjectsReading
 pub mod Selects

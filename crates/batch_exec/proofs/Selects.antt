@@ -1,26 +1,29 @@
 -- What a SELECT does: parts that want memory, and lists that are gone through.
-use Rattle.std.proofs.Common.{◌≡◌, ℕ, suc, ◌+◌, ◌<◌, ◌≤◌, inl, inr, Bool, true, false, if◌then◌else◌, List, [], ◌∷◌, ◌++◌, drop, take, length, get_or, add-one, Option, Result, Ok, Err, refl, sym, ap, ◌∙◌, subst}
+use Rattle.std.proofs.Common.{◌≡◌, ℕ, suc, ◌+◌, ◌<◌, ◌≤◌, inl, inr, Bool, true, false, if◌then◌else◌, List, ◌∷◌, drop, length, get_or, add-one, Option, None, Some, Result, Ok, Err, refl, sym, ap, ◌∙◌, subst}
 use Rattle.std.proofs.Math.Seq.{drop-cons}
-use Rattle.std.proofs.lemmas.List.{drop_all, take_more}
-use Rattle.value_types.specs.declared.table_name.TableName.{TableName}
+use Rattle.std.proofs.lemmas.List.{drop_all}
 use Rattle.value_types.specs.declared.value.Value.{Value}
 use Rattle.tsql_tree.specs.declared.definition.Definition.{Definition}
-use Rattle.bound_tree.specs.declared.query.BoundQuery.{BoundQuery}
-use Rattle.step_model.specs.declared.op.Hold.TheVariants as hold
+use Rattle.step_model.specs.declared.reply.Reply.TheVariants as replies
 use Rattle.step_model.specs.Port.{PortPast}
-use Rattle.step_model.specs.Ranges.{Rows, no_memory}
-use Rattle.query_laws.specs.Columns.{tables_in}
-use Rattle.query_laws.specs.Laws.{RowsOf}
+use Rattle.std.specs.Result.{IsErr, IsErrAnd}
+use Rattle.std.specs.declared.alloc.Global.{Global}
+use Rattle.std.specs.declared.vec.Vec.{Vec}
+use Rattle.dml_exec.specs.Asking.{beside, seen}
+use Rattle.value_types.specs.declared.memory.Memory.{Memory}
 use Rattle.batch_meaning.specs.declared.failure.Failure.{Failure}
 use Rattle.batch_meaning.specs.Failures.{plain}
 use Rattle.std.specs.Prelude.{nat_lt}
 use Rattle.tds_tokens.specs.declared.token.Token.{Token}
 use Rattle.batch_meaning.specs.Progress.{SessionProgress, size_of}
 use Rattle.batch_meaning.specs.Doing.{Doing, ◌then◌, over, defines, Did, Leads}
-use Rattle.batch_meaning.specs.Meaning.{on_ok, ◌>>=◌, fails, with_room, if_bytes_left, look_up, looks_up, is_table, with_found, reads_rows, reads_images}
-use Rattle.batch_meaning.specs.Selecting.{answered, answered_unasked, shape_of, result_full}
-use Rattle.batch_meaning.proofs.Composed.{does_over, does_reads, does_room, does_then, does_defines, leads_room, leads_then, leads_to, leads_yes, leads_no}
-use Rattle.batch_exec.specs.Selected.{IsOrMemory, IsDefined, ImagesFit, roomed}
+use Rattle.batch_meaning.specs.Meaning.{on_ok, ◌>>=◌, fails, fails_naming, with_room, if_bytes_left, look_up, looks_up, is_table, with_found, defined_by}
+use Rattle.tsql_tree.specs.declared.statement.Statement.{Statement}
+use Rattle.bound_tree.specs.declared.write.Bound.{Bound}
+use Rattle.batch_meaning.specs.Selecting.{bound_over, result_full}
+use Rattle.batch_meaning.proofs.Composed.{does_fail, does_over, does_reads, does_room, does_then, does_defines, leads_then, leads_to, leads_yes, leads_no}
+use Rattle.batch_exec.specs.Fetched.{IsKeyDefined}
+use Rattle.batch_exec.specs.Selected.{IsOrMemory, IsDefined, IsNamed, roomed}
 
 -- a part that wants memory, and is done at once
 pub does_result : {past : PortPast} {A : Type 0} (meant result : Result A Failure) {p : SessionProgress} → IsOrMemory meant result → Did past past (with_room (over meant)) p (Ok result) p
@@ -36,14 +39,6 @@ meant_ok meant a (inr none) = absurd cc
 pub does_failed : {before mid : PortPast} {A B : Type 0} (tree : Doing (Result A Failure)) (go : A → Doing (Result B Failure)) {p q : SessionProgress} {failure : Failure}
     → Did before mid tree p (Ok (Err failure)) q → Did before mid (tree >>= go) p (Ok (Err failure)) q
 does_failed tree go first = does_then tree (on_ok go) first (does_over refl)
-
--- a SELECT that names no table, which is bound to a query, or is not bound
-pub alone_bound : (bound : Result BoundQuery Failure) (query : BoundQuery) (result : Result (List Token) Failure) → IsOrMemory bound (Ok query) → IsOrMemory (answered query []) result → IsOrMemory (answered_unasked bound) result
-alone_bound bound query result is answers = subst (λ (b : Result BoundQuery Failure). IsOrMemory (answered_unasked b) result) (sym (meant_ok bound query is)) answers
-
-pub alone_failed : (bound : Result BoundQuery Failure) (failure : Failure) → IsOrMemory bound (Err failure) → IsOrMemory (answered_unasked bound) (Err failure)
-alone_failed bound failure (inl same) = subst (λ (b : Result BoundQuery Failure). IsOrMemory (answered_unasked b) (Err failure)) same (inl refl)
-alone_failed bound failure (inr none) = inr (let same : failure ≡ plain no_memory = cc in ap Err same)
 
 -- what was made at once
 pub does_made : {past : PortPast} {A : Type 0} {made result : A} {p : SessionProgress} → result ≡ made → Did past past (over made) p (Ok result) p
@@ -89,38 +84,32 @@ pub names_done : {now : PortPast} (names : List (List ℕ)) (i : ℕ) (definitio
 unfolding looks_up
 names_done names i definitions past = rw (drop_all i names past) (does_over refl)
 
--- the next table is read
-pub next_table : {before now : PortPast} {whole : Doing (Result (List Rows) Failure)} {old mid : SessionProgress} (definitions : List Definition) (tables : List TableName) (i : ℕ) (table : TableName) (images : List Rows)
-    → table ≡ get_or tables i table → i < length tables → Leads before now whole old (reads_images definitions images (drop i tables)) mid
-    → Leads before now whole old (reads_rows (shape_of definitions table) table hold.Row >>= λ rows. with_room (reads_images definitions (images ++ rows ∷ []) (drop (i + 1) tables))) mid
-unfolding reads_images
-next_table definitions tables i table images is within leads = rw (next_of tables i table is within) at leads
+-- behind a part that wants memory, and is done at once
+pub does_on : {past after : PortPast} {A B : Type 0} (meant : Result A Failure) (go : A → Doing (Result B Failure)) {p new : SessionProgress} {a : A} {result : Result (Result B Failure) Memory}
+    → IsOrMemory meant (Ok a) → Did past after (go a) p result new → Did past after (with_room (over meant) >>= go) p result new
+does_on meant go is does = does_then (with_room (over meant)) (on_ok go) (does_result meant _ is) does
 
-pub tables_done : {now : PortPast} (definitions : List Definition) (tables : List TableName) (i : ℕ) (images : List Rows) {p : SessionProgress} → length tables ≤ i → Did now now (reads_images definitions images (drop i tables)) p (Ok (Ok images)) p
-unfolding reads_images
-tables_done definitions tables i images past = rw (drop_all i tables past) (does_over refl)
+-- an error that names something, or memory was wanting for it
+pub does_naming : {past : PortPast} {A : Type 0} (number : ℕ) (name : List ℕ) (failure : Failure) {p : SessionProgress} → IsNamed number name failure → Did past past (fails_naming {A = A} number name) p (Ok (Err failure)) p
+does_naming {past = past} {A = A} number name failure {p = p} (inl same) = subst (λ (f : Failure). Did past past (fails_naming {A = A} number name) p (Ok (Err f)) p) (sym same) (does_room true (does_over refl))
+does_naming {past = past} {A = A} number name failure {p = p} (inr none) = subst (λ (f : Failure). Did past past (fails_naming {A = A} number name) p (Ok (Err f)) p) (sym none) (does_room false (does_over refl))
 
--- behind a part that succeeded, and for which there was room
-pub leads_on : {before now after : PortPast} {A B : Type 0} {whole : Doing (Result B Failure)} (tree : Doing (Result A Failure)) (go : A → Doing (Result B Failure)) {old mid q : SessionProgress} {a : A}
-    → Leads before now whole old (tree >>= λ a. with_room (go a)) mid → Did now after tree mid (Ok (Ok a)) q → Leads before after whole old (go a) q
-leads_on tree go leads does = leads_room true _ (leads_then tree (on_ok λ a. with_room (go a)) leads does)
+-- what a row of `objects` adds, with its key
+pub does_key : {past : PortPast} (key row : List Value) (so_far new : List Definition) (result : Result (Option (List Value)) Failure) {p : SessionProgress}
+    → IsKeyDefined key row so_far result new → Did past past (defined_by so_far (replies.Row key row 0)) p (Ok (beside new result)) p
+does_key {past = past} key row so_far new (Ok (Some last)) {p = p} is =
+    let same : beside new (Ok (Some last)) ≡ Ok (with_found so_far is.1, Some key) = (λ i. Ok (is.3 i, Some (is.0 i))) in
+    subst (λ r. Did past past (defined_by so_far (replies.Row key row 0)) p (Ok r) p) (sym same) (does_room true (does_defines is.1 is.2 (does_room true (does_over refl))))
+does_key key row so_far new (Ok None) is = absurd is
+does_key {past = past} key row so_far new (Err failure) {p = p} is = subst (λ (f : Failure). Did past past (defined_by so_far (replies.Row key row 0)) p (Ok (Err f)) p) (sym is) (does_room false (does_over refl))
 
--- there was no room
-pub leads_out : {before now after : PortPast} {A B : Type 0} {whole : Doing (Result B Failure)} (tree : Doing (Result A Failure)) (go : A → Doing (Result B Failure)) {old mid q : SessionProgress} {a : A}
-    → Leads before now whole old (tree >>= λ a. with_room (go a)) mid → Did now after tree mid (Ok (Ok a)) q → Leads before after whole old (fails no_memory) q
-leads_out tree go leads does = leads_room false _ (leads_then tree (on_ok λ a. with_room (go a)) leads does)
+-- behind a part that failed, where a list is in a vector
+pub fails_seen : {before mid : PortPast} {A B : Type 0} (tree : Doing (Result A Failure)) (go : A → Doing (Result (List B) Failure)) {p q : SessionProgress} {failure : Failure} (result : Result (Vec B Global) Failure)
+    → IsErr result → IsErrAnd result (λ x. x ≡ failure) → Did before mid tree p (Ok (Err failure)) q → Did before mid (tree >>= go) p (Ok (seen result)) q
+fails_seen tree go (Ok v) err same first = absurd (let no : false ≡ true = err in cc)
+fails_seen tree go (Err x) err same first = does_fail tree go (Err x) err same first
 
--- ---- images
-
-pub images_more : (definitions : List Definition) (before : List TableName) (images : List Rows) (table : TableName) (rows : Rows) → ImagesFit definitions before images → RowsOf (tables_in definitions table) rows
-    → ImagesFit definitions (before ++ table ∷ []) (images ++ rows ∷ [])
-images_more definitions [] [] table rows fit are = (are, tt)
-images_more definitions [] (image ∷ images) table rows fit are = absurd fit
-images_more definitions (first ∷ before) [] table rows fit are = absurd fit
-images_more definitions (first ∷ before) (image ∷ images) table rows fit are = (fit.0, images_more definitions before images table rows fit.1 are)
-
--- one table more was read
-pub images_taken : (definitions : List Definition) (tables : List TableName) (i : ℕ) (table : TableName) (images : List Rows) (rows : Rows) → table ≡ get_or tables i table → i < length tables
-    → ImagesFit definitions (take i tables) images → RowsOf (tables_in definitions table) rows → ImagesFit definitions (take (i + 1) tables) (images ++ rows ∷ [])
-images_taken definitions tables i table images rows is within fit are =
-    rw (take_more tables i table within ∙ ap (λ (t : TableName). take i tables ++ t ∷ []) (sym is)) (images_more definitions (take i tables) images table rows fit are)
+-- what a statement is bound to, by the definitions and the result that are told of
+pub bound_at : (statement : Statement) (given definitions : List Definition) (result came : Result Bound Failure) → given ≡ definitions → result ≡ came → IsOrMemory (bound_over given statement) result → IsOrMemory (bound_over definitions statement) came
+bound_at statement given definitions result came same is meant =
+    subst (λ (r : Result Bound Failure). IsOrMemory (bound_over definitions statement) r) is (subst (λ (d : List Definition). IsOrMemory (bound_over d statement) result) same meant)

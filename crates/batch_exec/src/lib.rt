@@ -7,15 +7,20 @@
 //! said to be wanting where there is enough.
 #![tactic(auto)]
 
+mod batch;
+mod bound;
+mod changing;
+mod dialogs;
+mod failures;
 mod look_up;
 mod numbers;
+mod objects;
 mod query;
-mod ranges;
 mod sendable;
 mod state;
 mod statement;
 mod tokens;
 
+pub use batch::run_batch;
 pub use state::SessionState;
-pub use statement::run_batch;
 pub use tokens::error_of;

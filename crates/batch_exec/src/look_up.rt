@@ -7,10 +7,11 @@ ghost use Rattle.step_model.specs.declared.op.Op.TheVariants as ops;
 ghost use Rattle.step_model.specs.declared.range.Start.TheVariants.{At};
 ghost use Rattle.step_model.specs.declared.range.Stop.TheVariants.{Within};
 ghost use Rattle.batch_meaning.specs.Doing.{Did, asks};
-ghost use Rattle.batch_meaning.specs.Meaning.{unless_refused, is_table, known, look_up, looks_up, with_found, with_room};
+ghost use Rattle.batch_meaning.specs.Meaning.{unless_refused, is_table, known, look_up, looks_up, with_found};
 ghost use Rattle.batch_meaning.specs.Progress.{Ready};
-ghost use Rattle.batch_meaning.specs.Tables.{table_of};
-ghost use Rattle.catalog_rows.specs.Definitions.{objects_name, object_key, IsDefinitionAt};
+ghost use Rattle.constraint_check.specs.Reads.{rows_table};
+ghost use Rattle.dml_exec.specs.Asking.{seen};
+ghost use Rattle.catalog_rows.specs.Definitions.{objects_name, object_key};
 ghost use Rattle.batch_exec.specs.Selected.{IsDefined};
 
 use crate::numbers::{DEADLOCK, LOCK_TIMEOUT, NO_MEMORY};
@@ -18,7 +19,6 @@ use crate::state::SessionState;
 use batch_meaning::Failure;
 use catalog_rows::{definition_at, is_objects, object_key};
 use lock_modes::KeyPart;
-use sqlite_items::Items;
 use std::alloc::Global;
 use step_model::{Hold, Op, Port, Reply, Start, Stop};
 use tsql_tree::Definition;
@@ -30,14 +30,14 @@ pub(crate) fn look_up_all<P: Port>(
     session: &mut SessionState,
     port: &mut P,
     names: &[Units],
-) -> Result<Items<Definition>, Failure>
+) -> Result<Vec<Definition>, Failure>
     requires ready { Ready session.old (P.past port.old) }
     requires begun { session.old.is_open ≡ true }
-    ensures does { Did (P.past port.old) (P.past port.new) (looks_up [] names.now) session.old (Ok result) session.new }
+    ensures does { Did (P.past port.old) (P.past port.new) (looks_up [] names.now) session.old (Ok (seen result)) session.new }
     ensures ready { Ready session.new (P.past port.new) }
     ensures begun { session.new.is_open ≡ true }
 {
-    let mut definitions = Items::new(alloc);
+    let mut definitions = Vec::new(alloc);
     for name in names {
         let found = look_up(alloc, session, port, name)?;
         if !is_table(&found) {
@@ -58,8 +58,8 @@ fn is_table(found: &Option<Definition>) -> bool
 }
 
 /// Adds a definition, where there is one. Whether there was memory for it.
-fn add(definitions: &mut Items<Definition>, found: Option<Definition>) -> bool
-    ensures { IsTrue result → definitions.new ≡ with_found definitions.old found }
+pub(crate) fn add(definitions: &mut Vec<Definition>, found: Option<Definition>) -> bool
+    ensures { IsTrue result → definitions.new.items ≡ with_found definitions.old.items found }
 {
     match found {
         Some(definition) => definitions.push(definition).is_ok(),
@@ -123,7 +123,7 @@ fn find<P: Port>(
 }
 
 /// What a row of `objects` defines.
-fn defined(alloc: Global, key: &Key, row: &Row) -> Result<Option<Definition>, Failure>
+pub(crate) fn defined(alloc: Global, key: &Key, row: &Row) -> Result<Option<Definition>, Failure>
     ensures { IsDefined key.now row.now result }
 {
     match definition_at(alloc, key, row) {
@@ -134,7 +134,7 @@ fn defined(alloc: Global, key: &Key, row: &Row) -> Result<Option<Definition>, Fa
 
 /// The table of definitions, and twice a definition's key.
 fn object_range(alloc: Global, name: &Units) -> Result<(TableName, Key, Key), Memory>
-    ensures { IfOk result (λ range. range ≡ (table_of objects_name, object_key name.now, object_key name.now)) }
+    ensures { IfOk result (λ range. range ≡ (rows_table objects_name, object_key name.now, object_key name.now)) }
 {
     Ok((
         objects(alloc)?,
@@ -145,7 +145,7 @@ fn object_range(alloc: Global, name: &Units) -> Result<(TableName, Key, Key), Me
 
 /// The table that has the definitions.
 pub(crate) fn objects(alloc: Global) -> Result<TableName, Memory>
-    ensures { IfOk result (λ table. table ≡ table_of objects_name) }
+    ensures { IfOk result (λ table. table ≡ rows_table objects_name) }
 {
     Ok(TableName {
         object: Units::of_ascii(alloc, b"objects")?,

@@ -12,11 +12,14 @@ pub(crate) const DEADLOCK: u16 = 1205;
 /// The error where a lock of another session stands in the way of one that does not wait.
 pub(crate) const LOCK_TIMEOUT: u16 = 1222;
 
-/// The error of a key that has a row.
-pub(crate) const DUPLICATE_KEY: u16 = 2627;
-
 /// The error of a table that is there.
 pub(crate) const OBJECT_PRESENT: u16 = 2714;
+
+/// The error of a table that is to be dropped and is not there.
+pub(crate) const NOT_THERE: u16 = 3701;
+
+/// The error of a table that is to be dropped, and to which another refers.
+pub(crate) const IS_PARENT: u16 = 3726;
 
 /// The error of a batch that would begin too many statements.
 pub(crate) const STATEMENTS_SPENT: u16 = 49001;

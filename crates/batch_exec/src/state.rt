@@ -6,7 +6,7 @@ ghost use Rattle.batch_meaning.specs.Doing.{Exchanged, Did};
 ghost use Rattle.batch_meaning.specs.Meaning.{rolls_back_open};
 ghost use Rattle.batch_exec.specs.Sendable.{IsFit};
 ghost use Rattle.tds_tokens.specs.Fit.{FitTokens};
-ghost use Rattle.batch_meaning.specs.Progress.{Ready, first_progress, made, asked, begins, counts, is_open_after, sends, size_of, touched_after};
+ghost use Rattle.batch_meaning.specs.Progress.{Ready, first_progress, made, asked, begins, counts, is_open_after, sends, size_of, touched_after, touches};
 
 use crate::sendable::TokenList;
 use std::alloc::Global;
@@ -139,6 +139,20 @@ impl SessionState {
         ensures { self.new ≡ made counts self.old }
     {
         self.statements_left -= 1;
+    }
+
+    /// What is asked from here on is relaxed at the statement's end.
+    pub(crate) fn touch(&mut self)
+        ensures { self.new ≡ made touches self.old }
+    {
+        self.touched = true;
+    }
+
+    /// How the session asks.
+    pub(crate) fn manner(&self) -> Manner
+        ensures { result ≡ self.now.manner }
+    {
+        self.manner
     }
 
     /// Whether tokens are more bytes than the batch may still send.

@@ -1,186 +1,30 @@
-//! What a batch runs: its statements, one after another.
+//! What comes of a statement, within its transaction.
 
-ghost use Rattle.std.specs.Prelude.{◌≡◌, true, None, Ok, IfOk};
-ghost use Rattle.batch_meaning.specs.declared.form.Form.TheVariants.{Query};
-ghost use Rattle.batch_exec.specs.Selected.{IsOrMemory, roomed};
-ghost use Rattle.batch_meaning.specs.Tokens.{inserted_tokens};
-ghost use Rattle.step_model.specs.declared.op.Op.TheVariants as ops;
-ghost use Rattle.batch_meaning.specs.Doing.{Did, asks};
-ghost use Rattle.batch_meaning.specs.Meaning.{unless_refused, placed, marked, puts, creates, finds, inserts, done_for, work_of, relaxes, closes, own, unless_objects, came_of, ended_by, action_for, acted, or_full, finished, means, each_of, batch, reads_rows, object_present};
-ghost use Rattle.step_model.specs.declared.op.Hold.TheVariants as hold;
+ghost use Rattle.std.specs.Prelude.{◌≡◌, [], true, if◌then◌else◌, Ok};
+ghost use Rattle.binder.specs.Names.{form_of, looked_up};
+ghost use Rattle.batch_exec.specs.Selected.{roomed, work_of};
+ghost use Rattle.batch_meaning.specs.Doing.{Did};
+ghost use Rattle.batch_meaning.specs.Meaning.{asks_any, relaxes, closes, own, done_unasked, plain_unasked, unasked, came_of, with_room};
 ghost use Rattle.batch_meaning.specs.Progress.{Ready};
-ghost use Rattle.batch_meaning.specs.Tokens.{duplicate_key};
-ghost use Rattle.batch_meaning.specs.Tables.{table_of, table_key, table_row};
-ghost use Rattle.catalog_rows.specs.Definitions.{objects_name, object_key, row_of};
+ghost use Rattle.batch_meaning.specs.Selecting.{bound_over};
 
-use crate::look_up::{look_up, objects};
-use crate::numbers::{
-    DEADLOCK, DUPLICATE_KEY, LOCK_TIMEOUT, NO_MEMORY, NOT_BUILT, OBJECT_PRESENT, RESULT_FULL,
-    STATEMENTS_SPENT, UNKNOWN_TABLE,
-};
-use crate::query::{answered_unasked, asks_any, select};
-use crate::ranges::read_rows;
+use crate::bound::{bound, run};
+use crate::failures::{naming, no_memory};
+use crate::numbers::{NOT_BUILT, NOT_THERE, OBJECT_PRESENT, RESULT_FULL};
+use crate::query::{answer, is_select};
 use crate::sendable::TokenList;
 use crate::state::SessionState;
-use crate::tokens::{batch_end, failure_tokens, inserted_tokens, no_tokens};
-use batch_forms::as_served;
-use batch_meaning::{Exit, Failure, Form, RowList, Served};
-use catalog_rows::{is_objects, object_key, row_of};
-use error_table::{Action, RaisedBy, action_of};
+use batch_meaning::{Failure, Form};
+use binder::names_of;
+use bound_tree::Bound;
+use catalog_rows::is_objects;
 use std::alloc::Global;
-use step_model::{Hold, Op, Port, Reply};
-use tsql_tree::Statement;
-use value_types::{Key, Memory, Row, TableName, Units, Value};
-
-/// Runs a batch of these statements over a session's port: asks what they mean, and goes on by the replies. The
-/// session has then what the batch sends ([`SessionState::tokens`]). Where memory is wanting for that, the rest is
-/// left, and a transaction may be open.
-pub fn run_batch<P: Port>(
-    alloc: Global,
-    session: &mut SessionState,
-    port: &mut P,
-    statements: &[Served],
-) -> Result<(), Memory>
-    requires ready { Ready session.old (P.past port.old) }
-    ensures does { Did (P.past port.old) (P.past port.new) (batch statements.now) session.old result session.new }
-    ensures ready { Ready session.new (P.past port.new) }
-{
-    session.begin_batch();
-    let exit = run_statements(alloc, session, port, statements)?;
-    let end = batch_end(alloc, exit)?;
-    session.send(end)?;
-    Ok(())
-}
-
-/// Runs statements one after another. Each counts as it begins.
-fn run_statements<P: Port>(
-    alloc: Global,
-    session: &mut SessionState,
-    port: &mut P,
-    statements: &[Served],
-) -> Result<Exit, Memory>
-    requires ready { Ready session.old (P.past port.old) }
-    ensures does { Did (P.past port.old) (P.past port.new) (each_of statements.now) session.old result session.new }
-    ensures ready { Ready session.new (P.past port.new) }
-{
-    for statement in statements {
-        if session.is_spent() {
-            let spent = Err(Failure::plain(STATEMENTS_SPENT));
-            return finish(alloc, session, port, statement, spent);
-        }
-        session.begin_statement();
-        match run_statement(alloc, session, port, statement)? {
-            Exit::On => {}
-            Exit::End => return Ok(Exit::End),
-        }
-    }
-    Ok(Exit::On)
-}
-
-/// Runs a statement, and sends what it answers.
-fn run_statement<P: Port>(
-    alloc: Global,
-    session: &mut SessionState,
-    port: &mut P,
-    statement: &Served,
-) -> Result<Exit, Memory>
-    requires ready { Ready session.old (P.past port.old) }
-    ensures does { Did (P.past port.old) (P.past port.new) (means statement.now) session.old result session.new }
-    ensures ready { Ready session.new (P.past port.new) }
-{
-    let came = come(alloc, session, port, &statement.form);
-    finish(alloc, session, port, statement, came)
-}
-
-/// Sends what is to be sent for a statement that came to this.
-fn finish<P: Port>(
-    alloc: Global,
-    session: &mut SessionState,
-    port: &mut P,
-    statement: &Served,
-    came: Result<TokenList, Failure>,
-) -> Result<Exit, Memory>
-    requires ready { Ready session.old (P.past port.old) }
-    ensures does { Did (P.past port.old) (P.past port.new) (finished statement.now came) session.old result session.new }
-    ensures ready { Ready session.new (P.past port.new) }
-{
-    match came {
-        Ok(tokens) => {
-            session.send(tokens)?;
-            Ok(Exit::On)
-        }
-        Err(failure) => {
-            let failure = or_full(alloc, session, statement, failure)?;
-            act(alloc, session, port, statement, &failure)
-        }
-    }
-}
-
-/// The failure of a statement; where its error has more bytes than the batch may still send, one that says so.
-fn or_full(
-    alloc: Global,
-    session: &SessionState,
-    statement: &Served,
-    failure: Failure,
-) -> Result<Failure, Memory>
-    ensures { IfOk result (λ told. told ≡ or_full statement.now failure session.now) }
-{
-    let action = action_for(&statement.form, &failure);
-    let tokens = failure_tokens(alloc, statement, &failure, action)?;
-    if session.is_full(&tokens) {
-        Ok(Failure::plain(RESULT_FULL))
-    } else {
-        Ok(failure)
-    }
-}
-
-/// Sends an error of a statement, and ends what it ends.
-fn act<P: Port>(
-    alloc: Global,
-    session: &mut SessionState,
-    port: &mut P,
-    statement: &Served,
-    failure: &Failure,
-) -> Result<Exit, Memory>
-    requires ready { Ready session.old (P.past port.old) }
-    ensures does { Did (P.past port.old) (P.past port.new) (acted statement.now failure.now) session.old result session.new }
-    ensures ready { Ready session.new (P.past port.new) }
-{
-    let action = action_for(&statement.form, failure);
-    let tokens = failure_tokens(alloc, statement, failure, action)?;
-    session.send(tokens)?;
-    Ok(end_by(session, port, action))
-}
-
-/// What an error of a statement ends; a text that is refused ends its batch alone.
-fn action_for(statement: &Form, failure: &Failure) -> Action
-    ensures { result ≡ action_for statement.now failure.now }
-{
-    match statement {
-        Form::Refused { .. } => Action::Batch,
-        _ => action_of(failure.number, RaisedBy::Engine, false, false),
-    }
-}
-
-/// Ends what an error ends.
-fn end_by<P: Port>(session: &mut SessionState, port: &mut P, action: Action) -> Exit
-    requires ready { Ready session.old (P.past port.old) }
-    ensures does { Did (P.past port.old) (P.past port.new) (ended_by action) session.old (Ok result) session.new }
-    ensures ready { Ready session.new (P.past port.new) }
-{
-    match action {
-        Action::Statement => Exit::On,
-        Action::Doom => Exit::On,
-        Action::Batch => Exit::End,
-        Action::BatchAndTransaction => {
-            session.roll_back_open(port);
-            Exit::End
-        }
-    }
-}
+use step_model::{Op, Port, Reply};
+use tsql_tree::{Form as TreeForm, Statement};
+use value_types::Units;
 
 /// What comes of a statement: the tokens that are sent for it, or why it failed.
-fn come<P: Port>(
+pub(crate) fn come<P: Port>(
     alloc: Global,
     session: &mut SessionState,
     port: &mut P,
@@ -191,38 +35,108 @@ fn come<P: Port>(
     ensures ready { Ready session.new (P.past port.new) }
 {
     match statement {
-        Form::Query { statement: of } => come_of_query(alloc, session, port, statement, of),
-        Form::CreateTable { name, .. } => {
-            come_unless_objects(alloc, session, port, statement, name, OBJECT_PRESENT)
-        }
-        Form::Insert { name, .. } => {
-            come_unless_objects(alloc, session, port, statement, name, UNKNOWN_TABLE)
-        }
+        Form::Statement { statement } => come_of(alloc, session, port, statement),
         Form::NotBuilt => Err(Failure::plain(NOT_BUILT)),
         Form::Refused { code, .. } => Err(Failure::plain(*code)),
     }
 }
 
-/// What comes of a SELECT; where nothing is looked up for it nothing is asked.
-fn come_of_query<P: Port>(
+/// What comes of a statement that is served.
+fn come_of<P: Port>(
     alloc: Global,
     session: &mut SessionState,
     port: &mut P,
-    form: &Form,
     statement: &Statement,
 ) -> Result<TokenList, Failure>
     requires ready { Ready session.old (P.past port.old) }
-    requires form { form.now ≡ Query statement.now }
-    ensures does { Did (P.past port.old) (P.past port.new) (came_of form.now) session.old (Ok result) session.new }
+    ensures does { Did (P.past port.old) (P.past port.new) (with_room (if asks_any (looked_up statement.now) then own (work_of statement.now) else unasked statement.now)) session.old (Ok result) session.new }
     ensures ready { Ready session.new (P.past port.new) }
 {
-    match asks_any(alloc, statement) {
-        Ok(true) => run_own(alloc, session, port, form),
-        Ok(false) => match answered_unasked(alloc, statement) {
-            Ok(tokens) => if_bytes_left(session, tokens),
-            Err(failure) => Err(failure),
-        },
-        Err(_) => Err(Failure::plain(NO_MEMORY)),
+    match names_of(alloc, statement) {
+        Ok(names) => come_named(alloc, session, port, statement, names.as_slice()),
+        Err(_) => Err(no_memory()),
+    }
+}
+
+/// What comes of a statement that looks these names up; where nothing is looked up it is bound first.
+fn come_named<P: Port>(
+    alloc: Global,
+    session: &mut SessionState,
+    port: &mut P,
+    statement: &Statement,
+    names: &[Units],
+) -> Result<TokenList, Failure>
+    requires ready { Ready session.old (P.past port.old) }
+    requires names { names.now ≡ looked_up statement.now }
+    ensures does { Did (P.past port.old) (P.past port.new) (if asks_any (looked_up statement.now) then own (work_of statement.now) else unasked statement.now) session.old (Ok result) session.new }
+    ensures ready { Ready session.new (P.past port.new) }
+{
+    if asks_any(names) {
+        return run_own(alloc, session, port, statement, names);
+    }
+    match bound(alloc, statement, &[]) {
+        Ok(of) => come_unasked(alloc, session, port, statement, names, &of),
+        Err(failure) => Err(failure),
+    }
+}
+
+/// Whether something is asked where these names are looked up: the first is.
+fn asks_any(names: &[Units]) -> bool
+    ensures { result ≡ asks_any names.now }
+{
+    match names {
+        [name, ..] => !is_objects(name),
+        [] => false,
+    }
+}
+
+/// What comes of a statement that looks nothing up, by what it is bound to.
+fn come_unasked<P: Port>(
+    alloc: Global,
+    session: &mut SessionState,
+    port: &mut P,
+    statement: &Statement,
+    names: &[Units],
+    of: &Bound,
+) -> Result<TokenList, Failure>
+    requires ready { Ready session.old (P.past port.old) }
+    requires names { names.now ≡ looked_up statement.now }
+    requires bound { bound_over [] statement.now ≡ Ok of.now }
+    ensures does { Did (P.past port.old) (P.past port.new) (done_unasked statement.now of.now) session.old (Ok result) session.new }
+    ensures ready { Ready session.new (P.past port.new) }
+{
+    match of {
+        Bound::Query(query) if is_select(statement) => {
+            let tokens = answer(alloc, query, &[])?;
+            if_bytes_left(session, tokens)
+        }
+        Bound::Query(_) => Err(Failure::plain(NOT_BUILT)),
+        Bound::Plain => come_plain(alloc, session, port, statement, names),
+        Bound::Write(_) => Err(Failure::plain(NOT_BUILT)),
+        Bound::Assign(_, _) => Err(Failure::plain(NOT_BUILT)),
+    }
+}
+
+/// What comes of such a statement that is bound to nothing: a table may be created.
+fn come_plain<P: Port>(
+    alloc: Global,
+    session: &mut SessionState,
+    port: &mut P,
+    statement: &Statement,
+    names: &[Units],
+) -> Result<TokenList, Failure>
+    requires ready { Ready session.old (P.past port.old) }
+    requires names { names.now ≡ looked_up statement.now }
+    ensures does { Did (P.past port.old) (P.past port.new) (plain_unasked (form_of statement.now) (own (work_of statement.now))) session.old (Ok result) session.new }
+    ensures ready { Ready session.new (P.past port.new) }
+{
+    match &statement.form {
+        TreeForm::CreateTable(table, _) if is_objects(&table.get().name) => {
+            Err(naming(alloc, OBJECT_PRESENT, &table.get().name))
+        }
+        TreeForm::CreateTable(_, _) => run_own(alloc, session, port, statement, names),
+        TreeForm::Drop(_, name) => Err(naming(alloc, NOT_THERE, name)),
+        _ => Err(Failure::plain(NOT_BUILT)),
     }
 }
 
@@ -237,49 +151,32 @@ fn if_bytes_left(session: &SessionState, tokens: TokenList) -> Result<TokenList,
     }
 }
 
-/// What comes of a statement on a table; `objects` is no table of a batch.
-fn come_unless_objects<P: Port>(
-    alloc: Global,
-    session: &mut SessionState,
-    port: &mut P,
-    statement: &Form,
-    name: &Units,
-    number: u16,
-) -> Result<TokenList, Failure>
-    requires ready { Ready session.old (P.past port.old) }
-    ensures does { Did (P.past port.old) (P.past port.new) (unless_objects name.now number (work_of statement.now)) session.old (Ok result) session.new }
-    ensures ready { Ready session.new (P.past port.new) }
-{
-    if is_objects(name) {
-        return Err(Failure::plain(number));
-    }
-    run_own(alloc, session, port, statement)
-}
-
 /// Runs a statement within the open transaction, or as one of its own.
 fn run_own<P: Port>(
     alloc: Global,
     session: &mut SessionState,
     port: &mut P,
-    statement: &Form,
+    statement: &Statement,
+    names: &[Units],
 ) -> Result<TokenList, Failure>
     requires ready { Ready session.old (P.past port.old) }
+    requires names { names.now ≡ looked_up statement.now }
     ensures does { Did (P.past port.old) (P.past port.new) (own (work_of statement.now)) session.old (Ok result) session.new }
     ensures ready { Ready session.new (P.past port.new) }
 {
     if session.in_transaction() {
-        let came = work(alloc, session, port, statement);
+        let came = work(alloc, session, port, statement, names);
         relax(session, port);
         return came;
     }
     match session.ask(port, &Op::Begin) {
         Reply::Began => {
-            let came = work(alloc, session, port, statement);
+            let came = work(alloc, session, port, statement, names);
             relax(session, port);
             close(session, port, came.is_ok());
             came
         }
-        Reply::Memory => Err(Failure::plain(NO_MEMORY)),
+        Reply::Memory => Err(no_memory()),
         _ => unreachable!(),
     }
 }
@@ -325,259 +222,16 @@ fn work<P: Port>(
     alloc: Global,
     session: &mut SessionState,
     port: &mut P,
-    statement: &Form,
+    statement: &Statement,
+    names: &[Units],
 ) -> Result<TokenList, Failure>
     requires ready { Ready session.old (P.past port.old) }
     requires begun { session.old.is_open ≡ true }
+    requires names { names.now ≡ looked_up statement.now }
     ensures does { Did (P.past port.old) (P.past port.new) (work_of statement.now) session.old (Ok result) session.new }
     ensures ready { Ready session.new (P.past port.new) }
     ensures begun { session.new.is_open ≡ true }
 {
-    let tokens = run(alloc, session, port, statement)?;
+    let tokens = run(alloc, session, port, statement, names)?;
     if_bytes_left(session, tokens)
-}
-
-/// What a statement does within a transaction.
-fn run<P: Port>(
-    alloc: Global,
-    session: &mut SessionState,
-    port: &mut P,
-    statement: &Form,
-) -> Result<TokenList, Failure>
-    requires ready { Ready session.old (P.past port.old) }
-    requires begun { session.old.is_open ≡ true }
-    ensures does { Did (P.past port.old) (P.past port.new) (done_for statement.now) session.old (Ok result) session.new }
-    ensures ready { Ready session.new (P.past port.new) }
-    ensures begun { session.new.is_open ≡ true }
-{
-    match statement {
-        Form::Query { statement } => select(alloc, session, port, statement),
-        Form::CreateTable { name, text } => create(alloc, session, port, name, text),
-        Form::Insert { name, key, value } => insert(alloc, session, port, name, *key, *value),
-        Form::NotBuilt => Err(Failure::plain(NOT_BUILT)),
-        Form::Refused { code, .. } => Err(Failure::plain(*code)),
-    }
-}
-
-/// Adds a table's definition.
-fn create<P: Port>(
-    alloc: Global,
-    session: &mut SessionState,
-    port: &mut P,
-    name: &Units,
-    text: &Units,
-) -> Result<TokenList, Failure>
-    requires ready { Ready session.old (P.past port.old) }
-    requires begun { session.old.is_open ≡ true }
-    ensures does { Did (P.past port.old) (P.past port.new) (creates name.now text.now) session.old (Ok result) session.new }
-    ensures ready { Ready session.new (P.past port.new) }
-    ensures begun { session.new.is_open ≡ true }
-{
-    put_object(alloc, session, port, name, text)?;
-    Ok(no_tokens(alloc))
-}
-
-/// Adds a row to a table.
-fn insert<P: Port>(
-    alloc: Global,
-    session: &mut SessionState,
-    port: &mut P,
-    name: &Units,
-    key: i64,
-    value: i64,
-) -> Result<TokenList, Failure>
-    requires ready { Ready session.old (P.past port.old) }
-    requires begun { session.old.is_open ≡ true }
-    ensures does { Did (P.past port.old) (P.past port.new) (inserts name.now key value) session.old (Ok result) session.new }
-    ensures ready { Ready session.new (P.past port.new) }
-    ensures begun { session.new.is_open ≡ true }
-{
-    find(alloc, session, port, name)?;
-    look_for_triggers(alloc, session, port)?;
-    put_row(alloc, session, port, name, key, value)?;
-    sent_for_row(alloc)
-}
-
-/// Looks up the table that a row is inserted into.
-fn find<P: Port>(
-    alloc: Global,
-    session: &mut SessionState,
-    port: &mut P,
-    name: &Units,
-) -> Result<(), Failure>
-    requires ready { Ready session.old (P.past port.old) }
-    requires begun { session.old.is_open ≡ true }
-    ensures does { Did (P.past port.old) (P.past port.new) (finds name.now) session.old (Ok result) session.new }
-    ensures ready { Ready session.new (P.past port.new) }
-    ensures begun { session.new.is_open ≡ true }
-{
-    let found = look_up(alloc, session, port, name)?;
-    as_served(name, &found)
-}
-
-/// What is sent for a row.
-fn sent_for_row(alloc: Global) -> Result<TokenList, Failure>
-    ensures { IsOrMemory (Ok inserted_tokens) result }
-{
-    match inserted_tokens(alloc) {
-        Ok(tokens) => Ok(tokens),
-        Err(_) => Err(Failure::plain(NO_MEMORY)),
-    }
-}
-
-/// Looks for triggers, and for tables that refer to the one written; there are none.
-fn look_for_triggers<P: Port>(
-    alloc: Global,
-    session: &mut SessionState,
-    port: &mut P,
-) -> Result<RowList, Failure>
-    requires ready { Ready session.old (P.past port.old) }
-    requires begun { session.old.is_open ≡ true }
-    ensures does { Did (P.past port.old) (P.past port.new) (reads_rows None (table_of objects_name) hold.Range) session.old (Ok result) session.new }
-    ensures ready { Ready session.new (P.past port.new) }
-    ensures begun { session.new.is_open ≡ true }
-{
-    match objects(alloc) {
-        Ok(table) => read_rows(alloc, session, port, None, table, Hold::Range),
-        Err(_) => Err(Failure::plain(NO_MEMORY)),
-    }
-}
-
-/// Puts a table's definition at its key.
-fn put_object<P: Port>(
-    alloc: Global,
-    session: &mut SessionState,
-    port: &mut P,
-    name: &Units,
-    text: &Units,
-) -> Result<(), Failure>
-    requires ready { Ready session.old (P.past port.old) }
-    requires begun { session.old.is_open ≡ true }
-    ensures does { Did (P.past port.old) (P.past port.new) (puts (table_of objects_name) (object_key name.now) (row_of name.now text.now) object_present) session.old (Ok result) session.new }
-    ensures ready { Ready session.new (P.past port.new) }
-    ensures begun { session.new.is_open ≡ true }
-{
-    match object_change(alloc, name, text) {
-        Ok((table, key, row)) => put(session, port, table, key, row, OBJECT_PRESENT),
-        Err(_) => Err(Failure::plain(NO_MEMORY)),
-    }
-}
-
-/// Puts a row at its key of a table.
-fn put_row<P: Port>(
-    alloc: Global,
-    session: &mut SessionState,
-    port: &mut P,
-    name: &Units,
-    key: i64,
-    value: i64,
-) -> Result<(), Failure>
-    requires ready { Ready session.old (P.past port.old) }
-    requires begun { session.old.is_open ≡ true }
-    ensures does { Did (P.past port.old) (P.past port.new) (puts (table_of name.now) (table_key key) (table_row key value) duplicate_key) session.old (Ok result) session.new }
-    ensures ready { Ready session.new (P.past port.new) }
-    ensures begun { session.new.is_open ≡ true }
-{
-    match table_change(alloc, name, key, value) {
-        Ok((table, key, row)) => put(session, port, table, key, row, DUPLICATE_KEY),
-        Err(_) => Err(Failure::plain(NO_MEMORY)),
-    }
-}
-
-/// Puts a row at a key behind a mark. The number is the error where a row stands there.
-fn put<P: Port>(
-    session: &mut SessionState,
-    port: &mut P,
-    table: TableName,
-    key: Key,
-    row: Row,
-    present: u16,
-) -> Result<(), Failure>
-    requires ready { Ready session.old (P.past port.old) }
-    requires begun { session.old.is_open ≡ true }
-    ensures does { Did (P.past port.old) (P.past port.new) (asks ops.Mark (unless_refused (marked (asks (ops.Insert table key row) (unless_refused (placed present)))))) session.old (Ok result) session.new }
-    ensures ready { Ready session.new (P.past port.new) }
-    ensures begun { session.new.is_open ≡ true }
-{
-    match session.ask(port, &Op::Mark) {
-        Reply::Marked(_) => insert_row(session, port, table, key, row, present),
-        Reply::Memory => Err(Failure::plain(NO_MEMORY)),
-        _ => unreachable!(),
-    }
-}
-
-/// Inserts a row.
-fn insert_row<P: Port>(
-    session: &mut SessionState,
-    port: &mut P,
-    table: TableName,
-    key: Key,
-    row: Row,
-    present: u16,
-) -> Result<(), Failure>
-    requires ready { Ready session.old (P.past port.old) }
-    requires begun { session.old.is_open ≡ true }
-    ensures does { Did (P.past port.old) (P.past port.new) (asks (ops.Insert table key row) (unless_refused (placed present))) session.old (Ok result) session.new }
-    ensures ready { Ready session.new (P.past port.new) }
-    ensures begun { session.new.is_open ≡ true }
-{
-    match session.ask(port, &Op::Insert { table, key, row }) {
-        Reply::Done => Ok(()),
-        Reply::Exists => Err(Failure::plain(present)),
-        Reply::Memory => Err(Failure::plain(NO_MEMORY)),
-        Reply::TimedOut { .. } => Err(Failure::plain(LOCK_TIMEOUT)),
-        Reply::Victim { .. } => Err(Failure::plain(DEADLOCK)),
-        _ => unreachable!(),
-    }
-}
-
-/// The table of definitions, and a definition's key and row.
-fn object_change(alloc: Global, name: &Units, text: &Units) -> Result<(TableName, Key, Row), Memory>
-    ensures { IfOk result (λ change. change ≡ (table_of objects_name, object_key name.now, row_of name.now text.now)) }
-{
-    Ok((
-        objects(alloc)?,
-        object_key(alloc, name)?,
-        row_of(alloc, name, text)?,
-    ))
-}
-
-/// A table, and a row of it with its key.
-fn table_change(
-    alloc: Global,
-    name: &Units,
-    key: i64,
-    value: i64,
-) -> Result<(TableName, Key, Row), Memory>
-    ensures { IfOk result (λ change. change ≡ (table_of name.now, table_key key, table_row key value)) }
-{
-    Ok((
-        table(alloc, name)?,
-        table_key(alloc, key)?,
-        table_row(alloc, key, value)?,
-    ))
-}
-
-/// The table of this name.
-fn table(alloc: Global, name: &Units) -> Result<TableName, Memory>
-    ensures { IfOk result (λ table. table ≡ table_of name.now) }
-{
-    Ok(TableName {
-        object: name.copy(alloc)?,
-        part: 0,
-    })
-}
-
-/// The key of a table's row.
-fn table_key(alloc: Global, key: i64) -> Result<Key, Memory>
-    ensures { IfOk result (λ made. made ≡ table_key key) }
-{
-    Ok(Key::new(vec![in alloc; Value::Whole(key)]?))
-}
-
-/// A table's row.
-fn table_row(alloc: Global, key: i64, value: i64) -> Result<Row, Memory>
-    ensures { IfOk result (λ row. row ≡ table_row key value) }
-{
-    Ok(Row::from(vec![in alloc; Value::Whole(key), Value::Whole(value)]?))
 }

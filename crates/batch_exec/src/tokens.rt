@@ -3,18 +3,19 @@
 ghost use Rattle.std.specs.Prelude.{◌≡◌, ◌++◌, ◌∷◌, ◌<◌, [], All, take, IfOk};
 ghost use Rattle.error_table.specs.Table.{row_of};
 ghost use Rattle.error_table.specs.Text.{text_with};
+ghost use Rattle.tsql_tree.specs.declared.statement.Form.{out-Form};
 ghost use Rattle.batch_exec.specs.Sendable.{IsResult};
-ghost use Rattle.batch_meaning.specs.Tokens.{error_of, name_in, own_subject, subject_of, command_of, statement_done, statement_failed, batch_done, row_tokens, result_tokens, inserted_tokens, failure_token, failure_tokens};
+ghost use Rattle.batch_meaning.specs.Tokens.{error_of, near_of, subject_of, command_in, command_of, statement_done, statement_failed, batch_done, row_tokens, result_tokens, written_tokens, failure_token, failure_tokens};
 
-use crate::numbers::DUPLICATE_KEY;
 use crate::sendable::TokenList;
 use batch_meaning::{Exit, Failure, Form, Served};
 use error_table::{Action, parts_of, row_of};
 use std::alloc::Global;
 use tds_tokens::{
-    COMMAND_INSERT, COMMAND_NONE, COMMAND_SELECT, ColumnList, DONE_COUNT, DONE_ERROR, DONE_FINAL,
-    DONE_MORE, DoneKind, Notice, Token,
+    COMMAND_DELETE, COMMAND_INSERT, COMMAND_NONE, COMMAND_SELECT, COMMAND_UPDATE, ColumnList,
+    DONE_COUNT, DONE_ERROR, DONE_FINAL, DONE_MORE, DoneKind, Notice, Token,
 };
+use tsql_tree::Form as TreeForm;
 use value_types::{Memory, Row, Units};
 
 // ---- what a statement sends
@@ -53,11 +54,11 @@ fn push_rows(tokens: &mut Vec<Token>, rows: Vec<Row>) -> Result<(), Memory>
     Ok(())
 }
 
-/// A row was inserted.
-pub(crate) fn inserted_tokens(alloc: Global) -> Result<TokenList, Memory>
-    ensures { IfOk result (λ tokens. tokens ≡ inserted_tokens) }
+/// So many rows were written.
+pub(crate) fn written_tokens(alloc: Global, command: u16, rows: u64) -> Result<TokenList, Memory>
+    ensures { IfOk result (λ tokens. tokens ≡ written_tokens command rows) }
 {
-    Ok(TokenList::new(vec![in alloc; statement_done(COMMAND_INSERT, 1)]?))
+    Ok(TokenList::new(vec![in alloc; statement_done(command, rows)]?))
 }
 
 /// Nothing.
@@ -116,9 +117,20 @@ fn command_of(statement: &Form) -> u16
     ensures { result ≡ command_of statement.now }
 {
     match statement {
-        Form::Query { .. } => COMMAND_SELECT,
-        Form::Insert { .. } => COMMAND_INSERT,
-        Form::CreateTable { .. } | Form::NotBuilt | Form::Refused { .. } => COMMAND_NONE,
+        Form::Statement { statement } => command_in(&statement.form),
+        Form::NotBuilt | Form::Refused { .. } => COMMAND_NONE,
+    }
+}
+
+fn command_in(form: &TreeForm) -> u16
+    ensures { result ≡ command_in (out-Form form.now) }
+{
+    match form {
+        TreeForm::Select(_) => COMMAND_SELECT,
+        TreeForm::Insert(_, _, _) => COMMAND_INSERT,
+        TreeForm::Update(_, _, _) => COMMAND_UPDATE,
+        TreeForm::Delete(_, _) => COMMAND_DELETE,
+        _ => COMMAND_NONE,
     }
 }
 
@@ -172,30 +184,17 @@ fn subject_of(alloc: Global, statement: &Form, failure: &Failure) -> Result<Unit
 {
     match &failure.name {
         Some(name) => name.copy(alloc),
-        None => own_subject(alloc, statement, failure.number),
+        None => around(alloc, "", near_of(statement), ""),
     }
 }
 
-/// What a statement names, or the constraint of its table's key.
-fn own_subject(alloc: Global, statement: &Form, number: i32) -> Result<Units, Memory>
-    ensures { IfOk result (λ subject. subject ≡ own_subject statement.now number) }
-{
-    let before = if number == i32::from(DUPLICATE_KEY) {
-        "PK_"
-    } else {
-        ""
-    };
-    around(alloc, before, name_in(statement), "")
-}
-
-/// The table that a statement names, or nothing.
-fn name_in(statement: &Form) -> &[u16]
-    ensures { result.now ≡ name_in statement.now }
+/// What is shown of a refused text, or nothing.
+fn near_of(statement: &Form) -> &[u16]
+    ensures { result.now ≡ near_of statement.now }
 {
     match statement {
-        Form::CreateTable { name, .. } | Form::Insert { name, .. } => name.as_slice(),
         Form::Refused { near, .. } => near.as_slice(),
-        Form::Query { .. } | Form::NotBuilt => &[],
+        Form::Statement { .. } | Form::NotBuilt => &[],
     }
 }
 

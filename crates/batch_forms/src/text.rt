@@ -1,35 +1,18 @@
 //! Texts: the statements that one is read as, by their trees.
 
-ghost use Rattle.std.specs.Prelude.{◌≡◌, ◌++◌, ◌≤◌, ◌<◌, ◌&&◌, ◌^◌, false, if◌then◌else◌, All, Some, Err, IfOk, map, length, nat_le};
+ghost use Rattle.std.specs.Prelude.{◌≡◌, ◌<◌, ◌&&◌, ◌^◌, false, [], ◌∷◌, if◌then◌else◌, Err, IfOk, map};
 ghost use Rattle.std.specs.List.{list_all};
-ghost use Rattle.value_types.specs.Units.{same_units};
-ghost use Rattle.batch_meaning.specs.Selecting.{as_served, is_named};
-ghost use Rattle.batch_meaning.specs.Statements.{served_table, name_limit, is_int_type, is_int_column, are_columns, is_sole_name, are_keys, is_table_tree, number_in, int_in, row_form, inserted, create_form, form_of, is_select_step, is_select, query_at, sole_statement, selects_of, not_built_statement, served_at, statements_of, is_system, is_of_session, is_session_function, is_open, names_session_behind, names_session, AreRead, ReadsAs};
-ghost use Rattle.batch_meaning.specs.Tables.{key_prefix};
-ghost use Rattle.tsql_tree.specs.declared.statement.Form.{out-Form};
-ghost use Rattle.tsql_tree.specs.declared.statement.Statement.{out-Statement};
+ghost use Rattle.batch_meaning.specs.Statements.{is_table_kind, is_served, statement_at, served_of, not_built_statement, statements_of, is_system, is_of_session, is_session_function, is_open, names_session_behind, names_session, AreRead, ReadsAs};
 ghost use Rattle.query_parser.specs.declared.fault.ParseFault.TheVariants.{Refused as RefusedFault};
 
-use batch_meaning::{Failure, Form, Served};
+use batch_meaning::{Form, Served};
 use sqlite_items::Items;
 use std::alloc::Global;
 use stmt_parser::{ParseFault, parse_batch};
 use tsql_grammar::{Function, Kind, kind_of};
 use tsql_lexer::{Sign, Spanned, lexing_of};
-use tsql_tree::{
-    Batch, ColumnTree, Definition, Expr, Form as TreeForm, InsertRows, KeyTree, Statement,
-    TableTree,
-};
-use value_types::{Memory, SqlType, Units};
-
-/// The error of a table that is not there.
-const UNKNOWN_TABLE: u16 = 208;
-
-/// The most units of a name.
-const NAME_LIMIT: usize = 128;
-
-/// The most units of the name of a table that is created: its key's name has three more, and 128 at most.
-const CREATED_LIMIT: usize = 125;
+use tsql_tree::{Batch, DropKind, Form as TreeForm, Statement};
+use value_types::{Memory, Units};
 
 /// The statements that a text is read as.
 pub fn read_statements(alloc: Global, text: &Units) -> Result<Vec<Served>, Memory>
@@ -72,74 +55,81 @@ fn statements_of(alloc: Global, text: &Units, batch: Batch) -> Result<Vec<Served
     }
 }
 
-/// The statements of the body of a batch: SELECTs, or a statement that stands alone.
+/// The statements of the body of a batch, where all of them are served.
 fn body_of(alloc: Global, text: &Units, body: Items<Statement>) -> Result<Vec<Served>, Memory>
-    ensures { IfOk result (λ statements. statements.items ≡ (if list_all is_select body then selects_of (names_session text.now) body else sole_statement body)) }
+    ensures { IfOk result (λ statements. statements.items ≡ (if list_all is_served body then served_of (names_session text.now) body else not_built_statement ∷ [])) }
 {
-    if are_selects(body.as_slice()) {
-        selects_of(alloc, text, body)
+    if are_served(body.as_slice()) {
+        served_of(alloc, text, body)
     } else {
-        sole_statement(alloc, body.as_slice())
+        Ok(vec![in alloc; not_built()]?)
     }
 }
 
-/// Whether all statements are SELECTs.
-fn are_selects(body: &[Statement]) -> bool
-    ensures { result ≡ list_all is_select body.now }
+/// Whether all statements are served.
+fn are_served(body: &[Statement]) -> bool
+    ensures { result ≡ list_all is_served body.now }
 {
-    body.iter().all(is_select)
+    body.iter().all(is_served)
 }
 
-/// SELECTs, unless their text names a value of the session.
-fn selects_of(alloc: Global, text: &Units, body: Items<Statement>) -> Result<Vec<Served>, Memory>
-    ensures { IfOk result (λ statements. statements.items ≡ selects_of (names_session text.now) body) }
+/// Whether a statement is served.
+fn is_served(statement: &Statement) -> bool
+    ensures { result ≡ is_served statement.now }
+{
+    match &statement.form {
+        TreeForm::Select(_) => true,
+        TreeForm::Insert(_, _, _) => true,
+        TreeForm::Update(_, _, _) => true,
+        TreeForm::Delete(_, _) => true,
+        TreeForm::CreateTable(_, _) => true,
+        TreeForm::Drop(kind, _) => is_table_kind(*kind),
+        _ => false,
+    }
+}
+
+fn is_table_kind(kind: DropKind) -> bool
+    ensures { result ≡ is_table_kind kind }
+{
+    match kind {
+        DropKind::Table => true,
+        _ => false,
+    }
+}
+
+/// Statements, unless their text names a value of the session.
+fn served_of(alloc: Global, text: &Units, body: Items<Statement>) -> Result<Vec<Served>, Memory>
+    ensures { IfOk result (λ statements. statements.items ≡ served_of (names_session text.now) body) }
 {
     if names_session(alloc, text)? {
         Ok(vec![in alloc; not_built()]?)
     } else {
-        queries(alloc, body)
+        statements_at(alloc, body)
     }
 }
 
-/// Whether a statement is a SELECT.
-pub fn is_select(statement: &Statement) -> bool
-    ensures { result ≡ is_select statement.now }
+/// Statements one after another.
+fn statements_at(alloc: Global, mut body: Items<Statement>) -> Result<Vec<Served>, Memory>
+    ensures { IfOk result (λ statements. statements.items ≡ map statement_at body) }
 {
-    matches!(statement.form, TreeForm::Select(_))
-}
-
-/// SELECTs one after another.
-fn queries(alloc: Global, mut body: Items<Statement>) -> Result<Vec<Served>, Memory>
-    ensures { IfOk result (λ statements. statements.items ≡ map query_at body) }
-{
-    let mut queries = Vec::with_capacity(alloc, body.len())?;
+    let mut statements = Vec::with_capacity(alloc, body.len())?;
     while let Some(statement) = body.pop() {
-        queries.push(query_at(statement)?)?;
+        statements.push(statement_at(statement)?)?;
     }
-    queries.reverse();
-    Ok(queries)
+    statements.reverse();
+    Ok(statements)
 }
 
-/// A SELECT at its line, which is told as an `i32`.
-fn query_at(statement: Statement) -> Result<Served, Memory>
-    ensures { IfOk result (λ served. served ≡ query_at statement) }
+/// A statement at its line, which is told as an `i32`.
+fn statement_at(statement: Statement) -> Result<Served, Memory>
+    ensures { IfOk result (λ served. served ≡ statement_at statement) }
 {
     match i32::try_from(statement.line) {
         Ok(line) => Ok(Served {
             line,
-            form: Form::Query { statement },
+            form: Form::Statement { statement },
         }),
         Err(_) => Err(Memory),
-    }
-}
-
-/// One statement, of a form that is served.
-fn sole_statement(alloc: Global, body: &[Statement]) -> Result<Vec<Served>, Memory>
-    ensures { IfOk result (λ statements. statements.items ≡ sole_statement body.now) }
-{
-    match body {
-        [statement] => Ok(vec![in alloc; served(alloc, statement)?]?),
-        _ => Ok(vec![in alloc; not_built()]?),
     }
 }
 
@@ -150,19 +140,6 @@ fn not_built() -> Served
     Served {
         line: 1,
         form: Form::NotBuilt,
-    }
-}
-
-/// A statement as one that is served. Its line is told as an `i32`.
-fn served(alloc: Global, statement: &Statement) -> Result<Served, Memory>
-    ensures { IfOk result (λ served. served ≡ served_at (out-Statement statement.now).line (form_of (out-Statement statement.now).form)) }
-{
-    let Some(form) = form_of(alloc, &statement.form)? else {
-        return Ok(not_built());
-    };
-    match i32::try_from(statement.line) {
-        Ok(line) => Ok(Served { line, form }),
-        Err(_) => Err(Memory),
     }
 }
 
@@ -234,193 +211,4 @@ fn is_open(kind: Kind) -> bool
     ensures { result ≡ is_open kind }
 {
     matches!(kind, Kind::Sign(Sign::Open))
-}
-
-// ---- definitions
-
-/// Whether what a name is defined as is a table that rows may be inserted into; else error 208.
-pub fn as_served(name: &Units, found: &Option<Definition>) -> Result<(), Failure>
-    ensures { result ≡ as_served name.now found.now }
-{
-    match found {
-        Some(definition) if is_served(name, definition) => Ok(()),
-        _ => Err(Failure::plain(UNKNOWN_TABLE)),
-    }
-}
-
-// ---- statements by their trees
-
-/// The form of a statement that is served.
-fn form_of(alloc: Global, form: &TreeForm) -> Result<Option<Form>, Memory>
-    ensures { IfOk result (λ found. found ≡ form_of form.now) }
-{
-    match form {
-        TreeForm::Insert(name, columns, rows) => {
-            inserted(alloc, name, columns.as_slice(), rows.get())
-        }
-        TreeForm::CreateTable(table, text) => create_form(alloc, table.get(), text),
-        _ => Ok(None),
-    }
-}
-
-/// The form of a CREATE TABLE, which keeps its text.
-fn create_form(alloc: Global, table: &TableTree, text: &Units) -> Result<Option<Form>, Memory>
-    ensures { IfOk result (λ found. found ≡ create_form table.now text.now) }
-{
-    if !is_created(table) {
-        return Ok(None);
-    }
-    Ok(Some(Form::CreateTable {
-        name: table.name.copy(alloc)?,
-        text: text.copy(alloc)?,
-    }))
-}
-
-// ---- INSERT
-
-/// The form of an INSERT of one row of two numbers.
-fn inserted(
-    alloc: Global,
-    name: &Units,
-    columns: &[Units],
-    rows: &InsertRows,
-) -> Result<Option<Form>, Memory>
-    ensures { IfOk result (λ found. found ≡ inserted name.now columns.now rows.now) }
-{
-    match (columns, rows) {
-        ([], InsertRows::Values(rows)) => match rows.as_slice() {
-            [row] => row_form(alloc, name, row.as_slice()),
-            _ => Ok(None),
-        },
-        _ => Ok(None),
-    }
-}
-
-/// The form of an INSERT of these values.
-fn row_form(alloc: Global, name: &Units, row: &[Expr]) -> Result<Option<Form>, Memory>
-    ensures { IfOk result (λ found. found ≡ row_form name.now row.now) }
-{
-    let [key, value] = row else {
-        return Ok(None);
-    };
-    if NAME_LIMIT < name.len() {
-        return Ok(None);
-    }
-    let (Some(key), Some(value)) = (int_in(key), int_in(value)) else {
-        return Ok(None);
-    };
-    Ok(Some(Form::Insert {
-        name: name.copy(alloc)?,
-        key,
-        value,
-    }))
-}
-
-// ---- expressions
-
-/// The number that an expression is; parentheses round it vanish.
-#[tactic(auto, unfolding(batch_meaning::specs::Statements::number_in))]
-fn number_in(expr: &Expr) -> Option<i64>
-    ensures { result ≡ number_in expr.now }
-{
-    match expr {
-        Expr::Number(number) => Some(*number),
-        Expr::Parens(inner) => number_in(inner.get()),
-        _ => None,
-    }
-}
-
-/// The number of the range of INT that an expression is.
-fn int_in(expr: &Expr) -> Option<i64>
-    ensures { result ≡ int_in expr.now }
-{
-    let number = number_in(expr)?;
-    if i64::from(i32::MIN) <= number && number <= i64::from(i32::MAX) {
-        Some(number)
-    } else {
-        None
-    }
-}
-
-/// Whether a definition is one of a table of this name that is served.
-fn is_served(name: &Units, definition: &Definition) -> bool
-    ensures { result ≡ is_named name.now (served_table definition.now) }
-{
-    match definition {
-        Definition::Table(table) => is_created(table) && table.name == *name,
-        _ => false,
-    }
-}
-
-/// Whether a table is one that is served.
-fn is_created(table: &TableTree) -> bool
-    ensures { result ≡ (is_table_tree table.now && nat_le (length (key_prefix ++ table.now.name)) name_limit) }
-{
-    is_table_tree(table) && table.name.len() <= CREATED_LIMIT
-}
-
-/// Whether a table has the columns k and v, its key and no other constraint.
-fn is_table_tree(table: &TableTree) -> bool
-    ensures { result ≡ is_table_tree table.now }
-{
-    are_columns(table.columns.as_slice())
-        && are_keys(&table.name, table.key.as_slice())
-        && table.uniques.is_empty()
-        && table.checks.is_empty()
-        && table.foreigns.is_empty()
-}
-
-/// Whether columns are k and v.
-fn are_columns(columns: &[ColumnTree]) -> bool
-    ensures { result ≡ are_columns columns.now }
-{
-    match columns {
-        [key, value] => is_int_column("k", key) && is_int_column("v", value),
-        _ => false,
-    }
-}
-
-/// Whether a column is `name INT NOT NULL`.
-fn is_int_column(name: &str, column: &ColumnTree) -> bool
-    requires ascii { All (λ byte. byte < 128) name.now }
-    ensures { result ≡ is_int_column name.now column.now }
-{
-    column.name.is(name) && is_int_type(column.kind) && column.required
-}
-
-fn is_int_type(kind: SqlType) -> bool
-    ensures { result ≡ is_int_type kind }
-{
-    kind == SqlType::Int
-}
-
-/// Whether there is one key, of k, named as one is that is given no name.
-fn are_keys(table: &Units, keys: &[KeyTree]) -> bool
-    ensures { result ≡ are_keys table.now keys.now }
-{
-    match keys {
-        [key] => is_key_name(&key.name, table) && is_sole_name("k", key.columns.as_slice()),
-        _ => false,
-    }
-}
-
-/// Whether a name is that of the table's key.
-fn is_key_name(name: &Units, table: &Units) -> bool
-    ensures { result ≡ same_units name.now (key_prefix ++ table.now) }
-{
-    match name.as_slice() {
-        [0x50, 0x4B, 0x5F, rest @ ..] => rest == table.as_slice(),
-        _ => false,
-    }
-}
-
-/// Whether the names are this one alone.
-fn is_sole_name(name: &str, names: &[Units]) -> bool
-    requires ascii { All (λ byte. byte < 128) name.now }
-    ensures { result ≡ is_sole_name name.now names.now }
-{
-    match names {
-        [other] => other.is(name),
-        _ => false,
-    }
 }

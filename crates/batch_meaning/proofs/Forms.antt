@@ -1,47 +1,23 @@
 -- Worked trees and lexemes: which statements are served.
-use Rattle.std.proofs.Common.{◌≡◌, ℤ, pos, true, false, [], ◌∷◌, None, Some, refl, sym, ap, ◌∙◌, rules}
+use Rattle.std.proofs.Common.{◌≡◌, pos, true, false, [], ◌∷◌, None, refl, sym, ap, ◌∙◌}
 use Rattle.std.specs.Prelude.{codes}
 use Rattle.tsql_lexer.specs.declared.lexeme.Lexeme.{Lexeme}
 use Rattle.tsql_lexer.specs.declared.lexeme.Lexeme.TheVariants as lexeme
 use Rattle.tsql_lexer.specs.declared.lexeme.Sign.TheVariants as sign
 use Rattle.tsql_lexer.specs.declared.lexeme.Spanned.{Spanned}
-use Rattle.tsql_tree.specs.declared.query.Expr.{fold-roll-Expr}
 use Rattle.tsql_tree.specs.declared.query.Expr.TheVariants as expr
 use Rattle.tsql_tree.specs.declared.query.Item.TheVariants as item
 use Rattle.tsql_tree.specs.declared.query.Select.{Select, roll-Select}
 use Rattle.tsql_tree.specs.declared.statement.Batch.TheVariants.{Body}
+use Rattle.tsql_tree.specs.declared.statement.DropKind.{DropKind}
+use Rattle.tsql_tree.specs.declared.statement.DropKind.TheVariants as drop
 use Rattle.tsql_tree.specs.declared.statement.Form.{Form as TreeForm, Form-F, out-Form, out-roll-Form}
 use Rattle.tsql_tree.specs.declared.statement.Form.TheVariants as tree
-use Rattle.tsql_tree.specs.declared.statement.InsertRows.TheVariants.{Values}
-use Rattle.tsql_tree.specs.declared.statement.InsertRows.{InsertRows}
 use Rattle.tsql_tree.specs.declared.statement.Statement.{Statement, roll-Statement, out-roll-Statement}
 use Rattle.tsql_grammar.specs.Words.{word_kind, system_kind}
-use Rattle.batch_meaning.specs.declared.form.Form.TheVariants.{CreateTable, Insert}
-use Rattle.batch_meaning.specs.Statements.{number_in, form_step, form_of, is_select_step, is_select, query_at, statements_of, not_built_statement, names_session_behind}
-use Rattle.batch_meaning.proofs.StandardFacts.{t, definition_text, table_tree}
+use Rattle.batch_meaning.specs.Statements.{is_built, is_served, statement_at, statements_of, not_built_statement, names_session_behind}
 
--- ---- CREATE TABLE t (k INT NOT NULL PRIMARY KEY, v INT NOT NULL)
-
-create_form : form_of (tree.CreateTable table_tree definition_text) ≡ Some (CreateTable t definition_text)
-create_form = ap form_of (sym (tree.rolls-CreateTable table_tree definition_text)) ∙ ap form_step (out-roll-Form (Form-F.CreateTable table_tree definition_text))
-
--- ---- expressions
-
-number_value : (n : ℤ) → number_in (expr.Number n) ≡ Some n
-unfolding number_in
-number_value n = ap number_in (sym (expr.rolls-Number n)) ∙ search (rules, fold-roll-Expr)
-
--- ---- INSERT INTO t VALUES (2, 20)
-
-abbrev rows : InsertRows
-rows = Values ((expr.Number (pos 2) ∷ expr.Number (pos 20) ∷ []) ∷ [])
-
-insert_form : form_of (tree.Insert t [] rows) ≡ Some (Insert t (pos 2) (pos 20))
-insert_form =
-    ap form_of (sym (tree.rolls-Insert t [] rows)) ∙ ap form_step (out-roll-Form (Form-F.Insert t [] rows))
-    ∙ rw (number_value (pos 2), number_value (pos 20)) refl
-
--- ---- SELECT 1; SELECT 1
+-- ---- SELECT 1; DROP TABLE t
 
 abbrev one : Select
 one = roll-Select (record { distinct = false; top = None; items = item.Value (expr.Number (pos 1)) None ∷ []; from = None; filter = None; groups = []; having = None; order = [] })
@@ -49,15 +25,28 @@ one = roll-Select (record { distinct = false; top = None; items = item.Value (ex
 abbrev select_one : Statement
 select_one = roll-Statement (record { line = 1; form = tree.Select one })
 
-is_one : is_select select_one ≡ true
-is_one = ap (λ (of : TreeForm). is_select_step (out-Form of)) (ap (λ of. of.form) (out-roll-Statement (record { line = 1; form = tree.Select one }))) ∙ ap (λ (of : Form-F TreeForm Statement). is_select_step of) (ap out-Form (sym (tree.rolls-Select one)) ∙ out-roll-Form (Form-F.Select one))
+abbrev drops : DropKind → Statement
+drops kind = roll-Statement (record { line = 1; form = tree.Drop kind (codes "t") })
 
-two_selects : statements_of false (Body (select_one ∷ select_one ∷ [])) ≡ query_at select_one ∷ query_at select_one ∷ []
-two_selects = rw is_one refl
+select_served : is_served select_one ≡ true
+select_served = ap (λ (of : TreeForm). is_built (out-Form of)) (ap (λ of. of.form) (out-roll-Statement (record { line = 1; form = tree.Select one }))) ∙ ap (λ (of : Form-F TreeForm Statement). is_built of) (ap out-Form (sym (tree.rolls-Select one)) ∙ out-roll-Form (Form-F.Select one))
+
+drop_served : is_served (drops drop.Table) ≡ true
+drop_served = ap (λ (of : TreeForm). is_built (out-Form of)) (ap (λ of. of.form) (out-roll-Statement (record { line = 1; form = tree.Drop drop.Table (codes "t") }))) ∙ ap (λ (of : Form-F TreeForm Statement). is_built of) (ap out-Form (sym (tree.rolls-Drop drop.Table (codes "t"))) ∙ out-roll-Form (Form-F.Drop drop.Table (codes "t")))
+
+other_not_served : is_served (drops drop.Procedure) ≡ false
+other_not_served = ap (λ (of : TreeForm). is_built (out-Form of)) (ap (λ of. of.form) (out-roll-Statement (record { line = 1; form = tree.Drop drop.Procedure (codes "t") }))) ∙ ap (λ (of : Form-F TreeForm Statement). is_built of) (ap out-Form (sym (tree.rolls-Drop drop.Procedure (codes "t"))) ∙ out-roll-Form (Form-F.Drop drop.Procedure (codes "t")))
+
+both_served : statements_of false (Body (select_one ∷ drops drop.Table ∷ [])) ≡ statement_at select_one ∷ statement_at (drops drop.Table) ∷ []
+both_served = rw (select_served, drop_served) refl
+
+-- one that is not built is the whole batch's
+one_not_built : statements_of false (Body (select_one ∷ drops drop.Procedure ∷ [])) ≡ not_built_statement ∷ []
+one_not_built = rw (select_served, other_not_served) refl
 
 -- a value of the session is not built
 of_session : statements_of true (Body (select_one ∷ [])) ≡ not_built_statement ∷ []
-of_session = rw is_one refl
+of_session = rw select_served refl
 
 -- ---- values of the session
 

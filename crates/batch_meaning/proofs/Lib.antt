@@ -1,6 +1,5 @@
 pub mod Composed
-pub mod Ways
-pub mod Commits
+pub mod Holding
 pub mod OneReading
 pub mod StandardFacts
 pub mod Forms

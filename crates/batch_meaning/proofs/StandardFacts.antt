@@ -1,45 +1,27 @@
--- Batches of known statements: what is asked for them, what they send, and what is committed.
-use Rattle.std.proofs.Common.{◌≡◌, ℕ, ◌-◌, true, List, [], ◌∷◌, ◌++◌, None, Some, pos, refl}
-use Rattle.std.specs.Prelude.{codes, replicate}
+-- Batches of known statements: what is asked for them, and what they send.
+use Rattle.std.proofs.Common.{◌≡◌, ℕ, ◌-◌, true, false, List, [], ◌∷◌, ◌++◌, None, pos, refl}
+use Rattle.std.specs.Prelude.{codes}
 use Rattle.value_types.specs.declared.sql_type.SqlType.TheVariants.{Int}
 use Rattle.value_types.specs.declared.value.Value.TheVariants.{Whole}
-use Rattle.step_model.specs.declared.op.Hold.TheVariants.{Range}
-use Rattle.step_model.specs.declared.op.Op.{Op}
-use Rattle.step_model.specs.declared.op.Op.TheVariants.{Begin, Mark, Relax, Commit, Insert as InsertRow}
-use Rattle.step_model.specs.declared.range.Start.TheVariants.{First, Past}
-use Rattle.step_model.specs.declared.reply.Reply.{Reply}
-use Rattle.step_model.specs.declared.reply.Reply.TheVariants as replies
-use Rattle.step_model.specs.Exchange.{Exchange}
-use Rattle.step_model.specs.Fits.{commits_of}
-use Rattle.step_model.specs.Ranges.{fetch_from, rows_from, rows_of}
+use Rattle.step_model.specs.declared.change.Deed.TheVariants.{Insert, Replace, Erase}
+use Rattle.step_model.specs.declared.change.Planned.{Planned}
 use Rattle.tds_tokens.specs.Spelling.{tokens_bytes}
 use Rattle.tds_tokens.specs.declared.token.DoneKind.TheVariants.{Done}
 use Rattle.tds_tokens.specs.declared.token.Token.{Token}
 use Rattle.tds_tokens.specs.declared.token.Token.TheVariants.{Error, Columns, Row, Finished}
-use Rattle.tsql_tree.specs.declared.definition.Definition.TheVariants.{Table}
 use Rattle.tsql_tree.specs.declared.definition.TableTree.{TableTree}
-use Rattle.catalog_rows.specs.Definitions.{IsDefinitionAt, objects_name, object_key, row_of}
-use Rattle.batch_meaning.specs.declared.form.Form.{Form}
-use Rattle.batch_meaning.specs.declared.form.Form.TheVariants.{Insert, Refused}
-use Rattle.batch_meaning.specs.declared.form.Served.{Served}
-use Rattle.batch_meaning.specs.Statements.{created_name, not_built_statement}
+use Rattle.bound_tree.specs.declared.write.BoundWrite.TheVariants as write
+use Rattle.constraint_check.specs.Reads.{rows_table}
+use Rattle.batch_meaning.specs.declared.form.Form.TheVariants.{Refused}
+use Rattle.batch_meaning.specs.Statements.{not_built_statement}
 use Rattle.error_table.specs.Table as table
 use Rattle.batch_meaning.specs.Tokens.{result_tokens, batch_done}
+use Rattle.batch_meaning.specs.Changing.{is_referred, tokens_by}
 use Rattle.batch_meaning.specs.declared.exit.Exit.{Exit}
 use Rattle.batch_meaning.specs.declared.exit.Exit.TheVariants.{On, End}
-use Rattle.batch_meaning.specs.Tables.{table_of, table_key, table_row}
-use Rattle.batch_meaning.specs.Progress.{SessionProgress, first_manner, first_progress, batch_limit, end_size, size_of}
+use Rattle.batch_meaning.specs.Progress.{SessionProgress, first_progress, batch_limit, end_size, size_of}
 use Rattle.batch_meaning.specs.Doing.{◌then◌, Held}
-use Rattle.batch_meaning.specs.Meaning.{◌gives◌, definition_fetch, look_up, reads_rows, puts, finds, inserts, relaxes, closes, own, came_of, acted, ended_by, finished, means, each_of, batch}
-use Rattle.batch_meaning.specs.Told.{row_commit, told_commits}
-
--- an operation that a session asks before it says how, and its reply
-abbrev replied : Op → Reply → Exchange
-replied op reply = record { op = op; manner = first_manner; reply = reply }
-
--- a statement at line 1
-abbrev pub served : Form → Served
-served form = record { line = pos 1; form = form }
+use Rattle.batch_meaning.specs.Meaning.{came_of, acted, ended_by, finished, means, each_of, batch}
 
 -- behind the first batch, of one statement, which has sent these tokens
 abbrev behind_one : List Token → SessionProgress
@@ -81,59 +63,41 @@ not_built_held : Held (batch (not_built_statement ∷ [])) first_progress [] tt
 unfolding Held ◌then◌ batch each_of means came_of finished acted ended_by tokens_bytes table.row_of table.error_lines
 not_built_held = (refl, refl, refl)
 
--- ---- the table of a tree
+-- ---- rows that are told
 
-abbrev pub t : List ℕ
+abbrev t : List ℕ
 t = codes "t"
 
--- CREATE TABLE t (k INT NOT NULL PRIMARY KEY, v INT NOT NULL)
-abbrev pub definition_text : List ℕ
-definition_text = codes "CREATE TABLE t (k INT NOT NULL PRIMARY KEY, v INT NOT NULL)"
+abbrev put : Planned
+put = record { table = rows_table t; key = Whole (pos 2) ∷ []; deed = Insert (Whole (pos 2) ∷ []) }
 
-abbrev pub table_tree : TableTree
-table_tree = record {
-  name = t;
-  columns = record { name = codes "k"; kind = Int; required = true } ∷ record { name = codes "v"; kind = Int; required = true } ∷ [];
-  key = record { name = codes "PK_t"; columns = codes "k" ∷ [] } ∷ [];
+abbrev replaced : Planned
+replaced = record { table = rows_table t; key = Whole (pos 3) ∷ []; deed = Replace (Whole (pos 3) ∷ []) }
+
+abbrev gone : Planned
+gone = record { table = rows_table t; key = Whole (pos 1) ∷ []; deed = Erase }
+
+-- an UPDATE that moves one row and replaces another means two
+two_put : tokens_by (write.Update (rows_table t) [] None []) (gone ∷ put ∷ replaced ∷ []) ≡ Finished Done 0x11 0xC5 2 ∷ []
+two_put = refl
+
+-- ---- DROP TABLE
+
+-- CREATE TABLE name (k INT NOT NULL PRIMARY KEY REFERENCES parent)
+abbrev child_of : List ℕ → List ℕ → TableTree
+child_of name parent = record {
+  name = name;
+  columns = record { name = codes "k"; kind = Int; required = true } ∷ [];
+  key = record { name = codes "PK"; columns = codes "k" ∷ [] } ∷ [];
   uniques = [];
   checks = [];
-  foreigns = [];
+  foreigns = record { name = codes "FK"; columns = codes "k" ∷ []; parent = parent; parent_columns = [] } ∷ [];
 }
 
-created : created_name table_tree ≡ Some t
-created = refl
+-- another table refers to it
+parent_kept : is_referred t (child_of (codes "u") t ∷ []) ≡ true
+parent_kept = refl
 
--- a table named so that its key's name would be too long is none
-long_name : created_name (record table_tree { name = replicate 126 97 }) ≡ None
-long_name = refl
-
--- ---- INSERT INTO t VALUES (2, 20)
-
--- t is looked up, `objects` is read to its end, and the row is put behind a mark
-abbrev insert_asks : List Exchange
-insert_asks =
-    replied Begin replies.Began
-    ∷ replied (definition_fetch t) (replies.Row (object_key t) (row_of t definition_text) 1)
-    ∷ replied (fetch_from (table_of objects_name) Range First) (replies.Row (object_key t) (row_of t definition_text) 1)
-    ∷ replied (fetch_from (table_of objects_name) Range (Past (object_key t))) (replies.End 1)
-    ∷ replied Mark (replies.Marked 1)
-    ∷ replied (InsertRow (table_of t) (table_key (pos 2)) (table_row (pos 2) (pos 20))) replies.Done
-    ∷ replied Relax replies.Done
-    ∷ replied Commit (replies.Ended 1)
-    ∷ []
-
--- the row's DONE, and the batch's
-abbrev insert_tokens : List Token
-insert_tokens = Finished Done 0x11 0xC3 1 ∷ Finished Done 0 0 0 ∷ []
-
--- where its text reads as that definition
-insert_held : IsDefinitionAt (object_key t) (row_of t definition_text) (Some (Table table_tree)) → Held (batch (served (Insert t (pos 2) (pos 20)) ∷ [])) first_progress insert_asks tt (behind_one insert_tokens)
-unfolding Held ◌then◌ ◌gives◌ batch each_of means came_of own finds inserts look_up reads_rows rows_of rows_from puts relaxes closes finished tokens_bytes
-insert_held reads = (refl, refl, tt, (true, (refl, refl, refl, (true, (Some (Table table_tree), reads, (true, (refl, refl, refl, (true, (refl, refl, tt, (true, (refl, refl, tt, (refl, refl, tt, (true, (refl, refl, tt, (refl, refl, tt, (refl, refl, refl))))))))))))))))
-
--- its row is committed, and that is what it tells
-insert_commits : commits_of insert_asks ≡ row_commit (table_of t) (table_key (pos 2)) (table_row (pos 2) (pos 20))
-insert_commits = refl
-
-insert_tells : told_commits (served (Insert t (pos 2) (pos 20)) ∷ []) insert_tokens ≡ row_commit (table_of t) (table_key (pos 2)) (table_row (pos 2) (pos 20))
-insert_tells = refl
+-- it refers to itself alone
+own_parent : is_referred t (child_of t t ∷ child_of (codes "u") (codes "w") ∷ []) ≡ false
+own_parent = refl

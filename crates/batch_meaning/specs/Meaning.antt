@@ -1,61 +1,73 @@
 -- Own: what a batch means: what its statements ask of the port, in order, and what comes of the replies.
--- Look-ups in `objects` hold the key's range; a SELECT reads its tables row by row, at the level READ
--- COMMITTED. Outside a transaction a statement that asks anything is one of its own, committed where it
--- succeeds and else rolled back. A meaning is a tree; the code asks the port, and goes on by its replies.
-use Rattle.std.specs.Prelude.{ℕ, ℤ, ◌==◌, ◌++◌, not, Bool, true, false, nat_lt, is_ok, if◌then◌else◌, List, [], ◌∷◌, Option, None, Some, Result, Ok, Err}
+-- A statement looks its names up in `objects`, each key's range held; it is bound, and goes on by what it is bound to. Its
+-- tables are read row by row, at the level READ COMMITTED. Outside a transaction a statement that asks anything is one of
+-- its own, committed where it succeeds and else rolled back. A meaning is a tree; the code asks the port, and goes on by its replies.
+use Rattle.std.specs.Prelude.{ℕ, zero, suc, ◌==◌, ◌++◌, not, Bool, true, false, nat_lt, is_ok, if◌then◌else◌, List, [], ◌∷◌, Option, None, Some, Result, Ok, Err}
 use Rattle.lock_modes.specs.declared.KeyPart.TheVariants.{S}
-use Rattle.value_types.specs.declared.table_name.TableName.{TableName}
 use Rattle.value_types.specs.declared.value.Value.{Value}
 use Rattle.tsql_tree.specs.declared.definition.Definition.{Definition}
 use Rattle.tsql_tree.specs.declared.definition.Definition.TheVariants.{Table, Procedure, Trigger}
 use Rattle.tsql_tree.specs.declared.definition.TableTree.{TableTree}
+use Rattle.tsql_tree.specs.declared.statement.Form.{Form-F}
 use Rattle.tsql_tree.specs.declared.statement.Statement.{Statement as StatementTree}
 use Rattle.bound_tree.specs.declared.query.BoundQuery.{BoundQuery}
-use Rattle.query_eval.specs.Given.{tables_read}
-use Rattle.binder.specs.Names.{looked_up}
-use Rattle.catalog_rows.specs.Definitions.{objects_name, is_objects, object_key, row_of}
+use Rattle.bound_tree.specs.declared.write.Bound.{Bound}
+use Rattle.bound_tree.specs.declared.write.Bound.TheVariants as bound
+use Rattle.bound_tree.specs.declared.write.BoundWrite.{BoundWrite}
+use Rattle.binder.specs.Names.{Layer, form_of, looked_up}
+use Rattle.catalog_rows.specs.Definitions.{objects_name, is_objects, object_key, tables_of}
 use Rattle.error_table.specs.declared.action.Action.{Action}
 use Rattle.error_table.specs.declared.action.Action.TheVariants.{Statement, Batch, BatchAndTransaction, Doom}
 use Rattle.error_table.specs.declared.action.RaisedBy.TheVariants.{Engine}
 use Rattle.error_table.specs.Act.{action_of}
-use Rattle.step_model.specs.declared.op.Hold.{Hold}
+use Rattle.step_model.specs.declared.change.Planned.{Planned}
 use Rattle.step_model.specs.declared.op.Hold.TheVariants as hold
 use Rattle.step_model.specs.declared.op.Op.{Op}
 use Rattle.step_model.specs.declared.op.Op.TheVariants as ops
-use Rattle.step_model.specs.declared.range.Start.TheVariants.{At}
-use Rattle.step_model.specs.declared.range.Stop.TheVariants.{Within}
+use Rattle.step_model.specs.declared.range.Start.{Start}
+use Rattle.step_model.specs.declared.range.Start.TheVariants.{First, At, Past}
+use Rattle.step_model.specs.declared.range.Stop.TheVariants.{Last, Within}
 use Rattle.step_model.specs.declared.reply.Reply.{Reply}
 use Rattle.step_model.specs.declared.reply.Reply.TheVariants as replies
 use Rattle.step_model.specs.Dialog as dialog
 use Rattle.step_model.specs.Dialog.{Dialog}
-use Rattle.step_model.specs.Ranges.{Rows, no_memory, rows_of, lock_timeout, deadlock}
+use Rattle.step_model.specs.Ranges.{Rows, no_memory, range_full, range_limit, lock_timeout, deadlock}
+use Rattle.constraint_check.specs.Reads.{rows_table, shape_of}
+use Rattle.dml_exec.specs.declared.refusal.Level.{Level}
+use Rattle.dml_exec.specs.declared.refusal.Level.TheVariants.{ReadCommitted, Serializable}
+use Rattle.dml_exec.specs.declared.refusal.Refusal.{Refusal}
+use Rattle.dml_exec.specs.declared.refusal.Refusal.TheVariants as refusal
+use Rattle.dml_exec.specs.declared.written.Written.{Written}
+use Rattle.dml_exec.specs.declared.written.Written.TheVariants as written
+use Rattle.dml_exec.specs.Reading.{images_of}
+use Rattle.dml_exec.specs.Writing.{writes}
 use Rattle.batch_meaning.specs.declared.exit.Exit.{Exit}
 use Rattle.batch_meaning.specs.declared.exit.Exit.TheVariants.{On, End}
 use Rattle.batch_meaning.specs.declared.failure.Failure.{Failure}
 use Rattle.batch_meaning.specs.declared.form.Form.{Form}
-use Rattle.batch_meaning.specs.declared.form.Form.TheVariants.{Query, CreateTable, Insert, NotBuilt, Refused}
+use Rattle.batch_meaning.specs.declared.form.Form.TheVariants as forms
 use Rattle.batch_meaning.specs.declared.form.Served.{Served}
-use Rattle.batch_meaning.specs.Failures.{plain}
-use Rattle.batch_meaning.specs.Selecting.{unknown_table, result_full, not_built, as_served, answered, answered_unasked, bound_over, shape_of, fits}
-use Rattle.batch_meaning.specs.Progress.{SessionProgress, begins, counts, sends, size_of}
+use Rattle.batch_meaning.specs.Failures.{plain, naming}
+use Rattle.batch_meaning.specs.Statements.{is_select}
+use Rattle.batch_meaning.specs.Selecting.{result_full, not_built, answered, bound_over}
+use Rattle.batch_meaning.specs.Changing.{object_present, not_there, planned_over, tokens_by, created, unless_referred, whole, dropped}
+use Rattle.batch_meaning.specs.Progress.{SessionProgress, begins, counts, touches, sends, size_of}
 use Rattle.batch_meaning.specs.Doing.{Doing, over, reads, makes, defines, asks, room, never, ◌then◌}
-use Rattle.batch_meaning.specs.Tokens.{duplicate_key, inserted_tokens, failure_tokens, batch_done}
-use Rattle.batch_meaning.specs.Tables.{table_of, table_key, table_row}
+use Rattle.batch_meaning.specs.Tokens.{failure_tokens, batch_done}
 use Rattle.tds_tokens.specs.declared.token.Token.{Token}
-
--- ---- the numbers of the errors; that of a key which is there stands with its text, in Tokens
-
-abbrev pub object_present : ℕ
-object_present = 2714
 
 abbrev pub statements_spent : ℕ
 statements_spent = 49001
 
 -- ---- parts of a statement, which may fail
 
--- an error that names no more than its statement does
+-- an error that names nothing
 abbrev pub fails : {A : Type 0} → ℕ → Doing (Result A Failure)
 fails number = over (Err (plain number))
+
+-- one that names this, for which memory may be wanting
+abbrev pub fails_naming : {A : Type 0} → ℕ → List ℕ → Doing (Result A Failure)
+fails_naming number name = room λ enough. if enough then over (Err (naming number name)) else fails no_memory
 
 -- going on where nothing failed
 abbrev pub on_ok : {A B : Type 0} → (A → Doing (Result B Failure)) → Result A Failure → Doing (Result B Failure)
@@ -70,6 +82,10 @@ tree >>= go = tree then on_ok go
 abbrev pub with_room : {A : Type 0} → Doing (Result A Failure) → Doing (Result A Failure)
 with_room tree = room λ enough. if enough then tree else fails no_memory
 
+-- what wants memory for its result
+abbrev pub comes_to : {A : Type 0} → Result A Failure → Doing (Result A Failure)
+comes_to result = with_room (over result)
+
 -- A reply that refuses the operation is the error of what was done: memory was wanting, another session's lock
 -- stood in the way, or the session fell as a deadlock's victim.
 abbrev pub unless_refused : {A : Type 0} → (Reply → Doing (Result A Failure)) → Reply → Doing (Result A Failure)
@@ -78,13 +94,12 @@ unless_refused go (replies.TimedOut holder held wanted on) = fails lock_timeout
 unless_refused go (replies.Victim cycle) = fails deadlock
 unless_refused go reply = go reply
 
--- a dialog is held, and behind it another thing is done; a refusal ends both
-infixl 10 ◌gives◌
-unfoldable pub ◌gives◌ : {A B : Type 0} → Dialog A → (A → Doing (Result B Failure)) → Doing (Result B Failure)
-(dialog.over a) gives go = go a
-(dialog.asks op quiet next) gives go = asks op (unless_refused (λ reply. next reply gives go))
-(dialog.room next) gives go = room (λ enough. next enough gives go)
-dialog.never gives go = never
+-- behind a reply that says that it is done
+abbrev pub where_done : {A : Type 0} → Doing A → Reply → Doing A
+where_done next replies.Done = next
+where_done next reply = never
+
+-- ---- look-ups
 
 -- what stands at a name's key in `objects`: the definition of that key's name, or nothing
 abbrev pub known : Reply → Doing (Result (Option Definition) Failure)
@@ -95,58 +110,11 @@ known reply = never
 
 -- the fetch of one whole key of `objects`, whose range is held
 abbrev pub definition_fetch : List ℕ → Op
-definition_fetch name = ops.Fetch (table_of objects_name) (At (object_key name)) (Within (object_key name)) hold.Range S
+definition_fetch name = ops.Fetch (rows_table objects_name) (At (object_key name)) (Within (object_key name)) hold.Range S
 
 -- the name is looked up; `objects` is no table of a batch, and nothing is asked of it
 unfoldable pub look_up : List ℕ → Doing (Result (Option Definition) Failure)
 look_up name = if is_objects name then over (Ok None) else with_room (asks (definition_fetch name) (unless_refused known))
-
--- what a dialog's rows come to
-abbrev pub rows_or_failure : Result Rows ℕ → Doing (Result Rows Failure)
-rows_or_failure (Ok rows) = over (Ok rows)
-rows_or_failure (Err number) = fails number
-
--- the rows of a table of this shape are read, in order of their keys
-unfoldable pub reads_rows : Option TableTree → TableName → Hold → Doing (Result Rows Failure)
-reads_rows shape table hold = with_room (rows_of (fits shape) table hold gives rows_or_failure)
-
--- what an insertion's reply says; a row that stands at the key is this error
-abbrev pub placed : ℕ → Reply → Doing (Result (Unit {0}) Failure)
-placed present replies.Done = over (Ok tt)
-placed present replies.Exists = fails present
-placed present reply = never
-
--- behind a mark
-abbrev pub marked : {A : Type 0} → Doing (Result A Failure) → Reply → Doing (Result A Failure)
-marked next (replies.Marked mark) = next
-marked next reply = never
-
--- a row is put at its key behind a mark; a row that stands there is this error
-unfoldable pub puts : TableName → List Value → List Value → ℕ → Doing (Result (Unit {0}) Failure)
-puts table key row present = with_room (asks ops.Mark (unless_refused (marked (asks (ops.Insert table key row) (unless_refused (placed present))))))
-
--- ---- what each statement does within a transaction
-
--- a table's definition is a row of `objects`
-unfoldable pub creates : List ℕ → List ℕ → Doing (Result (List Token) Failure)
-creates name text = do
-  created ← puts (table_of objects_name) (object_key name) (row_of name text) object_present
-  over (Ok [])
-
--- a table that rows may be inserted into is looked up
-unfoldable pub finds : List ℕ → Doing (Result (Unit {0}) Failure)
-finds name = do
-  found ← look_up name
-  over (as_served name found)
-
--- its table is looked up, then triggers and tables that refer to it, of which there are none; then the
--- row is put
-unfoldable pub inserts : List ℕ → ℤ → ℤ → Doing (Result (List Token) Failure)
-inserts name key value = do
-  known ← finds name
-  triggers ← reads_rows None (table_of objects_name) hold.Range
-  inserted ← puts (table_of name) (table_key key) (table_row key value) duplicate_key
-  with_room (over (Ok inserted_tokens))
 
 -- what was found is a table
 abbrev pub is_table : Option Definition → Bool
@@ -167,45 +135,158 @@ looks_up definitions (name ∷ names) = do
   found ← look_up name
   if is_table found then with_room (looks_up (with_found definitions found) names) else over (Ok definitions)
 
--- tables are read one after another, behind these images
-unfoldable pub reads_images : List Definition → List Rows → List TableName → Doing (Result (List Rows) Failure)
-reads_images definitions images [] = over (Ok images)
-reads_images definitions images (table ∷ tables) = do
-  rows ← reads_rows (shape_of definitions table) table hold.Row
-  with_room (reads_images definitions (images ++ rows ∷ []) tables)
+-- ---- all definitions
 
--- its tables are read, those of inner queries first, and it is answered
-unfoldable pub over_query : List Definition → BoundQuery → Doing (Result (List Token) Failure)
-over_query definitions query = do
-  images ← with_room (reads_images definitions [] (tables_read query))
-  with_room (over (answered query images))
+-- the fetch of `objects` from some key on, whose range is held
+abbrev pub objects_fetch : Start → Op
+objects_fetch start = ops.Fetch (rows_table objects_name) start Last hold.Range S
 
--- it is bound, and what it is bound to is run
+-- what a fetch's reply makes of the definitions so far, with the key to go on from, or none at the end
+abbrev pub defined_by : List Definition → Reply → Doing (Result (List Definition × Option (List Value)) Failure)
+defined_by so_far (replies.Row key row at) = with_room (defines key row (λ found. with_room (over (Ok (with_found so_far found, Some key)))))
+defined_by so_far (replies.Gone key at) = over (Ok (so_far, Some key))
+defined_by so_far (replies.End at) = over (Ok (so_far, None))
+defined_by so_far reply = never
+
+-- behind a key the range goes on
+abbrev pub defined_on : (List Definition → List Value → Doing (Result (List Definition) Failure)) → List Definition × Option (List Value) → Doing (Result (List Definition) Failure)
+defined_on next (so_far, None) = over (Ok so_far)
+defined_on next (so_far, Some key) = next so_far key
+
+-- the rest of `objects`, behind these definitions; so many more keys may be looked at
+unfoldable pub defined_from : ℕ → Start → List Definition → Doing (Result (List Definition) Failure)
+defined_from zero start so_far = fails range_full
+defined_from (suc left) start so_far = asks (objects_fetch start) (unless_refused (defined_by so_far)) >>= defined_on (λ more key. defined_from left (Past key) more)
+
+-- triggers, and tables that refer to the one that is written, are looked for among all definitions, which come in the order of their names
+unfoldable pub reads_definitions : Doing (Result (List Definition) Failure)
+reads_definitions = with_room (defined_from range_limit First [])
+
+-- ---- dialogs
+
+-- a dialog is held, and behind it another thing is done
+infixl 10 ◌gives◌
+unfoldable pub ◌gives◌ : {A B : Type 0} → Dialog A → (A → Doing B) → Doing B
+(dialog.over a) gives go = go a
+(dialog.asks op quiet next) gives go = asks op (λ reply. next reply gives go)
+(dialog.room next) gives go = room (λ enough. next enough gives go)
+dialog.never gives go = never
+
+-- the same where a statement's end has to relax what the dialog asks
+abbrev pub holds : {A B : Type 0} → Dialog A → (A → Doing B) → Doing B
+holds of go = makes touches (of gives go)
+
+-- why a dialog went no further
+abbrev pub number_of : Refusal → ℕ
+number_of refusal.Victim = deadlock
+number_of refusal.TimedOut = lock_timeout
+number_of refusal.Limit = range_full
+number_of refusal.Memory = no_memory
+
+abbrev pub unless_stopped : {A : Type 0} → Result A Refusal → Doing (Result A Failure)
+unless_stopped (Ok a) = over (Ok a)
+unless_stopped (Err why) = fails (number_of why)
+
+abbrev pub unless_broken : Result Written Refusal → Doing (Result (Unit {0}) Failure)
+unless_broken (Ok (written.Done mark)) = over (Ok tt)
+unless_broken (Ok (written.Refused number name)) = over (Err (record { number = number; name = Some name }))
+unless_broken (Err why) = fails (number_of why)
+
+-- the tables that a statement reads
+unfoldable pub reads_images : List TableTree → Level → Bound → Doing (Result (List Rows) Failure)
+reads_images shapes level of = holds (images_of shapes level of) unless_stopped
+
+-- changes are asked, and checked by these shapes
+unfoldable pub applies : List TableTree → List Planned → Doing (Result (Unit {0}) Failure)
+applies shapes changes = holds (writes shapes changes) unless_broken
+
+-- ---- what each statement does within a transaction
+
+-- the tables of a query are read, and it is answered
+unfoldable pub answers : List TableTree → BoundQuery → Doing (Result (List Token) Failure)
+answers shapes query = do
+  images ← reads_images shapes ReadCommitted (bound.Query query)
+  comes_to (answered query images)
+
+-- the definitions are read, and the tables of a write; what it changes is planned, and asked
+unfoldable pub changes : List TableTree → BoundWrite → Doing (Result (List Token) Failure)
+changes shapes write = do
+  definitions ← reads_definitions
+  images ← reads_images shapes ReadCommitted (bound.Write write)
+  planned ← comes_to (planned_over shapes write images)
+  put ← with_room (applies (tables_of definitions) planned)
+  comes_to (Ok (tokens_by write planned))
+
+-- taken back to the statement's mark, as it failed
+unfoldable pub takes_back : ℕ → Failure → Doing (Result (Unit {0}) Failure)
+takes_back mark failure = asks (ops.BackTo mark) (where_done (over (Err failure)))
+
+-- what the insertion of a definition comes to; an object of that name is an error that names it
+abbrev pub inserted : ℕ → List ℕ → Reply → Doing (Result (Unit {0}) Failure)
+inserted mark name replies.Done = over (Ok tt)
+inserted mark name replies.Exists = room λ enough. takes_back mark (if enough then naming object_present name else plain no_memory)
+inserted mark name replies.Memory = takes_back mark (plain no_memory)
+inserted mark name (replies.TimedOut holder held wanted on) = takes_back mark (plain lock_timeout)
+inserted mark name (replies.Victim cycle) = takes_back mark (plain deadlock)
+inserted mark name reply = never
+
+-- behind a mark
+abbrev pub marked : {A : Type 0} → (ℕ → Doing (Result A Failure)) → Reply → Doing (Result A Failure)
+marked next (replies.Marked mark) = next mark
+marked next reply = never
+
+-- a table's definition is put into `objects`
+unfoldable pub creates : List ℕ → List ℕ → Doing (Result (List Token) Failure)
+creates name text = do
+  put ← with_room (asks ops.Mark (unless_refused (marked λ mark. asks (created name text) (inserted mark name))))
+  over (Ok [])
+
+-- a table that is there: the definitions are read, of which no other may refer to it; then its rows, which are erased with its definition
+unfoldable pub drops : List TableTree → TableTree → List ℕ → Doing (Result (List Token) Failure)
+drops shapes shape name = do
+  definitions ← reads_definitions
+  free ← comes_to (unless_referred name (tables_of definitions))
+  images ← with_room (reads_images shapes Serializable (bound.Write (whole name)))
+  planned ← comes_to (dropped shape name images)
+  put ← applies [] planned
+  over (Ok [])
+
+abbrev pub drops_in : Option TableTree → List TableTree → List ℕ → Doing (Result (List Token) Failure)
+drops_in None shapes name = fails_naming not_there name
+drops_in (Some shape) shapes name = drops shapes shape name
+
+-- `objects` is an object, which is none of a batch
+abbrev pub unless_objects : List ℕ → Doing (Result (List Token) Failure) → Doing (Result (List Token) Failure)
+unless_objects name tree = if is_objects name then fails_naming object_present name else tree
+
+-- what is bound to nothing is done by its form
+abbrev pub done_for : Layer → List TableTree → Doing (Result (List Token) Failure)
+done_for (Form-F.CreateTable table text) shapes = unless_objects table.name (creates table.name text)
+done_for (Form-F.Drop kind name) shapes = drops_in (shape_of (rows_table name) shapes) shapes name
+done_for form shapes = fails not_built
+
+-- by what a statement is bound to; a query of another statement than a SELECT is not built
+abbrev pub done_by : StatementTree → List TableTree → Bound → Doing (Result (List Token) Failure)
+done_by statement shapes (bound.Query query) = if is_select statement then answers shapes query else fails not_built
+done_by statement shapes (bound.Write write) = changes shapes write
+done_by statement shapes bound.Plain = done_for (form_of statement) shapes
+done_by statement shapes (bound.Assign query places) = fails not_built
+
+-- it is bound over what was found
 unfoldable pub over_definitions : StatementTree → List Definition → Doing (Result (List Token) Failure)
 over_definitions statement definitions = do
-  query ← with_room (over (bound_over definitions statement))
-  over_query definitions query
+  of ← comes_to (bound_over definitions statement)
+  with_room (done_by statement (tables_of definitions) of)
 
--- what a SELECT names is looked up first
-unfoldable pub selects : StatementTree → Doing (Result (List Token) Failure)
-selects statement = do
+-- what a statement names is looked up first
+unfoldable pub done : StatementTree → Doing (Result (List Token) Failure)
+done statement = do
   definitions ← looks_up [] (looked_up statement)
   over_definitions statement definitions
-
--- a case for each form; what is not built, or refused, is an error at once
-abbrev pub done_for : Form → Doing (Result (List Token) Failure)
-done_for (Query statement) = with_room (selects statement)
-done_for (CreateTable name text) = creates name text
-done_for (Insert name key value) = inserts name key value
-done_for NotBuilt = fails not_built
-done_for (Refused code near) = fails code
 
 -- tokens that the batch may still send; too many bytes are an error of their statement
 abbrev pub if_bytes_left : List Token → Doing (Result (List Token) Failure)
 if_bytes_left tokens = reads λ p. if nat_lt p.bytes_left (size_of tokens) then fails result_full else over (Ok tokens)
-
-abbrev pub work_of : Form → Doing (Result (List Token) Failure)
-work_of statement = done_for statement >>= if_bytes_left
 
 -- ---- transactions
 
@@ -213,11 +294,6 @@ work_of statement = done_for statement >>= if_bytes_left
 abbrev pub where_ended : {A : Type 0} → Doing A → Reply → Doing A
 where_ended next (replies.Ended place) = next
 where_ended next reply = never
-
--- behind a reply that says that it is done
-abbrev pub where_done : {A : Type 0} → Doing A → Reply → Doing A
-where_done next replies.Done = next
-where_done next reply = never
 
 -- the locks of the statement end, where something was fetched or written
 unfoldable pub relaxes : Doing (Unit {0})
@@ -245,25 +321,33 @@ rolls_back_open = reads λ p. if p.is_open then asks ops.Rollback (where_ended (
 
 -- ---- statements
 
--- `objects` is no table of a batch: nothing is asked of it
-abbrev pub unless_objects : List ℕ → ℕ → Doing (Result (List Token) Failure) → Doing (Result (List Token) Failure)
-unless_objects name number work = if is_objects name then fails number else own work
-
 -- something is asked where the first name is looked up
 abbrev pub asks_any : List (List ℕ) → Bool
 asks_any [] = false
 asks_any (name ∷ names) = not (is_objects name)
 
--- a SELECT for which nothing is asked
-abbrev pub unasked : StatementTree → Doing (Result (List Token) Failure)
-unasked statement = with_room (over (answered_unasked (bound_over [] statement))) >>= if_bytes_left
+-- a statement for which nothing is looked up, by its form: a table may be created
+abbrev pub plain_unasked : Layer → Doing (Result (List Token) Failure) → Doing (Result (List Token) Failure)
+plain_unasked (Form-F.CreateTable table text) work = unless_objects table.name work
+plain_unasked (Form-F.Drop kind name) work = fails_naming not_there name
+plain_unasked form work = fails not_built
+
+-- and by what it is bound to: a query may be answered
+abbrev pub done_unasked : StatementTree → Bound → Doing (Result (List Token) Failure)
+done_unasked statement (bound.Query query) = if is_select statement then comes_to (answered query []) >>= if_bytes_left else fails not_built
+done_unasked statement bound.Plain = plain_unasked (form_of statement) (own (done statement >>= if_bytes_left))
+done_unasked statement (bound.Write write) = fails not_built
+done_unasked statement (bound.Assign query places) = fails not_built
+
+-- a statement for which nothing is looked up is bound over nothing
+unfoldable pub unasked : StatementTree → Doing (Result (List Token) Failure)
+unasked statement = comes_to (bound_over [] statement) >>= done_unasked statement
 
 -- what comes of a statement: the tokens that are sent for it, or why it failed
 unfoldable pub came_of : Form → Doing (Result (List Token) Failure)
-came_of (Query statement) = with_room (if asks_any (looked_up statement) then own (work_of (Query statement)) else unasked statement)
-came_of (CreateTable name text) = unless_objects name object_present (work_of (CreateTable name text))
-came_of (Insert name key value) = unless_objects name unknown_table (work_of (Insert name key value))
-came_of statement = done_for statement
+came_of (forms.Statement statement) = with_room (if asks_any (looked_up statement) then own (done statement >>= if_bytes_left) else unasked statement)
+came_of forms.NotBuilt = fails not_built
+came_of (forms.Refused code near) = fails code
 
 -- what an error ends; where it ends the transaction one that is open is rolled back
 unfoldable pub ended_by : Action → Doing Exit
@@ -275,7 +359,7 @@ ended_by BatchAndTransaction = rolls_back_open then λ _. over End
 -- What an error of a statement ends: there is no TRY around, and XACT_ABORT is OFF. A text that is refused
 -- has begun nothing: it ends its batch alone.
 abbrev pub action_for : Form → Failure → Action
-action_for (Refused code near) failure = Batch
+action_for (forms.Refused code near) failure = Batch
 action_for statement failure = action_of failure.number Engine false false
 
 -- an error is sent, and ends what it ends

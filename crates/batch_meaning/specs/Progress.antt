@@ -36,10 +36,11 @@ first_progress = record { tokens = []; bytes_left = 0; statements_left = 0; is_o
 
 -- ---- steps
 
--- a batch begins; a statement of it begins; it sends tokens
+-- a batch begins; a statement of it begins; it asks what its end has to relax; it sends tokens
 pub data SessionStep : Type 0 where
   begins : SessionStep
   counts : SessionStep
+  touches : SessionStep
   sends : List Token → SessionStep
 
 -- how many statements a batch may begin
@@ -62,6 +63,7 @@ size_of tokens = length (TokenBytes tokens)
 abbrev pub made : SessionStep → SessionProgress → SessionProgress
 made begins p = record p { tokens = []; bytes_left = batch_limit - end_size; statements_left = statement_limit }
 made counts p = record p { statements_left = p.statements_left - 1 }
+made touches p = record p { touched = true }
 made (sends tokens) p = record p { tokens = p.tokens ++ tokens; bytes_left = p.bytes_left - size_of tokens }
 
 -- ---- exchanges

@@ -1,16 +1,17 @@
 -- What a client is sent for a statement ([MS-TDS] 2.2.7): its tokens, by what came of it. Number, class and
 -- text of an error are those of the table of errors; 49099, which it does not have, says that a text is not
 -- built.
-use Rattle.std.specs.Prelude.{ℕ, ℤ, pos, ◌+◌, if◌then◌else◌, List, [], ◌∷◌, ◌++◌, map, length, take, Option, None, Some, codes}
-use Rattle.std.specs.Ordering.{int_eq}
+use Rattle.std.specs.Prelude.{ℕ, ℤ, ◌+◌, List, [], ◌∷◌, ◌++◌, map, length, take, Option, None, Some, codes}
 use Rattle.value_types.specs.declared.value.Value.{Value}
 use Rattle.error_table.specs.declared.action.Action.{Action}
 use Rattle.error_table.specs.declared.action.Action.TheVariants.{Statement, Batch, BatchAndTransaction, Doom}
 use Rattle.error_table.specs.Table.{ErrorLine, row_of}
 use Rattle.error_table.specs.Text.{text_with}
 use Rattle.step_model.specs.Ranges.{Rows}
+use Rattle.tsql_tree.specs.declared.statement.Form.{Form-F}
+use Rattle.binder.specs.Names.{Layer, form_of}
 use Rattle.tds_tokens.specs.declared.columns.ColumnInfo.{ColumnInfo}
-use Rattle.tds_tokens.specs.Numbers.{text_limit, done_final, done_more, done_error, done_count, command_none, command_select, command_insert}
+use Rattle.tds_tokens.specs.Numbers.{text_limit, done_final, done_more, done_error, done_count, command_none, command_select, command_insert, command_delete, command_update}
 use Rattle.tds_tokens.specs.declared.token.DoneKind.TheVariants.{Done}
 use Rattle.tds_tokens.specs.declared.token.Token.{Token}
 use Rattle.tds_tokens.specs.declared.token.Token.TheVariants.{Error, Columns, Row, Finished}
@@ -18,9 +19,8 @@ use Rattle.batch_meaning.specs.declared.exit.Exit.{Exit}
 use Rattle.batch_meaning.specs.declared.exit.Exit.TheVariants.{On, End}
 use Rattle.batch_meaning.specs.declared.failure.Failure.{Failure}
 use Rattle.batch_meaning.specs.declared.form.Form.{Form}
-use Rattle.batch_meaning.specs.declared.form.Form.TheVariants.{Query, CreateTable, Insert, Refused}
+use Rattle.batch_meaning.specs.declared.form.Form.TheVariants as forms
 use Rattle.batch_meaning.specs.declared.form.Served.{Served}
-use Rattle.batch_meaning.specs.Tables.{key_prefix}
 
 -- ---- errors
 
@@ -38,20 +38,10 @@ message_of None name = codes "Not built."
 abbrev pub error_of : ℤ → Option ErrorLine → List ℕ → ℤ → Token
 error_of number row name line = Error (record { number = number; state = 1; class = class_of row; text = take text_limit (message_of row name); procedure = []; line = line })
 
--- the table that a statement names, what is shown of a refused text, or nothing
-abbrev pub name_in : Form → List ℕ
-name_in (CreateTable name text) = name
-name_in (Insert name key value) = name
-name_in (Refused code near) = near
-name_in statement = []
-
--- the number of the error where a row stands at the key
-abbrev pub duplicate_key : ℕ
-duplicate_key = 2627
-
--- what an error of a statement names beside that: the constraint of the table's key
-abbrev pub own_subject : Form → ℤ → List ℕ
-own_subject statement number = if int_eq number (pos duplicate_key) then key_prefix ++ name_in statement else name_in statement
+-- what is shown of a refused text, or nothing
+abbrev pub near_of : Form → List ℕ
+near_of (forms.Refused code near) = near
+near_of statement = []
 
 -- what an error's text names
 abbrev pub named_or : Option (List ℕ) → List ℕ → List ℕ
@@ -59,14 +49,20 @@ named_or (Some name) other = name
 named_or None other = other
 
 abbrev pub subject_of : Form → Failure → List ℕ
-subject_of statement failure = named_or failure.name (own_subject statement failure.number)
+subject_of statement failure = named_or failure.name (near_of statement)
 
 -- ---- DONE tokens ([MS-TDS] 2.2.7.6)
 
--- the command that a DONE names: SELECT, INSERT, or none
+-- the command that a DONE names: SELECT, INSERT, UPDATE, DELETE, or none
+abbrev pub command_in : Layer → ℕ
+command_in (Form-F.Select select) = command_select
+command_in (Form-F.Insert table columns rows) = command_insert
+command_in (Form-F.Update table sets filter) = command_update
+command_in (Form-F.Delete table filter) = command_delete
+command_in form = command_none
+
 abbrev pub command_of : Form → ℕ
-command_of (Query statement) = command_select
-command_of (Insert name key value) = command_insert
+command_of (forms.Statement statement) = command_in (form_of statement)
 command_of statement = command_none
 
 -- the end with its count of a statement of a command, where more follows: DONE_MORE and DONE_COUNT
@@ -92,9 +88,9 @@ row_tokens rows = map {A = List Value} {B = Token} Row rows
 abbrev pub result_tokens : List ColumnInfo → Rows → List Token
 result_tokens columns rows = Columns columns ∷ row_tokens rows ++ statement_done command_select (length rows) ∷ []
 
--- a row was inserted
-abbrev pub inserted_tokens : List Token
-inserted_tokens = statement_done command_insert 1 ∷ []
+-- so many rows were written
+abbrev pub written_tokens : ℕ → ℕ → List Token
+written_tokens command rows = statement_done command rows ∷ []
 
 -- the error of a statement, at its line
 abbrev pub failure_token : Served → Failure → Token

@@ -15,26 +15,10 @@ pub struct Served {
 /// The forms that a statement may have.
 #[derive(Drop)]
 pub enum Form {
-    /// `SELECT`.
-    Query {
-        /// The statement.
+    /// A statement that is served.
+    Statement {
+        /// Its tree.
         statement: Statement,
-    },
-    /// `CREATE TABLE` of a table with the columns `k`, the key, and `v`.
-    CreateTable {
-        /// The table's name.
-        name: Units,
-        /// The statement as it is spelled.
-        text: Units,
-    },
-    /// `INSERT` of one row.
-    Insert {
-        /// The table's name.
-        name: Units,
-        /// The value of `k`.
-        key: i64,
-        /// The value of `v`.
-        value: i64,
     },
     /// What is not built yet.
     NotBuilt,

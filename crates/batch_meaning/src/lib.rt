@@ -2,19 +2,15 @@
 //! replies, and what they send. Definitions, the types that they speak of, and laws; nothing here runs a batch.
 //!
 //! Read `specs/Lib.antt`: it names the definitions in order. The layers above rely on the tree `batch`, whose
-//! words are those of `specs/Doing`, and on two laws: a text is read as one list of statements
-//! ([`law_reading`]), and a batch of SELECTs, or of one statement at most,
-//! commits what its tokens tell ([`law_commits`]).
+//! words are those of `specs/Doing`, and on a law: a text is read as one list of statements ([`law_reading`]).
 #![tactic(auto)]
 
 mod exit;
 mod failure;
 mod form;
 mod laws;
-mod rows;
 
 pub use exit::Exit;
 pub use failure::Failure;
 pub use form::{Form, Served};
-pub use laws::{law_commits, law_reading};
-pub use rows::RowList;
+pub use laws::law_reading;

@@ -12,7 +12,6 @@ use Rattle.tds_packets.specs.Stream.{Joins}
 use Rattle.tds_packets.specs.Reading.{StopsBy, OnCut, byte_limit}
 use Rattle.tds_packets.proofs.Joined.{left_whole}
 use Rattle.tds_packets.proofs.Ends.{refuses_none}
-use Rattle.step_model.specs.Fits.{commits_of}
 use Rattle.step_model.specs.Port.{PortPast}
 use Rattle.step_model.proofs.Pasts.{goes_further}
 use Rattle.session_server.specs.declared.end.End.{End}
@@ -21,12 +20,11 @@ use Rattle.batch_meaning.specs.Progress.{SessionProgress, first_progress}
 use Rattle.batch_meaning.specs.Doing.{Doing, Did}
 use Rattle.batch_meaning.specs.Meaning.{rolls_back_open}
 use Rattle.session_server.specs.Response.{Response}
-use Rattle.session_server.specs.Talk.{handle, Request}
+use Rattle.session_server.specs.Talk.{Request}
 use Rattle.session_server.specs.Conversation.{IsUnended, Caused, Emptied, closed, Means, Heard, Conversation, Completes, spid_of}
 use Rattle.session_server.specs.Ends.{Cause, no_message, by_message, unsent, unmade, end_of, end_of_message}
 use Rattle.session_server.specs.Parts.{IsAskedSoFar, Spoke}
 use Rattle.batch_meaning.proofs.Composed.{does_over, does_then}
-use Rattle.session_server.proofs.ToldCommits.{closed_told, abandoned_told}
 use Rattle.session_server.proofs.Walks.{front_unended}
 
 -- ---- the closing rollback
@@ -36,11 +34,10 @@ module _ {before mid after : PortPast} {new last : SessionProgress} (end : Did m
   closes does = does_then _ _ does (does_then _ _ end (does_over refl))
 
   means_by : (config : Config) (messages : List Message) (requests : List Request) (responses : List Response) (cause : Cause) → IsAskedSoFar config before mid messages requests responses new cause → Means config before after messages responses cause
-  means_by config messages requests responses (no_message fault) asked = let whole = closes asked.1 in record { requests = requests; exchanges = whole.exchanges; past = whole.past; asked = (asked.0, last, whole.came); told = closed_told requests asked.0.are whole.exchanges responses last whole.came }
-  means_by config messages requests responses (by_message made) asked = let whole = closes asked.1 in record { requests = requests; exchanges = whole.exchanges; past = whole.past; asked = (asked.0, last, whole.came); told = closed_told requests asked.0.are whole.exchanges responses last whole.came }
-  means_by config messages requests responses (unsent fault) asked = let whole = closes asked.1 in record { requests = requests; exchanges = whole.exchanges; past = whole.past; asked = (asked.0, last, whole.came); told = closed_told requests asked.0.are whole.exchanges responses last whole.came }
+  means_by config messages requests responses (no_message fault) asked = let whole = closes asked.1 in record { requests = requests; exchanges = whole.exchanges; past = whole.past; asked = (asked.0, last, whole.came) }
+  means_by config messages requests responses (by_message made) asked = let whole = closes asked.1 in record { requests = requests; exchanges = whole.exchanges; past = whole.past; asked = (asked.0, last, whole.came) }
+  means_by config messages requests responses (unsent fault) asked = let whole = closes asked.1 in record { requests = requests; exchanges = whole.exchanges; past = whole.past; asked = (asked.0, last, whole.came) }
   means_by config messages requests responses unmade asked =
-      let told = abandoned_told requests asked.are.are (handle config asked.state asked.last) asked.first asked.second end.exchanges responses asked.talked new last asked.talk asked.left end.came in
       record {
         requests = requests;
         exchanges = (asked.first ++ asked.second) ++ end.exchanges;
@@ -63,11 +60,6 @@ module _ {before mid after : PortPast} {new last : SessionProgress} (end : Did m
           left = asked.left;
           end = end.came;
         };
-        told = (
-          commits_of (asked.second ++ end.exchanges),
-          told.0,
-          (asked.front, asked.last, asked.state, asked.whole, asked.stands, told.1),
-        );
       }
 
   pub conversation_of : {config : Config} {session : ℕ} {gave : List ℕ → Type 0} {left sink_before sink_after : Option (List ℕ)} {made : End} → Spoke config (spid_of session) gave left before mid sink_before sink_after new made → Conversation config session gave left before after sink_before sink_after made

@@ -4,6 +4,5 @@ pub mod Refusals
 pub mod Served
 pub mod Sizes
 pub mod StandardFacts
-pub mod ToldCommits
 pub mod Turns
 pub mod Walks

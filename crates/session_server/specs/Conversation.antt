@@ -11,9 +11,7 @@ use Rattle.tds_packets.specs.declared.fault.SendFault.{SendFault}
 use Rattle.tds_packets.specs.Stream.{Splits}
 use Rattle.tds_packets.specs.Reading.{StopsBy, byte_limit}
 use Rattle.tds_packets.specs.Packets.{IsPartSent}
-use Rattle.step_model.specs.declared.change.Change.{Change}
 use Rattle.step_model.specs.Exchange.{Exchange}
-use Rattle.step_model.specs.Fits.{commits_of}
 use Rattle.step_model.specs.Port.{PortPast, GoesOn}
 use Rattle.session_server.specs.declared.end.End.{End}
 use Rattle.session_server.specs.declared.end.End.TheVariants.{Closed, LoginRefused, Memory}
@@ -24,8 +22,6 @@ use Rattle.batch_meaning.specs.Doing.{Doing, over, ◌then◌, Held, Left}
 use Rattle.batch_meaning.specs.Meaning.{rolls_back_open}
 use Rattle.session_server.specs.Response.{Response}
 use Rattle.session_server.specs.Talk.{Handling, handle, walk_of, Request, AreStatements, AreRequests, response_to, talk_of, response_bytes, Bytes}
-use Rattle.batch_meaning.specs.Told.{commits_by_all}
-use Rattle.session_server.specs.Told.{commits_told}
 use Rattle.session_server.specs.Ends.{Cause, no_message, by_message, unsent, unmade, end_of}
 
 -- the SPID of a session
@@ -119,17 +115,6 @@ IsAsked config messages requests exchanges responses unmade = Abandons config me
 IsAsked config messages requests exchanges responses cause = AreRequests (walk_of config messages).handled requests
     × (new : SessionProgress) × Held (closed (talk_of requests)) first_progress exchanges responses new
 
--- for the last message, of which nothing was told, nothing is committed, or what its statements commit
-abbrev pub IsUntold : Config → List Message → List (List Change) → Type 0
-IsUntold config messages commits = (front : List Message) × (last : Message) × (state : ServerState) × (messages ≡ front ++ last ∷ []) × ((walk_of config front).stands ≡ Ok state)
-    × ((commits ≡ []) ⊎ ((statements : List Served) × AreStatements (handle config state last) statements × (commits ≡ commits_by_all statements)))
-
--- What was committed is what the responses tell, in order; behind that what the last message commits, where
--- memory was wanting for its response.
-abbrev pub AreTold : Config → List Message → List Request → List Response → List (List Change) → Cause → Type 0
-AreTold config messages requests responses commits unmade = (more : List (List Change)) × (commits ≡ commits_told requests responses ++ more) × IsUntold config messages more
-AreTold config messages requests responses commits cause = commits ≡ commits_told requests responses
-
 -- Between two moments of the port its exchanges are what was asked for these messages, of which the texts
 -- read as the statements of these requests.
 pub record Means (config : Config) (before after : PortPast) (messages : List Message) (responses : List Response) (cause : Cause) : Type 0 where
@@ -137,7 +122,6 @@ pub record Means (config : Config) (before after : PortPast) (messages : List Me
   pub exchanges : List Exchange
   pub past : GoesOn before after exchanges
   pub asked : IsAsked config messages requests exchanges responses cause
-  pub told : AreTold config messages requests responses (commits_of exchanges) cause
 
 -- ---- the whole
 

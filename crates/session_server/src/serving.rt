@@ -36,7 +36,7 @@ pub fn serve_on_port<P: Port, S: Source, K: Sink>(
     requires session { (P.past port.old).session ≡ session }
     requires idle { (P.past port.old).standing.is_open ≡ false }
 
-    // What was taken, asked, written and committed, and why the connection ended.
+    // What was taken, asked and written, and why the connection ended.
     ensures conversation { Conversation config.now session (Takes S.left S.given source.old source.new) (S.left source.new)
         (P.past port.old) (P.past port.new) (K.written sink.old) (K.written sink.new) result }
     ensures session { (P.past port.new).session ≡ session }

@@ -1,15 +1,15 @@
 use Rattle.std.proofs.Common.{◌≡◌, true, false, Err, ap, sym, rules}
 use Rattle.batch_meaning.specs.Meaning.{with_found}
-use Rattle.batch_meaning.proofs.Composed.{does_fail, leads_here, leads_room, leads_to}
-use Rattle.batch_exec.proofs.Selects.{does_made, name_found, name_last, names_done, next_name}
+use Rattle.batch_meaning.proofs.Composed.{leads_here, leads_room, leads_to}
+use Rattle.batch_exec.proofs.Selects.{does_made, fails_seen, name_found, name_last, names_done, next_name}
 use Rattle.batch_exec.proofs.look_up.look_up_all.Goals as goal
 
 pub loop-name-init : goal.loop-name-init
-loop-name-init g c = record { ready = c.requires.ready; begun = c.requires.begun; leads = rw c.new-definitions.ensures leads_here }
+loop-name-init g c = record { ready = c.requires.ready; begun = c.requires.begun; leads = rw c.new-definitions.ensures.items leads_here }
 
 pub returns-in_err-found-clause-does : goal.returns-in_err-found-clause-does
 returns-in_err-found-clause-does g c = leads_to (next_name _ _ _ _ c.name-item.is c.loop-name-test.true c.loop-name.invariant.leads)
-    (does_fail _ _ _ c.from_residual.ensures.0 c.from_residual.ensures.1 c.in_err-found.ensures.does)
+    (fails_seen _ _ _ c.from_residual.ensures.0 c.from_residual.ensures.1 c.in_err-found.ensures.does)
 
 pub returns-then-not-is_table-clause-does : goal.returns-then-not-is_table-clause-does
 returns-then-not-is_table-clause-does g c = name_last _ _ _ _ c.name-item.is c.loop-name-test.true c.loop-name.invariant.leads _ c.in_ok-found.ensures.does (sym c.if-not-is_table.ensures)
@@ -20,7 +20,7 @@ returns-then-not-add-clause-does g c = leads_to (leads_room false _ (name_found 
 
 pub loop-name-preserved : goal.loop-name-preserved
 loop-name-preserved g c =
-    let added : c.add.new.definitions ≡ with_found c.loop-name.definitions c.in_ok-found.found = c.add.ensures (search rules) in
+    let added : c.add.new.definitions.items ≡ with_found c.loop-name.definitions.items c.in_ok-found.found = c.add.ensures (search rules) in
     record {
       ready = c.in_ok-found.ensures.ready;
       begun = c.in_ok-found.ensures.begun;

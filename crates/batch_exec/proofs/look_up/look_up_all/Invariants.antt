@@ -9,5 +9,5 @@ abbrev pub invariant-loop-name : goal.invariant-loop-name
 invariant-loop-name g l = record {
   ready : Ready l.session (g.P.Port.past l.port);
   begun : l.session.is_open ≡ true;
-  leads : Leads (g.P.Port.past l.initial.port) (g.P.Port.past l.port) (looks_up [] l.names) l.initial.session (looks_up l.definitions (drop l.name-index l.names)) l.session;
+  leads : Leads (g.P.Port.past l.initial.port) (g.P.Port.past l.port) (looks_up [] l.names) l.initial.session (looks_up l.definitions.items (drop l.name-index l.names)) l.session;
 }

@@ -15,4 +15,4 @@ returns-in-Began-clause-does g c = does_reads (does_no _ _ _ (sym c.if-in_transa
 
 pub returns-in-Memory-clause-does : goal.returns-in-Memory-clause-does
 unfolding own
-returns-in-Memory-clause-does g c = does_reads (does_no _ _ _ (sym c.if-in_transaction.ensures) (does_asks c.in-Memory.ensures.asked (does_made (ap Err c.plain.ensures))))
+returns-in-Memory-clause-does g c = does_reads (does_no _ _ _ (sym c.if-in_transaction.ensures) (does_asks c.in-Memory.ensures.asked (does_made (ap Err c.no_memory.ensures))))

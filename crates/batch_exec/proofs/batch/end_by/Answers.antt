@@ -1,0 +1,20 @@
+use Rattle.std.proofs.Common.{refl}
+use Rattle.batch_meaning.specs.Meaning.{ended_by}
+use Rattle.batch_meaning.proofs.Composed.{does_over, does_then}
+use Rattle.batch_exec.proofs.batch.end_by.Goals as goal
+
+pub returns-in-Statement-clause-does : goal.returns-in-Statement-clause-does
+unfolding ended_by
+returns-in-Statement-clause-does g c = rw c.in-Statement.is (does_over refl)
+
+pub returns-in-Doom-clause-does : goal.returns-in-Doom-clause-does
+unfolding ended_by
+returns-in-Doom-clause-does g c = rw c.in-Doom.is (does_over refl)
+
+pub returns-in-Batch-clause-does : goal.returns-in-Batch-clause-does
+unfolding ended_by
+returns-in-Batch-clause-does g c = rw c.in-Batch.is (does_over refl)
+
+pub returns-in-BatchAndTransaction-clause-does : goal.returns-in-BatchAndTransaction-clause-does
+unfolding ended_by
+returns-in-BatchAndTransaction-clause-does g c = rw c.in-BatchAndTransaction.is (does_then _ _ c.roll_back_open.ensures.does (does_over refl))
