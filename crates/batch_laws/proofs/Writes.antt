@@ -1,0 +1,264 @@
+-- What is read leaves the transaction as it was; the changes of a write stay whole or not at all.
+use Rattle.std.proofs.Common.{◌≡◌, ℕ, zero, suc, Bool, true, false, if◌then◌else◌, List, [], ◌∷◌, ◌++◌, Option, Some, None, Result, Ok, Err, refl, sym, ap, ◌∙◌, subst, append_assoc, append-nil, eq-eqb}
+use Rattle.std.specs.Prelude.{◌==◌, ◌||◌, ℤ}
+use Rattle.std.specs.List.{list_any}
+use Rattle.value_types.specs.declared.table_name.TableName.{TableName}
+use Rattle.value_types.specs.declared.value.Value.{Value}
+use Rattle.tsql_tree.specs.declared.definition.TableTree.{TableTree}
+use Rattle.bound_tree.specs.declared.write.Bound.{Bound}
+use Rattle.lock_modes.specs.declared.KeyPart.{KeyPart}
+use Rattle.step_model.specs.declared.change.Deed.{Deed}
+use Rattle.step_model.specs.declared.change.Deed.TheVariants as deed
+use Rattle.step_model.specs.declared.change.Planned.{Planned}
+use Rattle.step_model.specs.declared.op.Hold.{Hold}
+use Rattle.step_model.specs.declared.op.Op.{Op}
+use Rattle.step_model.specs.declared.op.Op.TheVariants as ops
+use Rattle.step_model.specs.declared.range.KeyRange.{KeyRange}
+use Rattle.step_model.specs.declared.range.Start.{Start}
+use Rattle.step_model.specs.declared.range.Stop.{Stop}
+use Rattle.step_model.specs.declared.reply.Reply.{Reply}
+use Rattle.step_model.specs.declared.reply.Reply.TheVariants as replies
+use Rattle.step_model.specs.Dialog.{Dialog, IsQuiet, over, asks, tries, ◌then◌}
+use Rattle.step_model.specs.Own.{Progress as Stand, MarkedAt, own_at}
+use Rattle.step_model.specs.Ranges.{Rows, Keeps, range_limit}
+use Rattle.constraint_check.specs.declared.check_read.CheckRead.{CheckRead}
+use Rattle.constraint_check.specs.Reads.{reads_for, shape_of}
+use Rattle.constraint_check.specs.Judged.{judge}
+use Rattle.dml_exec.specs.declared.refusal.Level.{Level}
+use Rattle.dml_exec.specs.declared.refusal.Refusal.{Refusal}
+use Rattle.dml_exec.specs.declared.refusal.Refusal.TheVariants.{Memory}
+use Rattle.dml_exec.specs.declared.written.Written.{Written}
+use Rattle.dml_exec.specs.Asking.{on_ok, ◌>>=◌, with_room}
+use Rattle.dml_exec.specs.Reading.{TableRead, fits, fetch_of, past, fetches, reads_on, rows_from, rows_in, table_fetch, reads_table, images_from, images_of, reads_of}
+use Rattle.dml_exec.specs.Writing.{no_room, done_by, asks_deed, writes_one, writes_all, halted, is_one_key, rows_checked, broken_by, checks_one, checks_all, works, ends, marked, writes}
+use Rattle.dml_exec.proofs.Halts.{by_outcome}
+use Rattle.batch_laws.specs.Committing.{put_by}
+use Rattle.batch_laws.specs.Laws.{WritesWhole}
+use Rattle.batch_laws.proofs.Dialogs.{Goes, goes_held, goes_mono, goes_bind, goes_if}
+
+-- ---- what only reads
+
+-- it leaves the transaction as it was
+abbrev pub Reads : {A : Type 0} → Dialog A → Type 0
+Reads {A = A} dialog = (stand : Stand) → Goes dialog stand (λ (a : A) s. s ≡ stand)
+
+reads_then : {A B : Type 0} (dialog : Dialog A) (go : A → Dialog B) → Reads dialog → ((a : A) → Reads (go a)) → Reads (dialog then go)
+reads_then {A = A} {B = B} dialog go reads after stand = goes_bind dialog go stand (λ (a : A) s. s ≡ stand) (λ (b : B) s. s ≡ stand) (reads stand)
+    (λ a s same. subst (λ (x : Stand). Goes (go a) s (λ (b : B) t. t ≡ x)) same (after a s))
+
+reads_bind : {A B E : Type 0} (dialog : Dialog (Result A E)) (go : A → Dialog (Result B E)) → Reads dialog → ((a : A) → Reads (go a)) → Reads (dialog >>= go)
+reads_bind {A = A} {B = B} {E = E} dialog go reads after = reads_then dialog (on_ok go) reads by_came
+  where
+    by_came : (came : Result A E) → Reads (on_ok {B = B} go came)
+    by_came (Ok a) = after a
+    by_came (Err e) = λ stand. refl
+
+reads_room : {A E : Type 0} (wanting : E) (dialog : Dialog (Result A E)) → Reads dialog → Reads (with_room wanting dialog)
+reads_room {A = A} {E = E} wanting dialog reads stand = λ enough. goes_if enough dialog (over (Err wanting)) stand (λ (a : Result A E) s. s ≡ stand) (λ is. reads stand) (λ is. refl)
+
+-- one fetch
+reads_fetch : (keeps : Keeps) (table : TableName) (start : Start) (stop : Stop) (hold : Hold) (part : KeyPart) (so_far : Rows) → Reads (fetches keeps (ops.Fetch table start stop hold part) so_far)
+reads_fetch keeps table start stop hold part so_far stand = by_reply
+  where
+    same : record stand { own = stand.own ++ [] } ≡ stand
+    same = ap (λ (l : List Planned). record stand { own = l }) (append-nil stand.own)
+
+    by_reply : Goes (fetches keeps (ops.Fetch table start stop hold part) so_far) stand (λ (a : Result (Rows × Option (List Value)) Refusal) s. s ≡ stand)
+    by_reply (replies.Row key row at) can = λ enough. goes_if enough _ _ _ (λ (a : Result (Rows × Option (List Value)) Refusal) s. s ≡ stand) (λ is. same) (λ is. same)
+    by_reply (replies.Gone key at) can = same
+    by_reply (replies.End at) can = same
+    by_reply replies.Memory can = same
+    by_reply (replies.TimedOut holder held asked on) can = same
+    by_reply (replies.Victim cycle) can = same
+    by_reply reply can = tt
+
+-- any fetch
+reads_one : (keeps : Keeps) (fetch : Op) (so_far : Rows) → Reads (fetches keeps fetch so_far)
+reads_one keeps (ops.Fetch table start stop hold part) so_far = reads_fetch keeps table start stop hold part so_far
+reads_one keeps op so_far = λ stand. tt
+
+-- behind a key
+reads_behind : (next : Rows → List Value → Dialog (Result Rows Refusal)) → ((more : Rows) (key : List Value) → Reads (next more key)) → (came : Rows × Option (List Value)) → Reads (reads_on next came)
+reads_behind next reads (more, None) = λ stand. refl
+reads_behind next reads (more, Some key) = reads more key
+
+-- the rest of a range
+reads_from : (keeps : Keeps) (left : ℕ) (fetch : Op) (so_far : Rows) → Reads (rows_from keeps left fetch so_far)
+unfolding rows_from
+reads_from keeps zero fetch so_far = λ stand. refl
+reads_from keeps (suc left) fetch so_far = reads_bind (fetches keeps fetch so_far) (reads_on (λ more key. rows_from keeps left (past fetch key) more)) (reads_one keeps fetch so_far)
+    (reads_behind (λ more key. rows_from keeps left (past fetch key) more) (λ more key. reads_from keeps left (past fetch key) more))
+
+reads_rows : (keeps : Keeps) (one : Bool) (fetch : Op) → Reads (rows_in keeps one fetch)
+unfolding rows_in
+reads_rows keeps true fetch = reads_bind (fetches keeps fetch []) (λ came. over (Ok came.0)) (reads_one keeps fetch []) (λ came stand. refl)
+reads_rows keeps false fetch = reads_from keeps range_limit fetch []
+
+reads_images : (shapes : List TableTree) (level : Level) (images : List Rows) (reads : List TableRead) → Reads (images_from shapes level images reads)
+unfolding images_from reads_table
+reads_images shapes level images [] = λ stand. refl
+reads_images shapes level images (read ∷ reads) = reads_bind (reads_table shapes level read) (λ rows. with_room Memory (images_from shapes level (images ++ rows ∷ []) reads))
+    (reads_rows (fits (shape_of read.0 shapes)) false (table_fetch level read))
+    (λ rows. reads_room Memory (images_from shapes level (images ++ rows ∷ []) reads) (reads_images shapes level (images ++ rows ∷ []) reads))
+
+-- the images of a statement
+pub images_read : (shapes : List TableTree) (level : Level) (of : Bound) → Reads (images_of shapes level of)
+unfolding images_of
+images_read shapes level of = reads_room Memory (images_from shapes level [] (reads_of of)) (reads_images shapes level [] (reads_of of))
+
+-- ---- checks
+
+reads_checked : (shapes : List TableTree) (range : KeyRange) → Reads (rows_checked shapes range)
+unfolding rows_checked
+reads_checked shapes range = reads_room no_room _ (reads_then (rows_in (fits (shape_of range.table shapes)) (is_one_key range.start) (fetch_of range _ _)) halted (reads_rows _ _ _) by_came)
+  where
+    by_came : (came : Result Rows Refusal) → Reads (halted came)
+    by_came (Ok rows) = λ stand. refl
+    by_came (Err refusal) = λ stand. refl
+
+reads_broken : (read : CheckRead) (judged : Option ℤ) → Reads (broken_by read judged)
+reads_broken read None = λ stand. refl
+reads_broken read (Some number) = reads_room no_room _ (λ stand. refl)
+
+reads_checks : (shapes : List TableTree) (reads : List CheckRead) → Reads (checks_all shapes reads)
+unfolding checks_all checks_one
+reads_checks shapes [] = λ stand. refl
+reads_checks shapes (read ∷ reads) = reads_bind (checks_one shapes read) (λ done. checks_all shapes reads)
+    (reads_bind (rows_checked shapes read.range) (λ found. broken_by read (judge read found)) (reads_checked shapes read.range) (λ found. reads_broken read (judge read found)))
+    (λ done. reads_checks shapes reads)
+
+-- ---- changes
+
+-- behind a reply that says that it is done
+abbrev IfDone : Reply → Type 0 → Type 0
+IfDone replies.Done P = P
+IfDone reply P = Unit {0}
+
+-- a change was asked: where it is done it stands behind the others
+abbrev Asked : Planned → Stand → Reply → Stand → Type 0
+Asked change stand reply s = (s.marks ≡ stand.marks) × IfDone reply (s.own ≡ stand.own ++ change ∷ [])
+
+-- a change is asked, where there is memory to ask it
+tried : (op : Op) (quiet : IsQuiet op) (change : Planned) (stand : Stand) → Goes (asks op quiet over) stand (Asked change stand) → Goes (tries op quiet over) stand (Asked change stand)
+unfolding tries
+tried op quiet change stand goes = λ enough. goes_if enough (asks op quiet over) (over replies.Memory) stand (Asked change stand) (λ is. goes) (λ is. (refl, tt))
+
+deed_asked : (table : TableName) (key : List Value) (deed : Deed) (stand : Stand) → Goes (asks_deed table key deed) stand (Asked (record { table = table; key = key; deed = deed }) stand)
+deed_asked table key deed.Erase stand = tried (ops.Erase table key) tt (record { table = table; key = key; deed = deed.Erase }) stand by_reply
+  where
+    by_reply : Goes (asks (ops.Erase table key) tt over) stand (Asked (record { table = table; key = key; deed = deed.Erase }) stand)
+    by_reply replies.Done can = (refl, refl)
+    by_reply (replies.Ended place) can = absurd can
+    by_reply reply can = (refl, tt)
+deed_asked table key (deed.Replace row) stand = tried (ops.Replace table key row) tt (record { table = table; key = key; deed = deed.Replace row }) stand by_reply
+  where
+    by_reply : Goes (asks (ops.Replace table key row) tt over) stand (Asked (record { table = table; key = key; deed = deed.Replace row }) stand)
+    by_reply replies.Done can = (refl, refl)
+    by_reply (replies.Ended place) can = absurd can
+    by_reply reply can = (refl, tt)
+deed_asked table key (deed.Insert row) stand = tried (ops.Insert table key row) tt (record { table = table; key = key; deed = deed.Insert row }) stand by_reply
+  where
+    by_reply : Goes (asks (ops.Insert table key row) tt over) stand (Asked (record { table = table; key = key; deed = deed.Insert row }) stand)
+    by_reply replies.Done can = (refl, refl)
+    by_reply (replies.Ended place) can = absurd can
+    by_reply reply can = (refl, tt)
+
+-- changes were made behind what was written, or not all of them; the marks are as they were
+abbrev Made : {E : Type 0} → List Planned → Stand → Result (Unit {0}) E → Stand → Type 0
+Made changes stand (Ok done) s = (s.marks ≡ stand.marks) × (s.own ≡ stand.own ++ changes)
+Made changes stand (Err why) s = s.marks ≡ stand.marks
+
+one_made : (shapes : List TableTree) (change : Planned) (stand : Stand) → Goes (writes_one shapes change) stand (Made (change ∷ []) stand)
+unfolding writes_one
+one_made shapes change stand = goes_bind (asks_deed change.table change.key change.deed) (done_by shapes change) stand (Asked change stand) (Made (change ∷ []) stand) (deed_asked change.table change.key change.deed stand) by_reply
+  where
+    by_reply : (reply : Reply) (s : Stand) → Asked change stand reply s → Goes (done_by shapes change reply) s (Made (change ∷ []) stand)
+    by_reply replies.Done s is = is
+    by_reply replies.Exists s is = λ enough. goes_if enough _ _ _ (Made (change ∷ []) stand) (λ room. is.0) (λ none. is.0)
+    by_reply replies.Missing s is = is.0
+    by_reply replies.Memory s is = is.0
+    by_reply (replies.TimedOut holder held asked on) s is = is.0
+    by_reply (replies.Victim cycle) s is = is.0
+    by_reply reply s is = tt
+
+-- one change behind another
+more_made : {E : Type 0} (change : Planned) (changes : List Planned) (stand s : Stand) → Made {E = E} (change ∷ []) stand (Ok tt) s → (came : Result (Unit {0}) E) (t : Stand) → Made changes s came t → Made (change ∷ changes) stand came t
+more_made change changes stand s was (Ok done) t is = (is.0 ∙ was.0, is.1 ∙ ap (λ (l : List Planned). l ++ changes) was.1 ∙ append_assoc stand.own (change ∷ []) changes)
+more_made change changes stand s was (Err why) t is = is ∙ was.0
+
+others_made : (shapes : List TableTree) (change : Planned) (changes : List Planned) (stand : Stand) → ((s : Stand) → Goes (writes_all shapes changes) s (Made changes s))
+    → (came : Result (Unit {0}) _) (s : Stand) → Made (change ∷ []) stand came s → Goes (on_ok (λ done. writes_all shapes changes) came) s (Made (change ∷ changes) stand)
+others_made shapes change changes stand others (Ok done) s was = goes_mono (writes_all shapes changes) s (Made changes s) (Made (change ∷ changes) stand) (more_made change changes stand s was) (others s)
+others_made shapes change changes stand others (Err why) s was = was
+
+all_made : (shapes : List TableTree) (changes : List Planned) (stand : Stand) → Goes (writes_all shapes changes) stand (Made changes stand)
+unfolding writes_all
+all_made shapes [] stand = (refl, sym (append-nil stand.own))
+all_made shapes (change ∷ changes) stand = goes_bind (writes_one shapes change) (on_ok (λ done. writes_all shapes changes)) stand (Made (change ∷ []) stand) (Made (change ∷ changes) stand) (one_made shapes change stand)
+    (others_made shapes change changes stand (λ s. all_made shapes changes s))
+
+-- what only reads, behind them
+still_made : {E : Type 0} (changes : List Planned) (stand s : Stand) → Made {E = E} changes stand (Ok tt) s → (came : Result (Unit {0}) E) (t : Stand) → t ≡ s → Made changes stand came t
+still_made changes stand s was (Ok done) t same = (ap (λ (x : Stand). x.marks) same ∙ was.0, ap (λ (x : Stand). x.own) same ∙ was.1)
+still_made changes stand s was (Err why) t same = ap (λ (x : Stand). x.marks) same ∙ was.0
+
+read_made : {E : Type 0} (changes : List Planned) (stand : Stand) (dialog : Dialog (Result (Unit {0}) E)) → Reads dialog → (came : Result (Unit {0}) E) (s : Stand) → Made changes stand came s → Goes (on_ok (λ done. dialog) came) s (Made changes stand)
+read_made {E = E} changes stand dialog reads (Ok done) s was = goes_mono dialog s (λ (a : Result (Unit {0}) E) t. t ≡ s) (Made changes stand) (still_made changes stand s was) (reads s)
+read_made changes stand dialog reads (Err why) s was = was
+
+works_made : (shapes : List TableTree) (changes : List Planned) (stand : Stand) → Goes (works shapes changes) stand (Made changes stand)
+unfolding works
+works_made shapes changes stand = goes_bind (writes_all shapes changes) (on_ok (λ done. with_room no_room (checks_all shapes (reads_for changes shapes)))) stand (Made changes stand) (Made changes stand) (all_made shapes changes stand)
+    (read_made changes stand (with_room no_room (checks_all shapes (reads_for changes shapes))) (reads_room no_room (checks_all shapes (reads_for changes shapes)) (reads_checks shapes (reads_for changes shapes))))
+
+-- ---- the mark
+
+any_last : (mark : ℕ) (own : List Planned) (marks : List MarkedAt) → list_any (λ (other : MarkedAt). other.mark == mark) (marks ++ record { mark = mark; own = own } ∷ []) ≡ true
+any_last mark own [] = rw (eq-eqb mark mark refl) refl
+any_last mark own (first ∷ marks) = by_test (first.mark == mark) (any_last mark own marks)
+  where
+    rest : Bool
+    rest = list_any (λ (other : MarkedAt). other.mark == mark) (marks ++ record { mark = mark; own = own } ∷ [])
+
+    by_test : (test : Bool) → rest ≡ true → test || rest ≡ true
+    by_test true is = refl
+    by_test false is = is
+
+-- the writes at a mark that was made last
+own_last : (mark : ℕ) (own : List Planned) (marks : List MarkedAt) → own_at mark (marks ++ record { mark = mark; own = own } ∷ []) ≡ own
+own_last mark own [] = rw (eq-eqb mark mark refl) refl
+own_last mark own (first ∷ marks) = rw (any_last mark own marks) (own_last mark own marks)
+
+-- ---- the whole
+
+-- the changes stand behind what was written, or it is as it was
+abbrev pub Whole : List Planned → Stand → Result Written Refusal → Stand → Type 0
+Whole changes stand result s = s.own ≡ stand.own ++ put_by result changes
+
+pub writes_go : (shapes : List TableTree) (changes : List Planned) (stand : Stand) → Goes (writes shapes changes) stand (Whole changes stand)
+unfolding writes
+writes_go shapes changes stand = by_reply
+  where
+    set : ℕ → Stand
+    set mark = record stand { marks = stand.marks ++ record { mark = mark; own = stand.own } ∷ [] }
+
+    as_before : (mark : ℕ) (why : _) (s : Stand) → s.marks ≡ (set mark).marks → Goes (ends mark (Err why)) s (Whole changes stand)
+    as_before mark why s was replies.Done can = by_outcome (λ (r : Result Written Refusal). own_at mark s.marks ≡ stand.own ++ put_by r changes) (λ number name. back) (λ refusal. back) why
+      where
+        back : own_at mark s.marks ≡ stand.own ++ []
+        back = ap (own_at mark) was ∙ own_last mark stand.own stand.marks ∙ sym (append-nil stand.own)
+    as_before mark why s was (replies.Ended place) can = absurd can
+    as_before mark why s was reply can = tt
+
+    by_came : (mark : ℕ) (came : Result (Unit {0}) _) (s : Stand) → Made changes (set mark) came s → Goes (ends mark came) s (Whole changes stand)
+    by_came mark (Ok done) s was = was.1
+    by_came mark (Err why) s was = as_before mark why s was
+
+    by_reply : Goes (asks ops.Mark tt (marked shapes changes)) stand (Whole changes stand)
+    by_reply (replies.Marked mark) can = goes_bind (works shapes changes) (ends mark) (set mark) (Made changes (set mark)) (Whole changes stand) (works_made shapes changes (set mark)) (by_came mark)
+    by_reply replies.Memory can = refl
+    by_reply reply can = tt
+
+-- The changes of a write stay whole or not at all.
+pub writes_whole : WritesWhole
+writes_whole shapes changes manner exchanges result before held = goes_held manner (writes shapes changes) before (Whole changes before) exchanges result (writes_go shapes changes before) held
