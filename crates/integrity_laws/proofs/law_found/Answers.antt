@@ -1,0 +1,8 @@
+use Rattle.integrity_laws.proofs.Found.{found_defined, found_tables}
+use Rattle.integrity_laws.proofs.law_found.Goals as goal
+
+pub returns-clause-defined : goal.returns-clause-defined
+returns-clause-defined c = found_defined
+
+pub returns-clause-tables : goal.returns-clause-tables
+returns-clause-tables c = found_tables

@@ -1,0 +1,129 @@
+-- Own: the laws. The database without rows is sound, and so is what a sound one becomes by each of the changes that
+-- statements make: by a write of a table, by DROP TABLE and by CREATE TABLE. They are facts of maps: nothing is said here of
+-- how the changes come about.
+use Rattle.std.specs.Prelude.{◌≡◌, ◌≢◌, ◌≤◌, ◌⊎◌, ℕ, true, false, IsTrue, IsSome, List, [], ◌∷◌, length, Some, None, Ok, Err}
+use Rattle.std.specs.List.{AllByRecursion, list_any}
+use Rattle.value_types.specs.declared.value.Value.{Value}
+use Rattle.tsql_tree.specs.declared.definition.Definition.TheVariants.{Table, Trigger}
+use Rattle.tsql_tree.specs.declared.definition.TableTree.{TableTree}
+use Rattle.tsql_tree.specs.declared.definition.TriggerTree.{TriggerTree}
+use Rattle.bound_tree.specs.declared.expr.BoundTest.{BoundTest}
+use Rattle.typed_nodes.specs.Refusals.{Outcome}
+use Rattle.clause_binder.specs.Scope.{key_places, max_columns}
+use Rattle.binder.specs.Statements.{bind_checks}
+use Rattle.step_model.specs.declared.change.Planned.{Planned}
+use Rattle.step_model.specs.Database.{Database, nothing}
+use Rattle.catalog_rows.specs.Definitions.{Defines, is_objects, object_key, objects_name}
+use Rattle.catalog_rows.specs.Rows.{same_key}
+use Rattle.constraint_check.specs.Integrity.{AreKept}
+use Rattle.constraint_check.specs.Laws.{behind}
+use Rattle.constraint_check.specs.Reads.{is_erase, rows_table, shape_of}
+use Rattle.write_laws.specs.Laws.{AreOneEach}
+use Rattle.batch_meaning.specs.Changing.{is_referred, with_definition}
+use Rattle.batch_laws.specs.Committing.{definition_put}
+use Rattle.reading_laws.specs.Reads.{HaveParents, KeysHave}
+use Rattle.integrity_laws.specs.Sound.{HasParentTable, RefersTo, IsDefined, IsTableOf, Sound}
+
+-- ---- tables that are given
+
+-- they are exactly those that are defined: each is found by its name
+pub record AreTables (db : Database) (shapes : List TableTree) : Type 0 where
+  pub defined : AllByRecursion (IsTableOf db) shapes
+  pub found : (shape : TableTree) → IsTableOf db shape → shape_of (rows_table shape.name) shapes ≡ Some shape
+
+-- what a table's CHECKs are bound to, where they can be
+abbrev pub tests_in : Outcome (List BoundTest) → List BoundTest
+tests_in (Ok tests) = tests
+tests_in (Err refusal) = []
+
+abbrev pub tests_of : TableTree → List BoundTest
+tests_of shape = tests_in (bind_checks shape)
+
+-- what is asked of them where a table is written
+pub record AreReady (db : Database) (shapes : List TableTree) (shape : TableTree) : Type 0 where
+  pub kept : AreKept db tests_of shapes
+  pub one_name : AreOneEach shapes
+  pub known : shape_of (rows_table shape.name) shapes ≡ Some shape
+  pub parents : HaveParents shapes
+  pub parents_known : AllByRecursion (λ foreign. IsSome (shape_of (rows_table foreign.parent) shapes)) shape.foreigns
+  pub bound : bind_checks shape ≡ Ok (tests_of shape)
+  pub other : is_objects shape.name ≡ false
+
+-- In a sound database all of that is so.
+abbrev pub TablesReady : Type 0
+TablesReady = (db : Database) (shapes : List TableTree) (shape : TableTree) → Sound db → AreTables db shapes → IsTableOf db shape → AreReady db shapes shape
+
+-- ---- keys
+
+-- In a sound database the keys of `objects` have one value each, and those of a table as many as its PRIMARY KEY has columns.
+abbrev pub KeysSized : Type 0
+KeysSized = (db : Database) → Sound db → KeysHave 1 db (rows_table objects_name) × ((shape : TableTree) → IsTableOf db shape → KeysHave (length (key_places (Some shape))) db (rows_table shape.name))
+
+-- ---- no rows
+
+abbrev pub SoundEmpty : Type 0
+SoundEmpty = Sound nothing
+
+-- ---- a write
+
+-- changes of one of the tables keep a database sound, if all tables keep their constraints behind them
+abbrev pub SoundWritten : Type 0
+SoundWritten = (db : Database) (shapes : List TableTree) (shape : TableTree) (planned : List Planned) → Sound db → AreTables db shapes → IsTableOf db shape
+    → AllByRecursion (λ change. change.table ≡ rows_table shape.name) planned → AreKept (behind db planned) tests_of shapes → Sound (behind db planned)
+
+-- ---- DROP TABLE
+
+-- Changes of a table erase all its rows, and nothing refers to it but itself.
+pub record AreErased (db : Database) (tables : List TableTree) (shape : TableTree) (changes : List Planned) : Type 0 where
+  pub defined : IsTableOf db shape
+  pub of_table : AllByRecursion (λ change. change.table ≡ rows_table shape.name) changes
+  pub erases : AllByRecursion (λ change. is_erase change.deed ≡ true) changes
+  pub whole : (key : List Value) → IsSome (db (rows_table shape.name) key) → IsTrue (list_any (λ change. same_key change.key key) changes)
+  pub unreferred : is_referred shape.name tables ≡ false
+  pub unfired : (name : List ℕ) (trigger : TriggerTree) → IsDefined db name (Trigger trigger) → trigger.table ≢ shape.name
+
+-- these and the erasure of its definition keep a database sound
+abbrev pub SoundDropped : Type 0
+SoundDropped = (db : Database) (tables : List TableTree) (shape : TableTree) (changes : List Planned) → Sound db → AreTables db tables
+    → AreErased db tables shape changes → Sound (behind db (with_definition shape.name changes))
+
+-- ---- CREATE TABLE
+
+-- A table has no more columns than a table may have, its CHECKs can be bound, and it refers to tables that are defined, or
+-- to itself.
+pub record CanStand (db : Database) (table : TableTree) : Type 0 where
+  pub few : length table.columns ≤ max_columns
+  pub bound : (tests : List BoundTest) × (bind_checks table ≡ Ok tests)
+  pub parents : AllByRecursion (λ foreign. RefersTo table foreign table ⊎ HasParentTable db table foreign) table.foreigns
+
+-- The text defines such a table of the name, where nothing is defined.
+pub record IsCreated (db : Database) (name text : List ℕ) (table : TableTree) : Type 0 where
+  pub free : db (rows_table objects_name) (object_key name) ≡ None
+  pub defines : Defines name text (Table table)
+  pub other : is_objects name ≡ false
+  pub stands : CanStand db table
+
+-- its insertion keeps a database sound
+abbrev pub SoundCreated : Type 0
+SoundCreated = (db : Database) (name text : List ℕ) (table : TableTree) → Sound db → IsCreated db name text table → Sound (behind db (definition_put name text ∷ []))
+
+-- ---- triggers
+
+-- no trigger is defined
+abbrev pub HasNoTrigger : Database → Type 0
+HasNoTrigger db = (name : List ℕ) (trigger : TriggerTree) → IsDefined db name (Trigger trigger) → ⊥
+
+-- None comes to be by any of these changes.
+abbrev pub UntriggeredEmpty : Type 0
+UntriggeredEmpty = HasNoTrigger nothing
+
+abbrev pub UntriggeredWritten : Type 0
+UntriggeredWritten = (db : Database) (shape : TableTree) (planned : List Planned) → Sound db → IsTableOf db shape
+    → AllByRecursion (λ change. change.table ≡ rows_table shape.name) planned → HasNoTrigger db → HasNoTrigger (behind db planned)
+
+abbrev pub UntriggeredDropped : Type 0
+UntriggeredDropped = (db : Database) (shape : TableTree) (changes : List Planned) → Sound db → IsTableOf db shape
+    → AllByRecursion (λ change. change.table ≡ rows_table shape.name) changes → HasNoTrigger db → HasNoTrigger (behind db (with_definition shape.name changes))
+
+abbrev pub UntriggeredCreated : Type 0
+UntriggeredCreated = (db : Database) (name text : List ℕ) (table : TableTree) → Defines name text (Table table) → HasNoTrigger db → HasNoTrigger (behind db (definition_put name text ∷ []))

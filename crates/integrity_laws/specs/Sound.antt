@@ -1,0 +1,81 @@
+-- Own: what every committed database keeps, of `objects` and of the tables that it defines. It is said of the whole map at
+-- once. A name is looked up at its own key, and the row there has the name: so of names that differ in the spaces at their
+-- ends alone, whose keys compare equal, one at most is defined.
+use Rattle.std.specs.Prelude.{◌≡◌, ◌≤◌, ◌⊎◌, ℕ, false, IsTrue, List, length, Some, Ok}
+use Rattle.std.specs.List.{AllByRecursion}
+use Rattle.value_types.specs.declared.table_name.TableName.{TableName}
+use Rattle.value_types.specs.declared.value.Value.{Value}
+use Rattle.tsql_tree.specs.declared.definition.Definition.{Definition}
+use Rattle.tsql_tree.specs.declared.definition.Definition.TheVariants.{Table, Trigger}
+use Rattle.tsql_tree.specs.declared.definition.ForeignTree.{ForeignTree}
+use Rattle.tsql_tree.specs.declared.definition.TableTree.{TableTree}
+use Rattle.tsql_tree.specs.declared.definition.TriggerTree.{TriggerTree}
+use Rattle.bound_tree.specs.declared.expr.BoundTest.{BoundTest}
+use Rattle.clause_binder.specs.Scope.{key_places, max_columns}
+use Rattle.binder.specs.Statements.{bind_checks}
+use Rattle.step_model.specs.Database.{Database}
+use Rattle.catalog_rows.specs.Definitions.{IsDefinitionOf, is_objects, object_key, objects_name}
+use Rattle.catalog_rows.specs.Rows.{same_key}
+use Rattle.constraint_check.specs.Integrity.{IsKept}
+use Rattle.constraint_check.specs.Laws.{KeysAreOne}
+use Rattle.constraint_check.specs.Reads.{places_of, rows_table}
+
+-- ---- what is defined
+
+-- the row at the name's key defines it so
+abbrev pub IsDefined : Database → List ℕ → Definition → Type 0
+IsDefined db name definition = (row : List Value) × (db (rows_table objects_name) (object_key name) ≡ Some row) × IsDefinitionOf name row (Some definition)
+
+-- the table of this shape is defined
+abbrev pub IsTableOf : Database → TableTree → Type 0
+IsTableOf db shape = IsDefined db shape.name (Table shape)
+
+-- a table of the name is defined
+abbrev pub HasTable : Database → List ℕ → Type 0
+HasTable db name = (shape : TableTree) × IsTableOf db shape × (shape.name ≡ name)
+
+-- ---- rows
+
+-- A row of `objects` defines one name, at that name's key. The name is not that of `objects`.
+pub record DefinesOne (key row : List Value) : Type 0 where
+  pub name : List ℕ
+  pub definition : Definition
+  pub at : IsTrue (same_key (object_key name) key)
+  pub other : is_objects name ≡ false
+  pub defines : IsDefinitionOf name row (Some definition)
+
+-- the table is `objects`, or one that is defined
+abbrev pub IsKnown : Database → TableName → Type 0
+IsKnown db table = (table ≡ rows_table objects_name) ⊎ ((shape : TableTree) × IsTableOf db shape × (table ≡ rows_table shape.name))
+
+-- ---- tables
+
+-- the table's CHECKs can be bound, and its rows keep its constraints
+abbrev pub Keeps : Database → TableTree → Type 0
+Keeps db shape = (tests : List BoundTest) × (bind_checks shape ≡ Ok tests) × IsKept db shape tests
+
+-- a FOREIGN KEY of the table refers to this one, by as many columns as its key has
+abbrev pub RefersTo : TableTree → ForeignTree → TableTree → Type 0
+RefersTo shape foreign parent = (parent.name ≡ foreign.parent) × (length (places_of shape foreign.columns) ≡ length (key_places (Some parent)))
+
+-- to one that is defined
+abbrev pub HasParentTable : Database → TableTree → ForeignTree → Type 0
+HasParentTable db shape foreign = (parent : TableTree) × IsTableOf db parent × RefersTo shape foreign parent
+
+-- each of its FOREIGN KEYs does
+abbrev pub HasParentTables : Database → TableTree → Type 0
+HasParentTables db shape = AllByRecursion (HasParentTable db shape) shape.foreigns
+
+-- ---- the whole
+
+-- What every committed database keeps: keys that compare equal are one key; each row of `objects` is a definition; each
+-- other row is one of a table that is defined; each table that is defined has no more columns than a table may have, keeps
+-- its constraints, and refers to tables that are defined; and the table of each trigger is defined.
+pub record Sound (db : Database) : Type 0 where
+  pub one_key : KeysAreOne db
+  pub definitions : (key row : List Value) → db (rows_table objects_name) key ≡ Some row → DefinesOne key row
+  pub known : (table : TableName) (key row : List Value) → db table key ≡ Some row → IsKnown db table
+  pub few : (shape : TableTree) → IsTableOf db shape → length shape.columns ≤ max_columns
+  pub kept : (shape : TableTree) → IsTableOf db shape → Keeps db shape
+  pub parents : (shape : TableTree) → IsTableOf db shape → HasParentTables db shape
+  pub triggers : (name : List ℕ) (trigger : TriggerTree) → IsDefined db name (Trigger trigger) → HasTable db trigger.table

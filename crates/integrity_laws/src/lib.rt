@@ -1,0 +1,83 @@
+//! Laws of whole databases: what every committed database keeps, and that each change that statements make keeps it.
+//!
+//! Read `specs/Sound.antt` first: each row of `objects` is a definition, each other row is one of a table that is defined,
+//! and such a table keeps its constraints. Then `specs/Laws.antt` and the files behind it. The functions do nothing: each
+//! one's contract is a law of maps, and of what a write, CREATE TABLE and DROP TABLE plan. They ask nothing of their caller;
+//! only the definitions that they cite say what they mean. That a statement that succeeded has read and planned so is no
+//! part of this crate.
+#![tactic(auto)]
+
+ghost use Rattle.integrity_laws.specs.Laws.{KeysSized, SoundCreated, SoundDropped, SoundEmpty, SoundWritten, TablesReady, UntriggeredCreated, UntriggeredDropped, UntriggeredEmpty, UntriggeredWritten};
+ghost use Rattle.integrity_laws.specs.Said.{SaidDefined, SaidTables};
+ghost use Rattle.integrity_laws.specs.Found.{FoundDefined, FoundTables};
+ghost use Rattle.integrity_laws.specs.Plans.{BoundStands, PlannedReadable, SoundDropPlanned, SoundPlanned, UntriggeredDropPlanned, UntriggeredPlanned};
+
+/// In a sound database the tables that are defined are as a write asks of them: they keep their constraints, no two have
+/// one name, and those that one refers to are among them.
+pub fn law_tables_ready()
+    ensures { TablesReady }
+{}
+
+/// In a sound database the keys of a table have as many values as its PRIMARY KEY has columns.
+pub fn law_keys_sized()
+    ensures { KeysSized }
+{}
+
+/// The database without rows is sound, and no trigger is there.
+pub fn law_sound_empty()
+    ensures sound { SoundEmpty }
+    ensures untriggered { UntriggeredEmpty }
+{}
+
+/// Changes of a table keep a database sound, if all tables keep their constraints behind them.
+pub fn law_sound_written()
+    ensures sound { SoundWritten }
+    ensures untriggered { UntriggeredWritten }
+{}
+
+/// The erasure of all rows of a table that no other refers to, and of its definition, keeps a database sound.
+pub fn law_sound_dropped()
+    ensures sound { SoundDropped }
+    ensures untriggered { UntriggeredDropped }
+{}
+
+/// The insertion of a table's definition where nothing of its name is keeps a database sound.
+pub fn law_sound_created()
+    ensures sound { SoundCreated }
+    ensures untriggered { UntriggeredCreated }
+{}
+
+/// What a row of `objects` says is defined; and the tables among what all its rows say are exactly those that are defined.
+pub fn law_said()
+    ensures defined { SaidDefined }
+    ensures tables { SaidTables }
+{}
+
+/// What is read at a key of `objects` is defined; and the tables among the definitions of all its rows are exactly those
+/// that are defined, if each row stands at its own key.
+pub fn law_found()
+    ensures defined { FoundDefined }
+    ensures tables { FoundTables }
+{}
+
+/// Behind what a write plans in a sound database rows can be read for its checks.
+pub fn law_planned_readable()
+    ensures { PlannedReadable }
+{}
+
+/// What a write plans keeps a database sound, if its checks pass behind it.
+pub fn law_sound_planned()
+    ensures sound { SoundPlanned }
+    ensures untriggered { UntriggeredPlanned }
+{}
+
+/// What DROP TABLE plans on all rows of a table keeps a database sound.
+pub fn law_sound_drop_planned()
+    ensures sound { SoundDropPlanned }
+    ensures untriggered { UntriggeredDropPlanned }
+{}
+
+/// A table whose CREATE TABLE is bound over definitions of a sound database can stand there.
+pub fn law_bound_stands()
+    ensures { BoundStands }
+{}

@@ -1,0 +1,32 @@
+-- Where each commit is one of a batch, each database of the log is intact.
+use Rattle.std.proofs.Common.{◌≡◌, ℕ, zero, suc, ◌+◌, ◌-◌, ◌≤◌, ◌<◌, List, length, take, subst, arith}
+use Rattle.step_model.specs.Log.{Commit as Logged, State}
+use Rattle.integrity_laws.proofs.Empty.{sound_empty, untriggered_empty}
+use Rattle.sound_laws.specs.Laws.{Intact, IsOfBatch, LogSound, WholeLogSound}
+use Rattle.sound_laws.proofs.Batches.{batch_sound}
+
+-- one commit more
+one_more : (log : List Logged) (place : ℕ) → IsOfBatch log place → Intact (State (take place log)) → Intact (State (take (place + 1) log))
+one_more log place of intact =
+    subst (λ (n : ℕ). Intact (State (take (place + n) log))) of.one
+    (batch_sound of.session of.begin log of.mine of.before of.exchanges of.later of.tied of.batch of.front of.behind of.exchange of.among of.commits place of.ended intact)
+
+module _ (log : List Logged) (first : ℕ) (intact : Intact (State (take first log))) (each : (place : ℕ) → first ≤ place → place < length log → IsOfBatch log place) where
+  so_many : (n : ℕ) → first + n ≤ length log → Intact (State (take (first + n) log))
+  so_many zero high = let same : first ≡ first + 0 = omega arith in subst (λ (n : ℕ). Intact (State (take n log))) same intact
+  so_many (suc n) high =
+      let same : (first + n) + 1 ≡ first + suc n = omega arith in
+      let below : first + n < length log = omega arith in
+      let within : first + n ≤ length log = omega arith in
+      let behind : first ≤ first + n = omega arith in
+      subst (λ (n : ℕ). Intact (State (take n log))) same (one_more log (first + n) (each (first + n) behind below) (so_many n within))
+
+pub log_sound : LogSound
+log_sound log first intact each place low high =
+    let same : first + (place - first) ≡ place = omega arith in
+    let within : first + (place - first) ≤ length log = omega arith in
+    subst (λ (n : ℕ). Intact (State (take n log))) same (so_many log first intact each (place - first) within)
+
+pub whole_log_sound : WholeLogSound
+whole_log_sound log each place high =
+    log_sound log 0 (record { sound = sound_empty; untriggered = untriggered_empty }) (λ place low. each place) place (omega arith) high

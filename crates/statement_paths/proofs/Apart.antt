@@ -1,0 +1,183 @@
+-- A tree that was held is taken apart: what its first part asked, and what the rest did.
+use Rattle.std.proofs.Common.{◌≡◌, ◌⊎◌, inl, inr, Bool, true, false, if◌then◌else◌, List, [], ◌∷◌, ◌++◌, Result, Ok, Err, refl, sym, ap, ◌∙◌, subst}
+use Rattle.step_model.specs.declared.manner.Manner.{Manner}
+use Rattle.step_model.specs.Dialog as said
+use Rattle.step_model.specs.Dialog.{Dialog}
+use Rattle.step_model.specs.Exchange.{Exchange}
+use Rattle.step_model.specs.Ranges.{no_memory}
+use Rattle.batch_meaning.specs.declared.failure.Failure.{Failure}
+use Rattle.batch_meaning.specs.Progress.{SessionProgress, SessionStep, begins, counts, touches, sends, made, asked}
+use Rattle.batch_meaning.specs.Doing.{Doing, over, reads, makes, defines, asks, room, never, ◌then◌, Held, Left}
+use Rattle.batch_meaning.specs.Meaning.{fails, on_ok, ◌>>=◌, with_room, comes_to, ◌gives◌, holds}
+
+-- ---- the manner
+
+made_manner : (step : SessionStep) (p : SessionProgress) → (made step p).manner ≡ p.manner
+made_manner begins p = refl
+made_manner counts p = refl
+made_manner touches p = refl
+made_manner (sends tokens) p = refl
+
+-- a session asks in one manner
+pub held_manner : {A : Type 0} (tree : Doing A) (p new : SessionProgress) (exchanges : List Exchange) (a : A) → Held tree p exchanges a new → new.manner ≡ p.manner
+unfolding Held
+held_manner (over c) p new exchanges a held = ap (λ (q : SessionProgress). q.manner) held.2
+held_manner (reads look) p new exchanges a held = held_manner (look p) p new exchanges a held
+held_manner (makes step next) p new exchanges a held = held_manner next (made step p) new exchanges a held ∙ made_manner step p
+held_manner (defines key row go) p new exchanges a held = held_manner (go held.0) p new exchanges a held.2
+held_manner (asks op go) p new [] a held = absurd held
+held_manner (asks op go) p new (x ∷ later) a held = held_manner (go x.reply) (asked op x.reply p) new later a held.3
+held_manner (room go) p new exchanges a held = held_manner (go held.0) p new exchanges a held.1
+held_manner never p new exchanges a held = absurd held
+
+-- ---- one tree behind another
+
+-- the first tree came to something, and the rest did what is left
+pub record Apart {A : Type 0} (first : Doing A) (p : SessionProgress) (exchanges : List Exchange) (Rest : A → SessionProgress → List Exchange → Type 0) : Type 0 where
+  pub front : List Exchange
+  pub back : List Exchange
+  pub came : A
+  pub mid : SessionProgress
+  pub parts : exchanges ≡ front ++ back
+  pub held : Held first p front came mid
+  pub rest : Rest came mid back
+
+pub held_apart : {A B : Type 0} (tree : Doing A) (go : A → Doing B) (p new : SessionProgress) (exchanges : List Exchange) (b : B)
+    → Held (tree then go) p exchanges b new → Apart tree p exchanges (λ a mid back. Held (go a) mid back b new)
+unfolding Held ◌then◌
+held_apart (over c) go p new exchanges b held = record { front = []; back = exchanges; came = c; mid = p; parts = refl; held = (refl, refl, refl); rest = held }
+held_apart (reads look) go p new exchanges b held =
+    let on = held_apart (look p) go p new exchanges b held in record { front = on.front; back = on.back; came = on.came; mid = on.mid; parts = on.parts; held = on.held; rest = on.rest }
+held_apart (makes step next) go p new exchanges b held =
+    let on = held_apart next go (made step p) new exchanges b held in record { front = on.front; back = on.back; came = on.came; mid = on.mid; parts = on.parts; held = on.held; rest = on.rest }
+held_apart (defines key row next) go p new exchanges b held =
+    let on = held_apart (next held.0) go p new exchanges b held.2 in record { front = on.front; back = on.back; came = on.came; mid = on.mid; parts = on.parts; held = (held.0, held.1, on.held); rest = on.rest }
+held_apart (asks op next) go p new [] b held = absurd held
+held_apart (asks op next) go p new (x ∷ later) b held =
+    let on = held_apart (next x.reply) go (asked op x.reply p) new later b held.3 in
+    record { front = x ∷ on.front; back = on.back; came = on.came; mid = on.mid; parts = ap (λ (l : List Exchange). x ∷ l) on.parts; held = (held.0, held.1, held.2, on.held); rest = on.rest }
+held_apart (room next) go p new exchanges b held =
+    let on = held_apart (next held.0) go p new exchanges b held.1 in record { front = on.front; back = on.back; came = on.came; mid = on.mid; parts = on.parts; held = (held.0, on.held); rest = on.rest }
+held_apart never go p new exchanges b held = absurd held
+
+-- what was left was left in the first tree, or in the rest
+pub left_apart : {A B : Type 0} (tree : Doing A) (go : A → Doing B) (p new : SessionProgress) (exchanges : List Exchange)
+    → Left (tree then go) p exchanges new → Left tree p exchanges new ⊎ Apart tree p exchanges (λ a mid back. Left (go a) mid back new)
+unfolding Held Left ◌then◌
+left_apart {A = A} {B = B} (over c) go p new exchanges left = inr (record { front = []; back = exchanges; came = c; mid = p; parts = refl; held = (refl, refl, refl); rest = left })
+left_apart {A = A} {B = B} (reads look) go p new exchanges left = by_on (left_apart (look p) go p new exchanges left)
+  where
+    by_on : Left (look p) p exchanges new ⊎ Apart (look p) p exchanges (λ a mid back. Left (go a) mid back new) → Left (reads look) p exchanges new ⊎ Apart (reads look) p exchanges (λ a mid back. Left (go a) mid back new)
+    by_on (inl here) = inl here
+    by_on (inr on) = inr (record { front = on.front; back = on.back; came = on.came; mid = on.mid; parts = on.parts; held = on.held; rest = on.rest })
+left_apart {A = A} {B = B} (makes step next) go p new exchanges (inl here) = inl (inl here)
+left_apart {A = A} {B = B} (makes step next) go p new exchanges (inr later) = by_on (left_apart next go (made step p) new exchanges later)
+  where
+    by_on : Left next (made step p) exchanges new ⊎ Apart next (made step p) exchanges (λ a mid back. Left (go a) mid back new) → Left (makes step next) p exchanges new ⊎ Apart (makes step next) p exchanges (λ a mid back. Left (go a) mid back new)
+    by_on (inl here) = inl (inr here)
+    by_on (inr on) = inr (record { front = on.front; back = on.back; came = on.came; mid = on.mid; parts = on.parts; held = on.held; rest = on.rest })
+left_apart {A = A} {B = B} (defines key row next) go p new exchanges (inl here) = inl (inl here)
+left_apart {A = A} {B = B} (defines key row next) go p new exchanges (inr later) = by_on (left_apart (next later.0) go p new exchanges later.2)
+  where
+    by_on : Left (next later.0) p exchanges new ⊎ Apart (next later.0) p exchanges (λ a mid back. Left (go a) mid back new) → Left (defines key row next) p exchanges new ⊎ Apart (defines key row next) p exchanges (λ a mid back. Left (go a) mid back new)
+    by_on (inl here) = inl (inr (later.0, later.1, here))
+    by_on (inr on) = inr (record { front = on.front; back = on.back; came = on.came; mid = on.mid; parts = on.parts; held = (later.0, later.1, on.held); rest = on.rest })
+left_apart {A = A} {B = B} (asks op next) go p new [] left = inl left
+left_apart {A = A} {B = B} (asks op next) go p new (x ∷ later) left = by_on (left_apart (next x.reply) go (asked op x.reply p) new later left.3)
+  where
+    by_on : Left (next x.reply) (asked op x.reply p) later new ⊎ Apart (next x.reply) (asked op x.reply p) later (λ a mid back. Left (go a) mid back new) → Left (asks op next) p (x ∷ later) new ⊎ Apart (asks op next) p (x ∷ later) (λ a mid back. Left (go a) mid back new)
+    by_on (inl here) = inl (left.0, left.1, left.2, here)
+    by_on (inr on) = inr (record { front = x ∷ on.front; back = on.back; came = on.came; mid = on.mid; parts = ap (λ (l : List Exchange). x ∷ l) on.parts; held = (left.0, left.1, left.2, on.held); rest = on.rest })
+left_apart {A = A} {B = B} (room next) go p new exchanges left = by_on (left_apart (next left.0) go p new exchanges left.1)
+  where
+    by_on : Left (next left.0) p exchanges new ⊎ Apart (next left.0) p exchanges (λ a mid back. Left (go a) mid back new) → Left (room next) p exchanges new ⊎ Apart (room next) p exchanges (λ a mid back. Left (go a) mid back new)
+    by_on (inl here) = inl (left.0, here)
+    by_on (inr on) = inr (record { front = on.front; back = on.back; came = on.came; mid = on.mid; parts = on.parts; held = (left.0, on.held); rest = on.rest })
+left_apart {A = A} {B = B} never go p new exchanges left = inl left
+
+-- what was held to its end could have been left there
+pub held_left : {A : Type 0} (tree : Doing A) (p new : SessionProgress) (exchanges : List Exchange) (a : A) → Held tree p exchanges a new → Left tree p exchanges new
+unfolding Held Left
+held_left (over c) p new exchanges a held = (held.0, held.2)
+held_left (reads look) p new exchanges a held = held_left (look p) p new exchanges a held
+held_left (makes step next) p new exchanges a held = inr (held_left next (made step p) new exchanges a held)
+held_left (defines key row go) p new exchanges a held = inr (held.0, held.1, held_left (go held.0) p new exchanges a held.2)
+held_left (asks op go) p new [] a held = absurd held
+held_left (asks op go) p new (x ∷ later) a held = (held.0, held.1, held.2, held_left (go x.reply) (asked op x.reply p) new later a held.3)
+held_left (room go) p new exchanges a held = (held.0, held_left (go held.0) p new exchanges a held.1)
+held_left never p new exchanges a held = absurd held
+
+-- ---- parts that may fail
+
+-- the first part succeeded, where the whole did
+pub bind_apart : {A B : Type 0} (tree : Doing (Result A Failure)) (go : A → Doing (Result B Failure)) (p new : SessionProgress) (exchanges : List Exchange) (b : B)
+    → Held (tree >>= go) p exchanges (Ok b) new
+    → (front back : List Exchange) × (a : A) × (mid : SessionProgress) × (exchanges ≡ front ++ back) × Held tree p front (Ok a) mid × Held (go a) mid back (Ok b) new
+unfolding Held
+bind_apart {A = A} {B = B} tree go p new exchanges b held =
+    let on = held_apart tree (on_ok go) p new exchanges (Ok b) held in by_came on.front on.back on.mid on.came on.parts on.held on.rest
+  where
+    by_came : (front back : List Exchange) (mid : SessionProgress) (came : Result A Failure) → exchanges ≡ front ++ back → Held tree p front came mid → Held (on_ok go came) mid back (Ok b) new
+        → (front back : List Exchange) × (a : A) × (mid : SessionProgress) × (exchanges ≡ front ++ back) × Held tree p front (Ok a) mid × Held (go a) mid back (Ok b) new
+    by_came front back mid (Ok a) parts was rest = (front, back, a, mid, parts, was, rest)
+    by_came front back mid (Err failure) parts was rest = absurd (let no : Ok b ≡ Err failure = rest.1 in cc)
+
+-- there was room, where it succeeded
+pub room_apart : {A : Type 0} (tree : Doing (Result A Failure)) (p new : SessionProgress) (exchanges : List Exchange) (a : A) → Held (with_room tree) p exchanges (Ok a) new → Held tree p exchanges (Ok a) new
+unfolding Held
+room_apart {A = A} tree p new exchanges a held = by_enough held.0 held.1
+  where
+    by_enough : (enough : Bool) → Held (if enough then tree else fails no_memory) p exchanges (Ok a) new → Held tree p exchanges (Ok a) new
+    by_enough true was = was
+    by_enough false was = absurd (let no : Ok a ≡ Err _ = was.1 in cc)
+
+-- a result that is there at once
+pub comes_apart : {A : Type 0} (result : Result A Failure) (p new : SessionProgress) (exchanges : List Exchange) (a : A) → Held (comes_to result) p exchanges (Ok a) new → (exchanges ≡ []) × (result ≡ Ok a) × (new ≡ p)
+unfolding Held
+comes_apart result p new exchanges a held = let was = room_apart (over result) p new exchanges a held in (was.0, sym was.1, was.2)
+
+-- the same, going on
+pub bind_on : {A B Goal : Type 0} (manner : Manner) (tree : Doing (Result A Failure)) (go : A → Doing (Result B Failure)) (p new : SessionProgress) (exchanges : List Exchange) (b : B) → p.manner ≡ manner → Held (tree >>= go) p exchanges (Ok b) new
+    → ((front back : List Exchange) (a : A) (mid : SessionProgress) → exchanges ≡ front ++ back → Held tree p front (Ok a) mid → mid.manner ≡ manner → Held (go a) mid back (Ok b) new → Goal) → Goal
+bind_on manner tree go p new exchanges b is held on =
+    let was = bind_apart tree go p new exchanges b held in on was.0 was.1 was.2 was.3 was.4 was.5 (held_manner tree p was.3 was.0 (Ok was.2) was.5 ∙ is) was.6
+
+-- behind a result that is there at once
+pub comes_on : {A B Goal : Type 0} (manner : Manner) (result : Result A Failure) (go : A → Doing (Result B Failure)) (p new : SessionProgress) (exchanges : List Exchange) (b : B) → p.manner ≡ manner → Held (comes_to result >>= go) p exchanges (Ok b) new
+    → ((a : A) (mid : SessionProgress) → result ≡ Ok a → mid.manner ≡ manner → Held (go a) mid exchanges (Ok b) new → Goal) → Goal
+comes_on {A = A} {B = B} {Goal = Goal} manner result go p new exchanges b is held on = bind_on manner (comes_to result) go p new exchanges b is held by_parts
+  where
+    by_parts : (front back : List Exchange) (a : A) (mid : SessionProgress) → exchanges ≡ front ++ back → Held (comes_to result) p front (Ok a) mid → mid.manner ≡ manner → Held (go a) mid back (Ok b) new → Goal
+    by_parts front back a mid parts was same rest =
+        let came = comes_apart result p mid front a was in
+        on a mid came.1 same (subst (λ (l : List Exchange). Held (go a) mid l (Ok b) new) (sym (parts ∙ ap (λ (l : List Exchange). l ++ back) came.0)) rest)
+
+-- ---- dialogs
+
+-- a dialog was held, and behind it the rest was done
+pub record Said {A : Type 0} (manner : Manner) (dialog : Dialog A) (exchanges : List Exchange) (Rest : A → SessionProgress → List Exchange → Type 0) : Type 0 where
+  pub front : List Exchange
+  pub back : List Exchange
+  pub came : A
+  pub mid : SessionProgress
+  pub parts : exchanges ≡ front ++ back
+  pub same : mid.manner ≡ manner
+  pub held : said.Held manner dialog front came
+  pub rest : Rest came mid back
+
+gives_apart : {A B : Type 0} (dialog : Dialog A) (go : A → Doing B) (manner : Manner) (p new : SessionProgress) (exchanges : List Exchange) (b : B)
+    → p.manner ≡ manner → Held (dialog gives go) p exchanges b new → Said manner dialog exchanges (λ a mid back. Held (go a) mid back b new)
+unfolding Held said.Held ◌gives◌
+gives_apart (said.over c) go manner p new exchanges b is held = record { front = []; back = exchanges; came = c; mid = p; parts = refl; same = is; held = (refl, refl); rest = held }
+gives_apart (said.asks op quiet next) go manner p new [] b is held = absurd held
+gives_apart (said.asks op quiet next) go manner p new (x ∷ later) b is held =
+    let on = gives_apart (next x.reply) go manner (asked op x.reply p) new later b is held.3 in
+    record { front = x ∷ on.front; back = on.back; came = on.came; mid = on.mid; parts = ap (λ (l : List Exchange). x ∷ l) on.parts; same = on.same; held = (held.0, held.1 ∙ is, held.2, on.held); rest = on.rest }
+gives_apart (said.room next) go manner p new exchanges b is held =
+    let on = gives_apart (next held.0) go manner p new exchanges b is held.1 in record { front = on.front; back = on.back; came = on.came; mid = on.mid; parts = on.parts; same = on.same; held = (held.0, on.held); rest = on.rest }
+gives_apart said.never go manner p new exchanges b is held = absurd held
+
+pub holds_apart : {A B : Type 0} (dialog : Dialog A) (go : A → Doing B) (manner : Manner) (p new : SessionProgress) (exchanges : List Exchange) (b : B)
+    → p.manner ≡ manner → Held (holds dialog go) p exchanges b new → Said manner dialog exchanges (λ a mid back. Held (go a) mid back b new)
+unfolding Held
+holds_apart dialog go manner p new exchanges b is held = gives_apart dialog go manner (made touches p) new exchanges b is held
