@@ -24,7 +24,8 @@ use Rattle.integrity_laws.specs.Found.{AtOwnKey}
 abbrev pub may_come : List Exchange → Type 0
 may_come mine = Each (λ before exchange later. MayCome (standing_at (progress_of before)) exchange.op) mine
 
--- a row of `objects` is told at the key of the name that it defines, and not at one that compares equal
+-- a row of `objects` is told at the key of the name that it defines, and not at one that compares equal: an entry keeps its
+-- key, so it would be told at that of `t` where one transaction erased the row of `t` and put one of `t ` there
 abbrev pub IsToldOwn : Op → Reply → Type 0
 IsToldOwn (Fetch table start stop hold part) (Row key row at) = table ≡ rows_table objects_name → AtOwnKey (key, row)
 IsToldOwn op reply = Unit {0}
