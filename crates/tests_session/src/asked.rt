@@ -17,7 +17,7 @@ const ROWS: &str = "1 = 1|10
 
 /// Statements of each form. The first line has the command of its DONE, whether the table is defined and whether
 /// it has rows, and the key of a row that is answered as Gone; the second has its text. Behind that stands what
-/// it asks, and behind `=>` what it tells. Memory may be wanting at all that they ask but Relax and the end; each
+/// it asks, and behind `=>` what it tells. Memory may be wanting at all that they ask but BackTo, Relax and the end; each
 /// fetch and each insertion may be refused for a lock, or the session may have fallen.
 const STATEMENTS: &str = "0 - - -
 CREATE TABLE t (k INT NOT NULL PRIMARY KEY, v INT NOT NULL)
@@ -34,6 +34,7 @@ CREATE TABLE t (k INT NOT NULL PRIMARY KEY, v INT NOT NULL)
 Begin
 Mark
 Insert objects ('t') ('t', 'CREATE TABLE t (k INT NOT NULL PRIMARY KEY, v INT NOT NULL)')
+BackTo 1
 Relax
 Rollback
 =>
@@ -62,6 +63,7 @@ Fetch objects First Last Range S
 Fetch objects Past ('t') Last Range S
 Mark
 Insert t (2) (2, 30)
+BackTo 1
 Relax
 Rollback
 =>
@@ -370,15 +372,20 @@ fn is_refused(
     Ok(is_refused && is_done)
 }
 
-/// The first operations of a statement, of which the last is refused, and what is asked then: Relax only
-/// behind a fetch or an insertion.
+/// The first operations of a statement, of which the last is refused, and what is asked then: BackTo only
+/// behind a mark, Relax only behind a fetch or an insertion.
 fn asked_until(alloc: Global, asked: &str, count: usize) -> Result<String, Memory> {
     let mut front = String::new(alloc);
     let mut is_touched = false;
+    let mut is_marked = false;
     for line in asked.lines().take(count) {
+        is_marked = front.as_str().ends_with("Mark\n") || is_marked;
         is_touched = is_touched || line.starts_with("Fetch") || line.starts_with("Insert");
         front.push_str(line)?;
         front.push('\n')?;
+    }
+    if is_marked {
+        front.push_str("BackTo 1\n")?;
     }
     if is_touched && count > 1 {
         front.push_str("Relax\n")?;
@@ -387,6 +394,18 @@ fn asked_until(alloc: Global, asked: &str, count: usize) -> Result<String, Memor
         front.push_str("Rollback\n")?;
     }
     Ok(front)
+}
+
+/// How many operations may be refused: those in front of BackTo and Relax.
+fn refusable(asked: &str) -> usize {
+    let mut count = 0usize;
+    for line in asked.lines() {
+        if line.starts_with("BackTo") || line.starts_with("Relax") {
+            break;
+        }
+        count = count.wrapping_add(1);
+    }
+    count
 }
 
 /// Whether the operation of this number asks for a lock.
@@ -403,7 +422,7 @@ fn statements_ask_these_operations(rt: HostRuntime) -> Result<(), Fail> {
     for lines in STATEMENTS.split("---\n") {
         let statement = statement_of(lines).ok_or(lines)?;
         assert!(rt; is_done(&rt, rt.alloc(), statement)?, "{lines}");
-        for count in 1..=statement.asked.lines().count().saturating_sub(2) {
+        for count in 1..=refusable(statement.asked) {
             assert!(rt;
                 is_refused(&rt, rt.alloc(), statement, count, Refusal::Memory)?,
                 "{lines}"
