@@ -21,7 +21,8 @@ use Rattle.grammar_laws.specs.Grammar.Symbol.{rule}
 use Rattle.grammar_laws.specs.BySymbols.{Within}
 use Rattle.grammar_laws.proofs.Booleans.{and_true}
 use Rattle.grammar_laws.proofs.Cuts.{cuts}
-use Rattle.text_laws.specs.Laws.{Layer, layer_of, is_flat, KeptReads, KeptDefines, CreatedReads, CreatedText}
+use Rattle.binder.specs.Names.{Layer, form_of}
+use Rattle.text_laws.specs.Laws.{is_flat, KeptReads, KeptDefines, CreatedReads, CreatedText}
 use Rattle.text_laws.proofs.Noting.{Clear, clear_see}
 use Rattle.text_laws.proofs.Alike.{P, clear_within, sound_before}
 use Rattle.text_laws.proofs.Tables.{table_kept, is_create}
@@ -32,14 +33,14 @@ slice_length text from to = omega (arith, length-take (to - from) (drop from tex
 
 module _ (text : List ℕ) where
   abbrev Keeps : Statement → Type 0
-  Keeps of = KeptReads (length text) (layer_of of)
+  Keeps of = KeptReads (length text) (form_of of)
 
   -- a CREATE TABLE, somewhere in the text
   create_keeps : (h : ℕ) (front u back : List Terminal) (create : Terminal) (table : Tree r.Table) (s t : Noted) → terminals (lexemes_of text) ≡ front ++ (create ∷ (u ++ back))
       → is_create create → Within (P text) h r.Table u table (see s create) t → Clear s → t.fault ≡ None → Keeps (statement create (form.CreateTable table.0 (slice text create.spanned.start table.1)))
   create_keeps h front u back create table s t stands k d clear sound =
       let kept : List ℕ = slice text create.spanned.start table.1 in
-      let layer : layer_of (statement create (form.CreateTable table.0 kept)) ≡ Form-F.CreateTable table.0 kept =
+      let layer : form_of (statement create (form.CreateTable table.0 kept)) ≡ Form-F.CreateTable table.0 kept =
       layer_at (line create) (form.CreateTable table.0 kept) ∙ layer_rolled (Form-F.CreateTable table.0 kept) (form.CreateTable table.0 kept) (form.rolls-CreateTable table.0 kept) in
       subst (KeptReads (length text)) (sym layer) (slice_length text create.spanned.start table.1, table_kept text h front u back create table s t stands k d clear sound)
 
@@ -54,7 +55,7 @@ module _ (text : List ℕ) where
       )
   statement_keeps (suc h) a front w back v s t stands (Some None, vs, e, (u1, v1, m1, e1, o1, d)) clear sound flat =
       let (apart, clear') = other_steady text h a u1 vs.0 s m1 o1 (sym (ap is_flat e) ∙ flat) clear in
-      (subst Keeps (sym e) (apart_keeps (length text) (layer_of vs.0) apart.is), subst Clear (sym d.1) clear')
+      (subst Keeps (sym e) (apart_keeps (length text) (form_of vs.0) apart.is), subst Clear (sym d.1) clear')
   statement_keeps (suc h) a front w back v s t stands (Some (Some p), vs, e, d) clear sound flat = absurd p
 
   body_keeps : (h : ℕ) (a : Around) (front w back : List Terminal) (v : List Statement) (s t : Noted) → terminals (lexemes_of text) ≡ front ++ (w ++ back) → Within (P text) h (r.Body a) w v s t
@@ -117,7 +118,7 @@ module _ (text : List ℕ) where
       let both = and_true (is_flat vs.0) (list_all is_flat vs.1.0) (ap (list_all is_flat) same ∙ flat) in
       let (apart, clear1) = other_steady text h outside u1 vs.0 s m1 o1 both.0 clear in
       let rest = body_keeps h outside u1 u2 [] vs.1.0 m1 m2 rest_at o2 clear1 (subst (λ (z : Noted). z.fault ≡ None) d.1 sound) both.1 in
-      subst (All Keeps) same (All-cons Keeps vs.0 vs.1.0 (apart_keeps (length text) (layer_of vs.0) apart.is) rest)
+      subst (All Keeps) same (All-cons Keeps vs.0 vs.1.0 (apart_keeps (length text) (form_of vs.0) apart.is) rest)
   batch_keeps (suc h) w tree n s t statements stands (Some (Some (Some None)), vs, e, d) clear sound is flat =
       let same : [] ≡ statements = body_same [] statements (sym (ap (λ z. z n) e) ∙ is) in subst (All Keeps) same (All-nil Keeps)
   batch_keeps (suc h) w tree n s t statements stands (Some (Some (Some (Some p))), vs, e, d) clear sound is flat = absurd p
@@ -133,4 +134,4 @@ defines most (Form-F.CreateTable table kept) short (few, reads) = record { short
 defines most _ short reads = tt
 
 pub created_text : CreatedText
-created_text text statements reads flat short k d less = defines (length text) (layer_of (slice_index_or statements k d)) short (created_reads text statements reads flat k d less)
+created_text text statements reads flat short k d less = defines (length text) (form_of (slice_index_or statements k d)) short (created_reads text statements reads flat k d less)

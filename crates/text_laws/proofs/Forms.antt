@@ -15,14 +15,15 @@ use Rattle.tsql_grammar.proofs.RuleTests.{around}
 use Rattle.grammar_laws.specs.Grammar.{Trees}
 use Rattle.grammar_laws.specs.BySymbols.{OfSymbols, Within}
 use Rattle.grammar_laws.specs.Alternatives.{IndexOf, at}
-use Rattle.text_laws.specs.Laws.{Layer, layer_of, is_flat_form, is_flat, KeptReads}
+use Rattle.binder.specs.Names.{Layer, form_of}
+use Rattle.text_laws.specs.Laws.{is_flat_form, is_flat, KeptReads}
 use Rattle.text_laws.proofs.Calm.{calm_symbols, not_so}
 use Rattle.text_laws.proofs.Noting.{Clear, clear_see}
 use Rattle.text_laws.proofs.Alike.{P, clear_behind}
 
 -- ---- forms and their layers
 
-pub layer_at : (n : ℕ) (f : Form) → layer_of (roll-Statement (record { line = n; form = f })) ≡ out-Form f
+pub layer_at : (n : ℕ) (f : Form) → form_of (roll-Statement (record { line = n; form = f })) ≡ out-Form f
 layer_at n f = ap (λ z. out-Form z.form) (out-roll-Statement (record { line = n; form = f }))
 
 pub layer_rolled : (layer : Layer) (f : Form) → roll-Form layer ≡ f → out-Form f ≡ layer
@@ -40,7 +41,7 @@ made : (layer : Layer) (f : Form) → roll-Form layer ≡ f → creates layer �
 made layer f rolls e = record { is = ap creates (layer_rolled layer f rolls) ∙ e }
 
 pub record ApartStatement (of : Statement) : Type 0 where
-  pub is : creates (layer_of of) ≡ false
+  pub is : creates (form_of of) ≡ false
 
 put : (n : ℕ) (f : Form) → Apart f → ApartStatement (roll-Statement (record { line = n; form = f }))
 put n f a = record { is = ap creates (layer_at n f) ∙ a.is }

@@ -7,3 +7,4 @@ pub mod Alike  -- the same lexemes, in another text
 pub mod Tables  -- a table alone
 pub mod Forms  -- the forms of statements
 pub mod Batches  -- each CREATE TABLE of a batch
+pub mod Served  -- the statements that a text is read as

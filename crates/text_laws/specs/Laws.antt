@@ -5,11 +5,16 @@ use Rattle.tsql_lexer.specs.declared.lexeme.Spanned.{Spanned}
 use Rattle.tsql_lexer.specs.Reading.{lexing_of}
 use Rattle.tsql_tree.specs.declared.definition.Definition.TheVariants.{Table}
 use Rattle.tsql_tree.specs.declared.statement.Batch.TheVariants.{Body}
-use Rattle.tsql_tree.specs.declared.statement.Form.{Form, Form-F, out-Form}
-use Rattle.tsql_tree.specs.declared.statement.Statement.{Statement, out-Statement}
+use Rattle.tsql_tree.specs.declared.statement.Form.{Form-F}
+use Rattle.tsql_tree.specs.declared.statement.Statement.{Statement}
 use Rattle.tsql_grammar.specs.Trees.{slice}
 use Rattle.stmt_parser.specs.Parsed.{lexemes_of, BatchOf, DefinitionOf}
+use Rattle.binder.specs.Names.{Layer, form_of}
 use Rattle.catalog_rows.specs.Definitions.{longest_text, Defines}
+use Rattle.batch_meaning.specs.declared.form.Form.{Form as ServedForm}
+use Rattle.batch_meaning.specs.declared.form.Form.TheVariants as forms
+use Rattle.batch_meaning.specs.declared.form.Served.{Served}
+use Rattle.batch_meaning.specs.Statements.{ReadsAs}
 use Rattle.text_laws.specs.Slices.{moved_by, end_behind}
 
 -- a slice from a lexeme to a lexeme has the lexemes between
@@ -18,13 +23,6 @@ SliceLexes = (text : List ℕ) (front more back : List Spanned) (first : Spanned
     → lexing_of (slice text first.start (end_behind first.end more)) ≡ (map (moved_by first) (first ∷ more), None)
 
 -- ---- statements
-
--- a form, with the statements within it as they are
-abbrev pub Layer : Type 0
-Layer = Form-F Form Statement
-
-abbrev pub layer_of : Statement → Layer
-layer_of statement = out-Form (out-Statement statement).form
 
 -- A form that holds no other statement and declares no variable. Where a variable is declared a CHECK of the batch may use
 -- it, which it may not where the table's text stands alone.
@@ -37,7 +35,7 @@ is_flat_form (Form-F.Declare declarations) = false
 is_flat_form form = true
 
 abbrev pub is_flat : Statement → Bool
-is_flat statement = is_flat_form (layer_of statement)
+is_flat statement = is_flat_form (form_of statement)
 
 -- ---- what a CREATE TABLE keeps
 
@@ -54,9 +52,18 @@ KeptDefines form = Unit {0}
 -- where a text reads as a batch of flat statements, what each CREATE TABLE keeps of it reads, alone, as that table
 abbrev pub CreatedReads : Type 0
 CreatedReads = (text : List ℕ) (statements : List Statement) → BatchOf text (Ok (Body statements)) → list_all is_flat statements ≡ true
-    → All (λ statement. KeptReads (length text) (layer_of statement)) statements
+    → All (λ statement. KeptReads (length text) (form_of statement)) statements
 
 -- and so it defines that table, where the text is not too long
 abbrev pub CreatedText : Type 0
 CreatedText = (text : List ℕ) (statements : List Statement) → BatchOf text (Ok (Body statements)) → list_all is_flat statements ≡ true → length text ≤ longest_text
-    → All (λ statement. KeptDefines (layer_of statement)) statements
+    → All (λ statement. KeptDefines (form_of statement)) statements
+
+-- the same of a statement that is served
+abbrev pub ServedDefines : ServedForm → Type 0
+ServedDefines (forms.Statement statement) = KeptDefines (form_of statement)
+ServedDefines form = Unit {0}
+
+-- a text that is not too long is read as statements whose tables what they keep defines
+abbrev pub ServedText : Type 0
+ServedText = (text : List ℕ) (statements : List Served) → ReadsAs text statements → length text ≤ longest_text → All (λ served. ServedDefines served.form) statements
