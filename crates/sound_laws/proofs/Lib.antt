@@ -8,3 +8,4 @@ pub mod Batches  -- each commit of a batch
 pub mod Logs  -- the databases of a log
 pub mod Coming  -- in every run each operation is asked where it may come
 pub mod Runs  -- the databases of a run
+pub mod ReadingBack  -- what a CREATE TABLE keeps of a text reads as its table

@@ -1,9 +1,10 @@
 -- Own: what is asked of the exchanges of one session, and of its statements, so that its commits keep a database sound.
-use Rattle.std.specs.Prelude.{◌≡◌, ℕ, List}
+use Rattle.std.specs.Prelude.{◌≡◌, ◌≤◌, ℕ, List, length}
+use Rattle.std.specs.List.{AllByRecursion}
 use Rattle.tsql_tree.specs.declared.definition.Definition.TheVariants.{Table}
 use Rattle.tsql_tree.specs.declared.statement.Form.{Form-F}
 use Rattle.binder.specs.Names.{Layer, form_of}
-use Rattle.catalog_rows.specs.Definitions.{Defines, objects_name}
+use Rattle.catalog_rows.specs.Definitions.{Defines, longest_text, objects_name}
 use Rattle.step_model.specs.declared.op.Op.{Op}
 use Rattle.step_model.specs.declared.op.Op.TheVariants.{Fetch}
 use Rattle.step_model.specs.declared.reply.Reply.{Reply}
@@ -16,6 +17,8 @@ use Rattle.constraint_check.specs.Reads.{rows_table}
 use Rattle.reading_laws.specs.Gone.{gone_own}
 use Rattle.batch_meaning.specs.declared.form.Form.{Form}
 use Rattle.batch_meaning.specs.declared.form.Form.TheVariants as forms
+use Rattle.batch_meaning.specs.declared.form.Served.{Served}
+use Rattle.batch_meaning.specs.Statements.{ReadsAs}
 use Rattle.integrity_laws.specs.Found.{AtOwnKey}
 
 -- ---- exchanges
@@ -54,3 +57,7 @@ ReadsBackAs form = Unit {0}
 abbrev pub ReadsBack : Form → Type 0
 ReadsBack (forms.Statement statement) = ReadsBackAs (form_of statement)
 ReadsBack form = Unit {0}
+
+-- So it is of all statements that a text is read as, if it is not too long.
+abbrev pub TextsBack : Type 0
+TextsBack = (text : List ℕ) (statements : List Served) → ReadsAs text statements → length text ≤ longest_text → AllByRecursion (λ served. ReadsBack served.form) statements

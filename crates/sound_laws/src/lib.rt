@@ -8,6 +8,7 @@
 
 ghost use Rattle.sound_laws.specs.Laws.{BatchSound, LogSound, StatementSound, WholeLogSound};
 ghost use Rattle.sound_laws.specs.Runs.{DoneWhole, LeftWhole, RunSound};
+ghost use Rattle.sound_laws.specs.Tied.{TextsBack};
 
 /// The commit of a statement that went its path keeps a sound database sound.
 pub fn law_statement_sound()
@@ -35,4 +36,11 @@ pub fn law_served()
 /// In every run, of any sessions that ask what batches are, every database that the first commits of the log leave is sound.
 pub fn law_run_sound()
     ensures { RunSound }
+{}
+
+/// What each CREATE TABLE keeps of a text that is served reads as its table, if the text is not too long: this the laws ask of
+/// statements.
+#[tactic(auto, using(crate::proofs::ReadingBack::texts_back))]
+pub fn law_reads_back()
+    ensures { TextsBack }
 {}
