@@ -53,9 +53,9 @@ does_roomed {past = past} tokens {p = p} is = subst (λ r. Did past past (if_byt
     by_test false = does_over refl
 
 -- what a row defines
-pub does_defined : {past : PortPast} (key row : List Value) (result : Result (Option Definition) Failure) {p : SessionProgress} → IsDefined key row result → Did past past (with_room (defines key row (λ found. over (Ok found)))) p (Ok result) p
-does_defined key row (Ok found) is = does_room true (does_defines found is (does_over refl))
-does_defined {past = past} key row (Err failure) {p = p} is = subst (λ (f : Failure). Did past past (with_room (defines key row (λ found. over (Ok found)))) p (Ok (Err f)) p) (sym is) (does_room false (does_over refl))
+pub does_defined : {past : PortPast} (row : List Value) (result : Result (Option Definition) Failure) {p : SessionProgress} → IsDefined row result → Did past past (with_room (defines row (λ found. over (Ok found)))) p (Ok result) p
+does_defined row (Ok found) is = does_room true (does_defines found is (does_over refl))
+does_defined {past = past} row (Err failure) {p = p} is = subst (λ (f : Failure). Did past past (with_room (defines row (λ found. over (Ok found)))) p (Ok (Err f)) p) (sym is) (does_room false (does_over refl))
 
 -- ---- one after another
 

@@ -2,7 +2,7 @@
 use Rattle.std.specs.Prelude.{◌≡◌, List, Option, None, Some, Result, Ok, Err}
 use Rattle.value_types.specs.declared.value.Value.{Value}
 use Rattle.tsql_tree.specs.declared.definition.Definition.{Definition}
-use Rattle.catalog_rows.specs.Definitions.{objects_name, IsDefinitionAt}
+use Rattle.catalog_rows.specs.Definitions.{objects_name, IsDefinitionIn}
 use Rattle.lock_modes.specs.declared.KeyPart.TheVariants.{S}
 use Rattle.step_model.specs.declared.op.Hold.TheVariants as hold
 use Rattle.step_model.specs.declared.op.Op.{Op}
@@ -27,6 +27,6 @@ ReadsObjects op = ⊥
 
 -- what a row at a key makes of the definitions so far: the key to go on from, or memory was wanting
 abbrev pub IsKeyDefined : List Value → List Value → List Definition → Result (Option (List Value)) Failure → List Definition → Type 0
-IsKeyDefined key row old (Ok (Some last)) new = (last ≡ key) × (found : Option Definition) × IsDefinitionAt key row found × (new ≡ with_found old found)
+IsKeyDefined key row old (Ok (Some last)) new = (last ≡ key) × (found : Option Definition) × IsDefinitionIn row found × (new ≡ with_found old found)
 IsKeyDefined key row old (Ok None) new = ⊥
 IsKeyDefined key row old (Err failure) new = failure ≡ plain no_memory

@@ -11,7 +11,7 @@ use Rattle.typed_nodes.specs.declared.fault.BindFault.TheVariants as bind_fault
 use Rattle.scalar_eval.specs.declared.fault.EvalFault.{EvalFault}
 use Rattle.scalar_eval.specs.declared.fault.EvalFault.TheVariants as eval_fault
 use Rattle.query_eval.specs.Ans.{Ans}
-use Rattle.catalog_rows.specs.Definitions.{IsDefinitionAt, tables_of}
+use Rattle.catalog_rows.specs.Definitions.{IsDefinitionIn, tables_of}
 use Rattle.catalog_rows.specs.Rows.{has_columns}
 use Rattle.step_model.specs.declared.op.Op.{Op}
 use Rattle.step_model.specs.declared.op.Op.TheVariants.{Insert}
@@ -36,10 +36,10 @@ IsOrMemory meant result = (result ≡ meant) ⊎ (result ≡ Err (plain no_memor
 abbrev pub roomed : List Token → SessionProgress → Result (List Token) Failure
 roomed tokens p = if nat_lt p.bytes_left (size_of tokens) then Err (plain result_full) else Ok tokens
 
--- the row at the key defines this, or memory was wanting
-abbrev pub IsDefined : List Value → List Value → Result (Option Definition) Failure → Type 0
-IsDefined key row (Ok found) = IsDefinitionAt key row found
-IsDefined key row (Err failure) = failure ≡ plain no_memory
+-- the row defines this, or memory was wanting
+abbrev pub IsDefined : List Value → Result (Option Definition) Failure → Type 0
+IsDefined row (Ok found) = IsDefinitionIn row found
+IsDefined row (Err failure) = failure ≡ plain no_memory
 
 -- what a statement does within a transaction, and what may be sent for it
 abbrev pub work_of : Statement → Doing (Result (List Token) Failure)

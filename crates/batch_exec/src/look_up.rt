@@ -17,7 +17,7 @@ ghost use Rattle.batch_exec.specs.Selected.{IsDefined};
 use crate::numbers::{DEADLOCK, LOCK_TIMEOUT, NO_MEMORY};
 use crate::state::SessionState;
 use batch_meaning::Failure;
-use catalog_rows::{definition_at, is_objects, object_key};
+use catalog_rows::{definition_in, is_objects, object_key};
 use lock_modes::KeyPart;
 use std::alloc::Global;
 use step_model::{Hold, Op, Port, Reply, Start, Stop};
@@ -104,15 +104,18 @@ fn find<P: Port>(
     ensures ready { Ready session.new (P.past port.new) }
     ensures begun { session.new.is_open ≡ true }
 {
-    let fetch = Op::Fetch {
-        table,
-        start: Start::At(start),
-        stop: Stop::Within(stop),
-        hold: Hold::Range,
-        part: KeyPart::S,
-    };
-    match session.ask(port, &fetch) {
-        Reply::Row { key, row, .. } => defined(alloc, &key, &row),
+    let reply = session.ask(
+        port,
+        &Op::Fetch {
+            table,
+            start: Start::At(start),
+            stop: Stop::Within(stop),
+            hold: Hold::Range,
+            part: KeyPart::S,
+        },
+    );
+    match reply {
+        Reply::Row { row, .. } => defined(alloc, &row),
         Reply::Gone { .. } => Ok(None),
         Reply::End { .. } => Ok(None),
         Reply::Memory => Err(Failure::plain(NO_MEMORY)),
@@ -123,10 +126,10 @@ fn find<P: Port>(
 }
 
 /// What a row of `objects` defines.
-pub(crate) fn defined(alloc: Global, key: &Key, row: &Row) -> Result<Option<Definition>, Failure>
-    ensures { IsDefined key.now row.now result }
+pub(crate) fn defined(alloc: Global, row: &Row) -> Result<Option<Definition>, Failure>
+    ensures { IsDefined row.now result }
 {
-    match definition_at(alloc, key, row) {
+    match definition_in(alloc, row) {
         Ok(found) => Ok(found),
         Err(_) => Err(Failure::plain(NO_MEMORY)),
     }

@@ -110,7 +110,7 @@ fn add_at(
 ) -> Result<Option<Key>, Failure>
     ensures { IsKeyDefined key row.now definitions.old.items result definitions.new.items }
 {
-    let found = defined(alloc, &key, row)?;
+    let found = defined(alloc, row)?;
     if add(definitions, found) {
         Ok(Some(key))
     } else {

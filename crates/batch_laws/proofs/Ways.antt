@@ -11,7 +11,7 @@ use Rattle.step_model.specs.Dialog.{Dialog, IsQuiet}
 use Rattle.step_model.specs.Fits.{committed_by, commits_from}
 use Rattle.step_model.specs.Own.{Progress as Stand, progress_after, progress_from}
 use Rattle.tsql_tree.specs.declared.definition.Definition.{Definition}
-use Rattle.catalog_rows.specs.Definitions.{IsDefinitionAt}
+use Rattle.catalog_rows.specs.Definitions.{IsDefinitionIn}
 use Rattle.batch_meaning.specs.Progress.{SessionProgress, made, asked}
 use Rattle.batch_meaning.specs.Doing.{Doing, over, reads, makes, defines, asks, room, never, ◌then◌, Held, Left}
 use Rattle.batch_meaning.specs.Meaning.{◌gives◌}
@@ -37,7 +37,7 @@ abbrev pub Ways : {A : Type 0} → Doing A → Stand → Commits → SessionProg
 Ways (over a) stand commits p Kept After = After a stand commits p
 Ways (reads look) stand commits p Kept After = Ways (look p) stand commits p Kept After
 Ways (makes step next) stand commits p Kept After = Ways next stand commits (made step p) Kept After
-Ways (defines key row go) stand commits p Kept After = (found : Option Definition) → IsDefinitionAt key row found → Ways (go found) stand commits p Kept After
+Ways (defines row go) stand commits p Kept After = (found : Option Definition) → IsDefinitionIn row found → Ways (go found) stand commits p Kept After
 Ways (asks op go) stand commits p Kept After = (reply : Reply) → CanReply op reply
     → OnCommit op (Kept (with_commits commits (committed_by op reply stand))) × Ways (go reply) (progress_after stand op reply) (with_commits commits (committed_by op reply stand)) (asked op reply p) Kept After
 Ways (room go) stand commits p Kept After = (enough : Bool) → Ways (go enough) stand commits p Kept After
@@ -55,7 +55,7 @@ unfolding Held
 ways_held (over a) stand commits p Kept After exchanges result new ways held = rw (held.0, held.1, held.2) (subst (λ (c : Commits). After a stand c p) (sym (append-nil commits)) ways)
 ways_held (reads look) stand commits p Kept After exchanges result new ways held = ways_held (look p) stand commits p Kept After exchanges result new ways held
 ways_held (makes step next) stand commits p Kept After exchanges result new ways held = ways_held next stand commits (made step p) Kept After exchanges result new ways held
-ways_held (defines key row go) stand commits p Kept After exchanges result new ways held = ways_held (go held.0) stand commits p Kept After exchanges result new (ways held.0 held.1) held.2
+ways_held (defines row go) stand commits p Kept After exchanges result new ways held = ways_held (go held.0) stand commits p Kept After exchanges result new (ways held.0 held.1) held.2
 ways_held (asks op go) stand commits p Kept After [] result new ways held = absurd held
 ways_held (asks op go) stand commits p Kept After (x ∷ later) result new ways held =
     let one = ways_held (go x.reply) (progress_after stand op x.reply) (with_commits commits (committed_by op x.reply stand)) (asked op x.reply p) Kept After later result new (ways x.reply held.2).1 held.3 in
@@ -76,8 +76,8 @@ ways_left (over a) stand commits p Kept After exchanges new kept ways left = rw 
 ways_left (reads look) stand commits p Kept After exchanges new kept ways left = ways_left (look p) stand commits p Kept After exchanges new kept ways left
 ways_left (makes step next) stand commits p Kept After exchanges new kept ways (inl here) = rw (here.0) (subst Kept (sym (append-nil commits)) kept)
 ways_left (makes step next) stand commits p Kept After exchanges new kept ways (inr later) = ways_left next stand commits (made step p) Kept After exchanges new kept ways later
-ways_left (defines key row go) stand commits p Kept After exchanges new kept ways (inl here) = rw (here.0) (subst Kept (sym (append-nil commits)) kept)
-ways_left (defines key row go) stand commits p Kept After exchanges new kept ways (inr later) = ways_left (go later.0) stand commits p Kept After exchanges new kept (ways later.0 later.1) later.2
+ways_left (defines row go) stand commits p Kept After exchanges new kept ways (inl here) = rw (here.0) (subst Kept (sym (append-nil commits)) kept)
+ways_left (defines row go) stand commits p Kept After exchanges new kept ways (inr later) = ways_left (go later.0) stand commits p Kept After exchanges new kept (ways later.0 later.1) later.2
 ways_left (asks op go) stand commits p Kept After [] new kept ways left = subst Kept (sym (append-nil commits)) kept
 ways_left (asks op go) stand commits p Kept After (x ∷ later) new kept ways left =
     let on = ways x.reply left.2 in
@@ -95,7 +95,7 @@ pub ways_mono : {A : Type 0} (tree : Doing A) (stand : Stand) (commits : Commits
 ways_mono (over a) stand commits p Kept After Later on ways = on a stand commits p ways
 ways_mono (reads look) stand commits p Kept After Later on ways = ways_mono (look p) stand commits p Kept After Later on ways
 ways_mono (makes step next) stand commits p Kept After Later on ways = ways_mono next stand commits (made step p) Kept After Later on ways
-ways_mono (defines key row go) stand commits p Kept After Later on ways = λ found is. ways_mono (go found) stand commits p Kept After Later on (ways found is)
+ways_mono (defines row go) stand commits p Kept After Later on ways = λ found is. ways_mono (go found) stand commits p Kept After Later on (ways found is)
 ways_mono (asks op go) stand commits p Kept After Later on ways = λ reply can.
     ((ways reply can).0, ways_mono (go reply) (progress_after stand op reply) (with_commits commits (committed_by op reply stand)) (asked op reply p) Kept After Later on (ways reply can).1)
 ways_mono (room go) stand commits p Kept After Later on ways = λ enough. ways_mono (go enough) stand commits p Kept After Later on (ways enough)
@@ -108,7 +108,7 @@ unfolding ◌then◌
 ways_then (over a) go stand commits p Kept After ways = ways
 ways_then (reads look) go stand commits p Kept After ways = ways_then (look p) go stand commits p Kept After ways
 ways_then (makes step next) go stand commits p Kept After ways = ways_then next go stand commits (made step p) Kept After ways
-ways_then (defines key row next) go stand commits p Kept After ways = λ found is. ways_then (next found) go stand commits p Kept After (ways found is)
+ways_then (defines row next) go stand commits p Kept After ways = λ found is. ways_then (next found) go stand commits p Kept After (ways found is)
 ways_then (asks op next) go stand commits p Kept After ways = λ reply can.
     ((ways reply can).0, ways_then (next reply) go (progress_after stand op reply) (with_commits commits (committed_by op reply stand)) (asked op reply p) Kept After (ways reply can).1)
 ways_then (room next) go stand commits p Kept After ways = λ enough. ways_then (next enough) go stand commits p Kept After (ways enough)

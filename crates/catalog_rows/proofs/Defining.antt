@@ -11,7 +11,7 @@ use Rattle.query_parser.specs.declared.fault.ParseFault.{ParseFault}
 use Rattle.query_parser.specs.declared.fault.ParseFault.TheVariants as fault
 use Rattle.stmt_parser.specs.Parsed.{DefinitionOf}
 use Rattle.stmt_parser.proofs.OneOutcome.{one_definition as one_outcome}
-use Rattle.catalog_rows.specs.Definitions.{Defines, IsDefinitionAt, IsDefinitionOf, IsOfName, defined_name, longest_text, name_in, only_named, row_of, text_in}
+use Rattle.catalog_rows.specs.Definitions.{Defines, IsDefinitionIn, IsDefinitionOf, IsOfName, defined_name, longest_text, only_named, own_name, row_of, text_in}
 use Rattle.catalog_rows.specs.Laws.{OneDefinition, WrittenRead}
 
 pub written_read : WrittenRead
@@ -140,14 +140,13 @@ one_definition name row (Some a) None x y = absurd (y x.0 a x.1 x.2)
 one_definition name row None (Some b) x y = absurd (x y.0 b y.1 y.2)
 one_definition name row None None x y = refl
 
--- ---- keys
+-- ---- rows by their own names
 
--- what a row defines for the name that its key is
-pub at_name : (key : List Value) (name : List ℕ) (row : List Value) (result : Result (Option Definition) Memory)
-    → name_in key ≡ Some name → IfOk result (λ (found : Option Definition). IsDefinitionOf name row found)
-    → IfOk result (λ (found : Option Definition). IsDefinitionAt key row found)
-at_name key name row result same is =
+pub at_name : (name : List ℕ) (row : List Value) (result : Result (Option Definition) Memory)
+    → own_name row ≡ Some name → IfOk result (λ (found : Option Definition). IsDefinitionOf name row found)
+    → IfOk result (λ (found : Option Definition). IsDefinitionIn row found)
+at_name name row result same is =
     subst (λ (n : Option (List ℕ)). IfOk result (λ (found : Option Definition). IsOfName n row found)) (sym same) is
 
-pub at_none : (key row : List Value) → name_in key ≡ None → IsDefinitionAt key row None
-at_none key row none = subst (λ (n : Option (List ℕ)). IsOfName n row None) (sym none) refl
+pub at_none : (row : List Value) → own_name row ≡ None → IsDefinitionIn row None
+at_none row none = subst (λ (n : Option (List ℕ)). IsOfName n row None) (sym none) refl

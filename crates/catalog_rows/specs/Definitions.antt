@@ -23,6 +23,11 @@ is_objects name = same_units name objects_name
 abbrev pub object_key : List ℕ → List Value
 object_key name = Text name ∷ []
 
+-- the name that a key is; a key of another shape has none
+abbrev pub name_in : List Value → Option (List ℕ)
+name_in (Text name ∷ []) = Some name
+name_in key = None
+
 -- the row of a definition
 abbrev pub row_of : List ℕ → List ℕ → List Value
 row_of name text = Text name ∷ Text text ∷ []
@@ -50,18 +55,18 @@ abbrev pub IsDefinitionOf : List ℕ → List Value → Option Definition → Ty
 IsDefinitionOf name row (Some definition) = (text : List ℕ) × (row ≡ row_of name text) × Defines name text definition
 IsDefinitionOf name row None = (text : List ℕ) (definition : Definition) → row ≡ row_of name text → Defines name text definition → ⊥
 
--- the name that a key is; a key of another shape has none
-abbrev pub name_in : List Value → Option (List ℕ)
-name_in (Text name ∷ []) = Some name
-name_in key = None
+-- the name of a row, which stands first; a row that begins otherwise has none
+abbrev pub own_name : List Value → Option (List ℕ)
+own_name (Text name ∷ rest) = Some name
+own_name row = None
 
 abbrev pub IsOfName : Option (List ℕ) → List Value → Option Definition → Type 0
 IsOfName (Some name) row outcome = IsDefinitionOf name row outcome
 IsOfName None row outcome = outcome ≡ None
 
--- The same of a row that stands at a key: it defines the key's name.
-abbrev pub IsDefinitionAt : List Value → List Value → Option Definition → Type 0
-IsDefinitionAt key row outcome = IsOfName (name_in key) row outcome
+-- The same of a row for its own name, at whichever key it stands.
+abbrev pub IsDefinitionIn : List Value → Option Definition → Type 0
+IsDefinitionIn row outcome = IsOfName (own_name row) row outcome
 
 -- Private contracts alone cite these: the text in a row of this name, and a definition where it is one of the name.
 abbrev pub text_in : List ℕ → List Value → Option (List ℕ)

@@ -65,23 +65,23 @@ fn text_in<'a>(name: &Units, row: &'a Row) -> Option<&'a Units>
     }
 }
 
-/// What a row of `objects` defines for the name in the key at which it stands.
+/// What a row of `objects` defines for its own name; none where it begins with no name.
 #[tactic(auto, using(crate::proofs::Defining::at_name, crate::proofs::Defining::at_none))]
-pub fn definition_at(alloc: Global, key: &Key, row: &Row) -> Result<Option<Definition>, Memory>
-    ensures { IfOk result (λ found. spec.IsDefinitionAt key.now row.now found) }
+pub fn definition_in(alloc: Global, row: &Row) -> Result<Option<Definition>, Memory>
+    ensures { IfOk result (λ found. spec.IsDefinitionIn row.now found) }
 {
-    match name_in(key) {
+    match own_name(row) {
         Some(name) => definition_of(alloc, name, row),
         None => Ok(None),
     }
 }
 
-/// The name that a key is.
-fn name_in(key: &Key) -> Option<&Units>
-    ensures { option_map (λ name. name.now) result ≡ spec.name_in key.now }
+/// The name of a row, which stands first.
+fn own_name(row: &Row) -> Option<&Units>
+    ensures { option_map (λ name. name.now) result ≡ spec.own_name row.now }
 {
-    match key.as_slice() {
-        [Value::Text(name)] => Some(name),
+    match row.as_slice() {
+        [Value::Text(name), ..] => Some(name),
         _ => None,
     }
 }

@@ -12,7 +12,7 @@ mod laws;
 mod rows;
 
 pub use definitions::{
-    LONGEST_TEXT, definition_at, definition_of, is_objects, law_longest_text, object_key, row_of,
+    LONGEST_TEXT, definition_in, definition_of, is_objects, law_longest_text, object_key, row_of,
     tables_of,
 };
 pub use laws::{

@@ -1,47 +1,156 @@
--- Definitions that are read at their rows' own keys are what the rows say.
-use Rattle.std.proofs.Common.{◌≡◌, refl, sym, ap, ◌∙◌, subst, ℕ, List, [], ◌∷◌, Option, Some, None}
+-- What the rows of `objects` are read as is defined, and that of all rows is all of it.
+use Rattle.std.proofs.Common.{◌≡◌, refl, sym, ap, ◌∙◌, subst, inl, inr, ℕ, Bool, true, false, if◌then◌else◌, List, [], ◌∷◌, Option, Some, None, IsSome}
+use Rattle.std.proofs.lemmas.List.Elements.{recursion_from_All}
 use Rattle.std.specs.List.{AllByRecursion}
+use Rattle.std.specs.Prelude.{IsTrue}
+use Rattle.value_types.specs.Units.{same_units}
 use Rattle.value_types.specs.declared.value.Value.{Value}
-use Rattle.value_types.specs.declared.value.Value.TheVariants as value
 use Rattle.tsql_tree.specs.declared.definition.Definition.{Definition}
-use Rattle.catalog_rows.specs.Definitions.{IsDefinitionAt, IsDefinitionOf, defined_name, object_key, objects_name}
-use Rattle.constraint_check.specs.Reads.{rows_table}
+use Rattle.tsql_tree.specs.declared.definition.Definition.TheVariants.{Table, Procedure, Trigger}
+use Rattle.tsql_tree.specs.declared.definition.TableTree.{TableTree}
+use Rattle.step_model.specs.declared.range.Start.TheVariants.{First}
+use Rattle.step_model.specs.declared.range.Stop.TheVariants.{Last}
+use Rattle.step_model.specs.Database.{Database, In}
+use Rattle.catalog_rows.specs.Definitions.{IsDefinitionIn, IsDefinitionOf, IsOfName, defined_name, object_key, objects_name, own_name, tables_of}
+use Rattle.catalog_rows.specs.Rows.{same_key}
+use Rattle.constraint_check.specs.Reads.{rows_table, shape_of}
+use Rattle.constraint_check.proofs.Behind.{name_is}
+use Rattle.constraint_check.proofs.Lists.{Among, among_any, among_both, among_left, among_more, among_right}
 use Rattle.batch_meaning.specs.Meaning.{with_found}
-use Rattle.integrity_laws.specs.Sound.{IsDefined}
-use Rattle.integrity_laws.specs.Said.{SaidAs, Says}
-use Rattle.integrity_laws.specs.Found.{AtOwnKey, Entry, FoundDefined, FoundTables, ReadAs}
-use Rattle.integrity_laws.proofs.Said.{said_tables}
+use Rattle.write_laws.proofs.Changes.{all_both}
+use Rattle.integrity_laws.specs.Sound.{IsDefined, IsTableOf, Sound}
+use Rattle.integrity_laws.specs.Found.{Entry, FoundDefined, FoundTables, ReadAs}
+use Rattle.integrity_laws.proofs.Defined.{not_same, one_name, one_table, one_thing}
 
 -- ---- one row
 
-abbrev Named : List Value → List Value → Definition → Type 0
-Named key row definition = (name : List ℕ) × (key ≡ object_key name) × IsDefinitionOf name row (Some definition)
+-- it defines this, for whichever name
+abbrev Says : List Value → Definition → Type 0
+Says row definition = (name : List ℕ) × IsDefinitionOf name row (Some definition)
 
-named_at : (key row : List Value) (definition : Definition) → IsDefinitionAt key row (Some definition) → Named key row definition
-named_at [] row definition is = let both : Some definition ≡ None = is in cc
-named_at (value.Text name ∷ []) row definition is = (name, refl, is)
-named_at (value.Text name ∷ other ∷ rest) row definition is = let both : Some definition ≡ None = is in cc
-named_at (value.Null ∷ rest) row definition is = let both : Some definition ≡ None = is in cc
-named_at (value.Whole number ∷ rest) row definition is = let both : Some definition ≡ None = is in cc
-named_at (value.Bit bit ∷ rest) row definition is = let both : Some definition ≡ None = is in cc
+says_in : (row : List Value) (definition : Definition) → IsDefinitionIn row (Some definition) → Says row definition
+says_in row definition is = by_name (own_name row) is
+  where
+    by_name : (name : Option (List ℕ)) → IsOfName name row (Some definition) → Says row definition
+    by_name None is = let both : Some definition ≡ None = is in cc
+    by_name (Some name) is = (name, is)
+
+-- where nothing is read in it, it defines nothing
+none_in : (row : List Value) → IsDefinitionIn row None → (definition : Definition) → Says row definition → ⊥
+none_in row is definition said =
+    let none : IsDefinitionOf said.0 row None = subst (λ (name : Option (List ℕ)). IsOfName name row None) (ap own_name said.1.1) is in
+    none said.1.0 definition said.1.1 said.1.2
 
 pub found_defined : FoundDefined
-found_defined db key row definition stands is =
-    let named = named_at key row definition is in
-    let own : defined_name definition ≡ named.0 = named.2.2.named in
-    subst (λ (n : List ℕ). IsDefined db n definition) (sym own) (row, ap (db (rows_table objects_name)) (sym named.1) ∙ stands, named.2)
-
-says_at : (entry : Entry) (found : Option Definition) → AtOwnKey entry → IsDefinitionAt entry.0 entry.1 found → Says entry.1 found
-says_at entry (Some definition) own is = let named = named_at entry.0 entry.1 definition is in (named.0, named.2)
-says_at entry None own is = λ name definition defines.
-    let none : IsDefinitionOf name entry.1 None = subst (λ (key : List Value). IsDefinitionAt key entry.1 None) (own name definition defines) is in
-    none defines.0 definition defines.1 defines.2
+found_defined db key row definition sound stands is =
+    let said = says_in row definition is in
+    let own = sound.definitions key row stands in
+    let names : own.name ≡ said.0 = one_name row own.name said.0 own.definition definition own.defines said.1 in
+    let at : db (rows_table objects_name) (object_key said.0) ≡ db (rows_table objects_name) key =
+    sound.one_key (rows_table objects_name) (object_key said.0) key (subst (λ (n : List ℕ). same_key (object_key n) key ≡ true) names own.at) in
+    let named : defined_name definition ≡ said.0 = said.1.2.named in
+    subst (λ (n : List ℕ). IsDefined db n definition) (sym named) (row, at ∙ stands, said.1)
 
 -- ---- all rows
 
-said_as : (entries : List Entry) (so_far all : List Definition) → AllByRecursion AtOwnKey entries → ReadAs so_far entries all → SaidAs so_far entries all
-said_as [] so_far all own read = read
-said_as (entry ∷ rest) so_far all own read = (read.0, says_at entry read.0 own.0 read.1, said_as rest (with_found so_far read.0) all own.1 read.2)
+abbrev DefinedIn : Database → Definition → Type 0
+DefinedIn db definition = IsDefined db (defined_name definition) definition
+
+module _ (db : Database) (sound : Sound db) where
+  abbrev Stand : List Entry → Type 0
+  Stand entries = AllByRecursion (λ entry. db (rows_table objects_name) entry.0 ≡ Some entry.1) entries
+
+  with_defined : (so_far : List Definition) (entry : Entry) (found : Option Definition) → db (rows_table objects_name) entry.0 ≡ Some entry.1 → IsDefinitionIn entry.1 found
+      → AllByRecursion (DefinedIn db) so_far → AllByRecursion (DefinedIn db) (with_found so_far found)
+  with_defined so_far entry None stands is all = all
+  with_defined so_far entry (Some definition) stands is all = all_both (DefinedIn db) so_far (definition ∷ []) all (found_defined db entry.0 entry.1 definition sound stands is, tt)
+
+  all_defined : (entries : List Entry) (so_far all : List Definition) → Stand entries → AllByRecursion (DefinedIn db) so_far → ReadAs so_far entries all → AllByRecursion (DefinedIn db) all
+  all_defined [] so_far all stand before read = subst (AllByRecursion (DefinedIn db)) (sym read) before
+  all_defined (entry ∷ rest) so_far all stand before read = all_defined rest (with_found so_far read.0) all stand.1 (with_defined so_far entry read.0 stand.0 read.1 before) read.2
+
+  tables_defined : (all : List Definition) → AllByRecursion (DefinedIn db) all → AllByRecursion (IsTableOf db) (tables_of all)
+  tables_defined [] defined = tt
+  tables_defined (Table shape ∷ rest) defined = (defined.0, tables_defined rest defined.1)
+  tables_defined (Procedure procedure ∷ rest) defined = tables_defined rest defined.1
+  tables_defined (Trigger trigger ∷ rest) defined = tables_defined rest defined.1
+
+  -- by its name a table is found that is among them
+  found_of : (shapes : List TableTree) (shape : TableTree) → AllByRecursion (IsTableOf db) shapes → IsTableOf db shape → Among (λ of. of ≡ shape) shapes → shape_of (rows_table shape.name) shapes ≡ Some shape
+  found_of [] shape all is none = absurd none
+  found_of (first ∷ rest) shape all is among = by_test (same_units shape.name first.name) refl (found_of rest shape all.1 is)
+    where
+      by_test : (b : Bool) → same_units shape.name first.name ≡ b → (Among (λ of. of ≡ shape) rest → shape_of (rows_table shape.name) rest ≡ Some shape)
+          → (if b then Some first else shape_of (rows_table shape.name) rest) ≡ Some shape
+      by_test true named further = ap Some (one_table db first shape all.0 is (sym (name_is shape.name first.name named)))
+      by_test false apart further = elim among [
+        | inl here ↦ absurd (not_same shape.name first.name apart (ap (λ (t : TableTree). t.name) (sym here)))
+        | inr later ↦ further later
+      ]
+
+-- ---- those that are found
+
+among_found : (definition : Definition) (so_far : List Definition) (found : Option Definition) → Among (λ of. of ≡ definition) so_far → Among (λ of. of ≡ definition) (with_found so_far found)
+among_found definition so_far None among = among
+among_found definition so_far (Some other) among = among_left (λ of. of ≡ definition) so_far (other ∷ []) among
+
+among_stays : (definition : Definition) (entries : List Entry) (so_far all : List Definition) → ReadAs so_far entries all → Among (λ of. of ≡ definition) so_far → Among (λ of. of ≡ definition) all
+among_stays definition [] so_far all read among = subst (Among (λ of. of ≡ definition)) (sym read) among
+among_stays definition (entry ∷ rest) so_far all read among = among_stays definition rest (with_found so_far read.0) all read.2 (among_found definition so_far read.0 among)
+
+abbrev IsSaid : Definition → Entry → Type 0
+IsSaid definition entry = Says entry.1 definition
+
+said_found : (definition : Definition) (so_far : List Definition) (entry : Entry) (found : Option Definition) → IsSaid definition entry → IsDefinitionIn entry.1 found → Among (λ of. of ≡ definition) (with_found so_far found)
+said_found definition so_far entry None said is = absurd (none_in entry.1 is definition said)
+said_found definition so_far entry (Some other) said is =
+    let also = says_in entry.1 other is in
+    let names : also.0 ≡ said.0 = one_name entry.1 also.0 said.0 other definition also.1 said.1 in
+    among_right (λ of. of ≡ definition) so_far (other ∷ []) (inl (one_thing entry.1 said.0 other definition (subst (λ (n : List ℕ). IsDefinitionOf n entry.1 (Some other)) names also.1) said.1))
+
+all_found : (definition : Definition) (entries : List Entry) (so_far all : List Definition) → ReadAs so_far entries all → Among (IsSaid definition) entries → Among (λ of. of ≡ definition) all
+all_found definition [] so_far all read none = absurd none
+all_found definition (entry ∷ rest) so_far all read (inl here) = among_stays definition rest (with_found so_far read.0) all read.2 (said_found definition so_far entry read.0 here read.1)
+all_found definition (entry ∷ rest) so_far all read (inr later) = all_found definition rest (with_found so_far read.0) all read.2 later
+
+among_tables : (shape : TableTree) (all : List Definition) → Among (λ of. of ≡ Table shape) all → Among (λ of. of ≡ shape) (tables_of all)
+among_tables shape [] none = absurd none
+among_tables shape (Table of ∷ rest) (inl here) = inl (let both : Table of ≡ Table shape = here in cc)
+among_tables shape (Table of ∷ rest) (inr later) = inr (among_tables shape rest later)
+among_tables shape (Procedure of ∷ rest) (inl here) = let both : Procedure of ≡ Table shape = here in cc
+among_tables shape (Procedure of ∷ rest) (inr later) = among_tables shape rest later
+among_tables shape (Trigger of ∷ rest) (inl here) = let both : Trigger of ≡ Table shape = here in cc
+among_tables shape (Trigger of ∷ rest) (inr later) = among_tables shape rest later
+
+module _ (db : Database) (entries : List Entry) (all : List Definition) (sound : Sound db) (image : In db (rows_table objects_name) First Last entries) (read : ReadAs [] entries all) where
+  ranged : AllByRecursion (λ (at : Entry). IsTrue true × (db (rows_table objects_name) at.0 ≡ Some at.1)) entries
+  ranged = recursion_from_All (λ (at : Entry). IsTrue true × (db (rows_table objects_name) at.0 ≡ Some at.1)) entries image.rows_of_range
+
+  standing : (list : List Entry) → AllByRecursion (λ (at : Entry). IsTrue true × (db (rows_table objects_name) at.0 ≡ Some at.1)) list → Stand db sound list
+  standing [] all = tt
+  standing (at ∷ list) all = (all.0.1, standing list all.1)
+
+  stand : Stand db sound entries
+  stand = standing entries ranged
+
+  are_tables : AllByRecursion (IsTableOf db) (tables_of all)
+  are_tables = tables_defined db sound all (all_defined db sound entries [] all stand tt read)
+
+  -- the row of a table that is defined is among those that were read
+  said : (shape : TableTree) → IsTableOf db shape → Among (IsSaid (Table shape)) entries
+  said shape is =
+      among_more (λ at. (db (rows_table objects_name) at.0 ≡ Some at.1) × (same_key (object_key shape.name) at.0 ≡ true)) (IsSaid (Table shape)) one entries
+      (among_both (λ at. db (rows_table objects_name) at.0 ≡ Some at.1) (λ at. same_key (object_key shape.name) at.0 ≡ true) entries stand
+      (among_any (λ (at : Entry). same_key (object_key shape.name) at.0) entries (image.whole (object_key shape.name) refl (subst (λ (o : Option (List Value)). IsSome o) (sym is.1) refl))))
+    where
+      one : (at : Entry) → (db (rows_table objects_name) at.0 ≡ Some at.1) × (same_key (object_key shape.name) at.0 ≡ true) → IsSaid (Table shape) at
+      one at h =
+          let both : Some is.0 ≡ Some at.1 = sym is.1 ∙ sound.one_key (rows_table objects_name) (object_key shape.name) at.0 h.1 ∙ h.0 in
+          let rows : is.0 ≡ at.1 = cc in
+          (shape.name, subst (λ (row : List Value). IsDefinitionOf shape.name row (Some (Table shape))) rows is.2)
 
 pub found_tables : FoundTables
-found_tables db entries all sound image own read = said_tables db entries all sound image (said_as entries [] all own read)
+found_tables db entries all sound image read = record {
+  defined = are_tables db entries all sound image read;
+  found = λ shape is. found_of db sound (tables_of all) shape (are_tables db entries all sound image read) is (among_tables shape all (all_found (Table shape) entries [] all read (said db entries all sound image read shape is)));
+}

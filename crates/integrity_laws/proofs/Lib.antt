@@ -6,7 +6,6 @@ pub mod Empty  -- the database without rows
 pub mod Written  -- changes of a table
 pub mod Created  -- a definition more
 pub mod Dropped  -- all rows of a table, and its definition, less
-pub mod Said  -- what the rows of `objects` say
 pub mod Found  -- definitions that are read
 pub mod Plans  -- a plan as the changes of rows
 pub mod Writes  -- what a write plans

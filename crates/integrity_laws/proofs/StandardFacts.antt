@@ -1,7 +1,8 @@
 -- Worked names: `t`, and the same with a space at its end. They are two names, whose keys are one key.
-use Rattle.std.proofs.Common.{◌≡◌, refl, sym, ℕ, true, false, List, [], ◌∷◌, Some, None}
+use Rattle.std.proofs.Common.{◌≡◌, refl, ℕ, true, false, List, [], ◌∷◌, Some, None}
 use Rattle.std.specs.Prelude.{codes}
 use Rattle.value_types.specs.Units.{same_units}
+use Rattle.tsql_tree.specs.declared.definition.Definition.{Definition}
 use Rattle.step_model.specs.declared.range.Start.TheVariants.{First}
 use Rattle.step_model.specs.declared.range.Stop.TheVariants.{Last}
 use Rattle.step_model.specs.declared.reply.Reply.TheVariants.{Row}
@@ -10,12 +11,11 @@ use Rattle.step_model.specs.Entries.{next_entry}
 use Rattle.step_model.specs.Moves.{with_pending}
 use Rattle.step_model.specs.State.{Engine}
 use Rattle.step_model.specs.Step.{fetch_reply}
-use Rattle.catalog_rows.specs.Definitions.{IsDefinitionAt, object_key, objects_name, row_of}
+use Rattle.catalog_rows.specs.Definitions.{Defines, IsDefinitionIn, object_key, objects_name, row_of}
 use Rattle.catalog_rows.specs.Rows.{same_key}
 use Rattle.constraint_check.specs.Laws.{behind}
 use Rattle.constraint_check.specs.Reads.{rows_table}
 use Rattle.batch_laws.specs.Committing.{definition_put}
-use Rattle.integrity_laws.proofs.Defined.{not_same, same_name}
 
 abbrev t : List ℕ
 t = codes "t"
@@ -38,10 +38,6 @@ module _ (text : List ℕ) where
   stands : db (rows_table objects_name) (object_key spaced) ≡ Some (row_of t text)
   stands = refl
 
-  -- where it is read as no definition, though it is one
-  unread : IsDefinitionAt (object_key spaced) (row_of t text) None
-  unread more definition same defines = not_same t spaced apart (same_name t text spaced more same)
-
   -- an engine where `t` is
   abbrev engine : Engine
   engine = record { entries = record { table = rows_table objects_name; key = object_key t; committed = Some (row_of t text); pending = None } ∷ []; active = []; log = [] }
@@ -54,6 +50,6 @@ module _ (text : List ℕ) where
   told : fetch_reply 1 Last 0 (next_entry renamed.entries (rows_table objects_name) First) ≡ Row (object_key t) (row_of spaced text) 0
   told = refl
 
-  -- and read as no definition there
-  lost : IsDefinitionAt (object_key t) (row_of spaced text) None
-  lost more definition same defines = not_same t spaced apart (sym (same_name spaced text t more same))
+  -- and is read as what it defines, whichever key that is
+  read : (definition : Definition) → Defines spaced text definition → IsDefinitionIn (row_of spaced text) (Some definition)
+  read definition defines = (text, refl, defines)

@@ -1,14 +1,13 @@
 -- Own: the law of definitions that are read. What a row of `objects` is read as is defined; and where all of `objects` is
--- read, the tables among the definitions are exactly those that are defined. A row is read as what it defines for the name
--- that its key is: that is what it says where it stands at its own key, and not at one that compares equal.
-use Rattle.std.specs.Prelude.{◌≡◌, ℕ, List, [], ◌∷◌, Option, Some}
-use Rattle.std.specs.List.{AllByRecursion}
+-- read, the tables among the definitions are exactly those that are defined. A row tells by itself which name it defines,
+-- so nothing is asked of the keys at which rows stand: a row may stand at one that compares equal to its name's.
+use Rattle.std.specs.Prelude.{◌≡◌, List, [], ◌∷◌, Option, Some}
 use Rattle.value_types.specs.declared.value.Value.{Value}
 use Rattle.tsql_tree.specs.declared.definition.Definition.{Definition}
 use Rattle.step_model.specs.declared.range.Start.TheVariants.{First}
 use Rattle.step_model.specs.declared.range.Stop.TheVariants.{Last}
 use Rattle.step_model.specs.Database.{Database, In}
-use Rattle.catalog_rows.specs.Definitions.{IsDefinitionAt, IsDefinitionOf, defined_name, object_key, objects_name, tables_of}
+use Rattle.catalog_rows.specs.Definitions.{IsDefinitionIn, defined_name, objects_name, tables_of}
 use Rattle.constraint_check.specs.Reads.{rows_table}
 use Rattle.batch_meaning.specs.Meaning.{with_found}
 use Rattle.integrity_laws.specs.Sound.{IsDefined, Sound}
@@ -21,17 +20,12 @@ Entry = List Value × List Value
 -- these are all definitions of the rows, in their order, behind others
 abbrev pub ReadAs : List Definition → List Entry → List Definition → Type 0
 ReadAs so_far [] all = all ≡ so_far
-ReadAs so_far (entry ∷ rest) all = (found : Option Definition) × IsDefinitionAt entry.0 entry.1 found × ReadAs (with_found so_far found) rest all
+ReadAs so_far (entry ∷ rest) all = (found : Option Definition) × IsDefinitionIn entry.1 found × ReadAs (with_found so_far found) rest all
 
--- the row stands at the key of the name that it defines
-abbrev pub AtOwnKey : Entry → Type 0
-AtOwnKey entry = (name : List ℕ) (definition : Definition) → IsDefinitionOf name entry.1 (Some definition) → entry.0 ≡ object_key name
-
--- what is read at a key is defined
+-- what a row is read as is defined
 abbrev pub FoundDefined : Type 0
-FoundDefined = (db : Database) (key row : List Value) (definition : Definition) → db (rows_table objects_name) key ≡ Some row → IsDefinitionAt key row (Some definition) → IsDefined db (defined_name definition) definition
+FoundDefined = (db : Database) (key row : List Value) (definition : Definition) → Sound db → db (rows_table objects_name) key ≡ Some row → IsDefinitionIn row (Some definition) → IsDefined db (defined_name definition) definition
 
 -- the tables of all rows are those that are defined
 abbrev pub FoundTables : Type 0
-FoundTables = (db : Database) (entries : List Entry) (all : List Definition) → Sound db → In db (rows_table objects_name) First Last entries → AllByRecursion AtOwnKey entries
-    → ReadAs [] entries all → AreTables db (tables_of all)
+FoundTables = (db : Database) (entries : List Entry) (all : List Definition) → Sound db → In db (rows_table objects_name) First Last entries → ReadAs [] entries all → AreTables db (tables_of all)

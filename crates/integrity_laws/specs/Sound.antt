@@ -1,4 +1,4 @@
--- Own: what every committed database keeps, of `objects` and of the tables that it defines. It is said of the whole map at
+-- Own: what of a database is to be kept, of `objects` and of the tables that it defines. It is said of the whole map at
 -- once. A name is looked up at its own key, and the row there has the name: so of names that differ in the spaces at their
 -- ends alone, whose keys compare equal, one at most is defined.
 use Rattle.std.specs.Prelude.{◌≡◌, ◌≤◌, ◌⊎◌, ℕ, false, IsTrue, List, length, Some, Ok}
@@ -68,7 +68,7 @@ HasParentTables db shape = AllByRecursion (HasParentTable db shape) shape.foreig
 
 -- ---- the whole
 
--- What every committed database keeps: keys that compare equal are one key; each row of `objects` is a definition; each
+-- What of a database is to be kept: keys that compare equal are one key; each row of `objects` is a definition; each
 -- other row is one of a table that is defined; each table that is defined has no more columns than a table may have, keeps
 -- its constraints, and refers to tables that are defined; and the table of each trigger is defined.
 pub record Sound (db : Database) : Type 0 where

@@ -1,4 +1,4 @@
-//! Laws of whole databases: what every committed database keeps, and that each change that statements make keeps it.
+//! Laws of whole databases: what of them is to be kept, and that each change that statements make keeps it.
 //!
 //! Read `specs/Sound.antt` first: each row of `objects` is a definition, each other row is one of a table that is defined,
 //! and such a table keeps its constraints. Then `specs/Laws.antt` and the files behind it. The functions do nothing: each
@@ -8,7 +8,6 @@
 #![tactic(auto)]
 
 ghost use Rattle.integrity_laws.specs.Laws.{KeysSized, SoundCreated, SoundDropped, SoundEmpty, SoundWritten, TablesReady, UntriggeredCreated, UntriggeredDropped, UntriggeredEmpty, UntriggeredWritten};
-ghost use Rattle.integrity_laws.specs.Said.{SaidDefined, SaidTables};
 ghost use Rattle.integrity_laws.specs.Found.{FoundDefined, FoundTables};
 ghost use Rattle.integrity_laws.specs.Plans.{BoundStands, PlannedReadable, SoundDropPlanned, SoundPlanned, UntriggeredDropPlanned, UntriggeredPlanned};
 
@@ -35,7 +34,8 @@ pub fn law_sound_written()
     ensures untriggered { UntriggeredWritten }
 {}
 
-/// The erasure of all rows of a table that no other refers to, and of its definition, keeps a database sound.
+/// The erasure of all rows of a table that no other refers to, and of its definition, keeps a database sound in which no
+/// trigger is defined.
 pub fn law_sound_dropped()
     ensures sound { SoundDropped }
     ensures untriggered { UntriggeredDropped }
@@ -47,14 +47,8 @@ pub fn law_sound_created()
     ensures untriggered { UntriggeredCreated }
 {}
 
-/// What a row of `objects` says is defined; and the tables among what all its rows say are exactly those that are defined.
-pub fn law_said()
-    ensures defined { SaidDefined }
-    ensures tables { SaidTables }
-{}
-
-/// What is read at a key of `objects` is defined; and the tables among the definitions of all its rows are exactly those
-/// that are defined, if each row stands at its own key.
+/// What a row of `objects` is read as is defined; and the tables among the definitions of all its rows are exactly those
+/// that are defined, at whichever keys they stand.
 pub fn law_found()
     ensures defined { FoundDefined }
     ensures tables { FoundTables }
@@ -71,7 +65,7 @@ pub fn law_sound_planned()
     ensures untriggered { UntriggeredPlanned }
 {}
 
-/// What DROP TABLE plans on all rows of a table keeps a database sound.
+/// What DROP TABLE plans on all rows of a table that no other refers to keeps a database sound in which no trigger is defined.
 pub fn law_sound_drop_planned()
     ensures sound { SoundDropPlanned }
     ensures untriggered { UntriggeredDropPlanned }

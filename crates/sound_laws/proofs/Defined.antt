@@ -1,7 +1,6 @@
 -- Where all of `objects` was read, its range held, the tables among the definitions are those that are defined in the
 -- database at the transaction's place.
 use Rattle.std.proofs.Common.{◌≡◌, ℕ, List, [], ◌∷◌, ◌++◌, take, refl, sym, subst}
-use Rattle.std.specs.List.{AllByRecursion}
 use Rattle.lock_modes.specs.declared.KeyPart.TheVariants.{S}
 use Rattle.value_types.specs.declared.table_name.TableName.{TableName}
 use Rattle.tsql_tree.specs.declared.definition.Definition.{Definition}
@@ -18,32 +17,27 @@ use Rattle.step_model.specs.Fits.{ranges_hold}
 use Rattle.step_model.specs.Log.{Commit as Logged, State}
 use Rattle.catalog_rows.specs.Definitions.{objects_name, tables_of}
 use Rattle.constraint_check.specs.Reads.{rows_table}
-use Rattle.batch_meaning.specs.Meaning.{objects_fetch, with_found}
+use Rattle.batch_meaning.specs.Meaning.{with_found}
 use Rattle.reading_laws.specs.Gone.{gone_own}
 use Rattle.reading_laws.specs.Reads.{AskOnly, FindsBy, HoldsIt, KeysHave, Walks, at_place}
 use Rattle.reading_laws.proofs.Parts.{fetches_leave}
 use Rattle.reading_laws.proofs.Walks.{walk_read}
 use Rattle.statement_paths.specs.Paths.{AddsBy, AreDefined}
-use Rattle.integrity_laws.specs.Found.{AtOwnKey, Entry, ReadAs}
+use Rattle.integrity_laws.specs.Found.{Entry, ReadAs}
 use Rattle.integrity_laws.specs.Laws.{AreTables}
 use Rattle.integrity_laws.specs.Sound.{Sound}
 use Rattle.integrity_laws.proofs.Found.{found_tables}
 use Rattle.integrity_laws.proofs.Keys.{keys_sized}
-use Rattle.sound_laws.specs.Tied.{IsToldOwn, told_own}
-use Rattle.sound_laws.proofs.Here.{Here, each_in, here_gone, here_is, hold_fetches}
+use Rattle.sound_laws.proofs.Here.{Here, here_gone, here_is, hold_fetches}
 
 abbrev objects : TableName
 objects = rows_table objects_name
 
-abbrev Told : List Exchange → Type 0
-Told part = AllByRecursion (λ x. IsToldOwn x.op x.reply) part
-
--- the rows that were found, each at its own key, and read as these definitions
+-- the rows that were found, read as these definitions
 pub record Read (start : Start) (so_far : List Definition) (part : List Exchange) (all : List Definition) : Type 0 where
   pub entries : List Entry
   pub walks : Walks objects Last S start part entries
   pub reads : ReadAs so_far entries all
-  pub own : AllByRecursion AtOwnKey entries
 
 module _ (manner : Manner) (all : List Definition) where
   -- what one reply adds
@@ -51,29 +45,27 @@ module _ (manner : Manner) (all : List Definition) where
     pub entries : List Entry
     pub finds : FindsBy (λ key rest. Walks objects Last S (Past key) later rest) later entries reply
     pub reads : ReadAs so_far entries all
-    pub own : AllByRecursion AtOwnKey entries
 
   adds_by : (start : Start) (so_far : List Definition) (later : List Exchange) (reply : Reply)
       → ((on : Start) (more : List Definition) → AreDefined manner on more later all → Read on more later all)
-      → IsToldOwn (objects_fetch start) reply → AddsBy (λ on more. AreDefined manner on more later all) (λ more. (later ≡ []) × (all ≡ more)) so_far reply → Adds start so_far later reply
-  adds_by start so_far later (replies.Row key row at) goes told (found, is, on) =
+      → AddsBy (λ on more. AreDefined manner on more later all) (λ more. (later ≡ []) × (all ≡ more)) so_far reply → Adds start so_far later reply
+  adds_by start so_far later (replies.Row key row at) goes (found, is, on) =
       let rest = goes (Past key) (with_found so_far found) on in
-      record { entries = (key, row) ∷ rest.entries; finds = (rest.entries, refl, rest.walks); reads = (found, is, rest.reads); own = (told refl, rest.own) }
-  adds_by start so_far later (replies.Gone key at) goes told on =
+      record { entries = (key, row) ∷ rest.entries; finds = (rest.entries, refl, rest.walks); reads = (found, is, rest.reads) }
+  adds_by start so_far later (replies.Gone key at) goes on =
       let rest = goes (Past key) so_far on in
-      record { entries = rest.entries; finds = rest.walks; reads = rest.reads; own = rest.own }
-  adds_by start so_far later (replies.End at) goes told ends = record { entries = []; finds = (ends.0, refl); reads = ends.1; own = tt }
-  adds_by start so_far later reply goes told adds = absurd adds
+      record { entries = rest.entries; finds = rest.walks; reads = rest.reads }
+  adds_by start so_far later (replies.End at) goes ends = record { entries = []; finds = (ends.0, refl); reads = ends.1 }
+  adds_by start so_far later reply goes adds = absurd adds
 
-  pub all_read : (part : List Exchange) (start : Start) (so_far : List Definition) → AreDefined manner start so_far part all → Told part → Read start so_far part all
-  all_read [] start so_far is told = absurd is
-  all_read (x ∷ later) start so_far is told =
-      let adds = adds_by start so_far later x.reply (λ on more goes. all_read later on more goes told.1) (subst (λ (op : Op). IsToldOwn op x.reply) is.0.0 told.0) is.1 in
+  pub all_read : (part : List Exchange) (start : Start) (so_far : List Definition) → AreDefined manner start so_far part all → Read start so_far part all
+  all_read [] start so_far is = absurd is
+  all_read (x ∷ later) start so_far is =
+      let adds = adds_by start so_far later x.reply (λ on more goes. all_read later on more goes) is.1 in
       record {
         entries = adds.entries;
         walks = (is.0.0, subst (λ (op : Op). CanReply op x.reply) (sym is.0.0) is.0.2, adds.finds);
         reads = adds.reads;
-        own = adds.own;
       }
 
   -- each exchange is a fetch that holds its range
@@ -89,13 +81,13 @@ module _ (manner : Manner) (all : List Definition) where
       by_reply (replies.End at) adds goes = subst (AskOnly HoldsIt) (sym adds.0) tt
       by_reply reply adds goes = absurd adds
 
-pub tables_read : (log : List Logged) (place : ℕ) (mine front part rest : List Exchange) (manner : Manner) (all : List Definition) → ranges_hold log mine → gone_own mine → told_own mine
+pub tables_read : (log : List Logged) (place : ℕ) (mine front part rest : List Exchange) (manner : Manner) (all : List Definition) → ranges_hold log mine → gone_own mine
     → mine ≡ front ++ (part ++ rest) → Here log place front (part ++ rest) → AreDefined manner First [] part all → Sound (State (take place log)) → AreTables (State (take place log)) (tables_of all)
-tables_read log place mine front part rest manner all ranges gone told is here defined sound =
+tables_read log place mine front part rest manner all ranges gone is here defined sound =
     let holds = defined_holds manner all part First [] defined in
     let fetches = hold_fetches part holds in
     let there = here_is log place front part rest here (fetches_leave front part fetches).goes_on in
-    let read = all_read manner all part First [] defined (each_in (λ x. IsToldOwn x.op x.reply) mine front part rest is told) in
+    let read = all_read manner all part First [] defined in
     let rows : In (at_place log front rest) objects First Last read.entries = walk_read log mine front part rest objects First Last S read.entries (λ t. 1) is ranges read.walks
     (subst (λ (db : Database). KeysHave 1 db objects) (sym there) (keys_sized (State (take place log)) sound).0) (here_gone log place front part rest here mine (λ t. 1) is gone fetches) in
-    found_tables (State (take place log)) read.entries all sound (subst (λ (db : Database). In db objects First Last read.entries) there rows) read.own read.reads
+    found_tables (State (take place log)) read.entries all sound (subst (λ (db : Database). In db objects First Last read.entries) there rows) read.reads

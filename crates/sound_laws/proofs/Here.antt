@@ -12,7 +12,7 @@ use Rattle.step_model.specs.declared.reply.Reply.{Reply}
 use Rattle.step_model.specs.declared.reply.Reply.TheVariants as replies
 use Rattle.step_model.specs.Database.{With}
 use Rattle.step_model.specs.Exchange.{Exchange, MayCome}
-use Rattle.step_model.specs.Fits.{Each, NoneEnds, is_ended, place_of, place_or}
+use Rattle.step_model.specs.Fits.{NoneEnds, is_ended, place_of, place_or}
 use Rattle.step_model.specs.Log.{Commit as Logged, State}
 use Rattle.step_model.specs.Own.{Progress, change_of, none_open, progress_after, progress_of, standing_at}
 use Rattle.constraint_check.proofs.Lists.{all_more}
@@ -24,11 +24,6 @@ use Rattle.statement_paths.specs.Paths.{replied}
 use Rattle.sound_laws.specs.Tied.{may_come}
 
 -- ---- lists
-
--- a fact of each exchange is one of each of a part
-pub each_in : (P : Exchange → Type 0) (mine before part later : List Exchange) → mine ≡ before ++ (part ++ later) → Each (λ before exchange later. P exchange) mine → AllByRecursion P part
-each_in P mine before [] later is each = tt
-each_in P mine before (x ∷ part) later is each = (each before x (part ++ later) is, each_in P mine (before ++ x ∷ []) part later (is ∙ sym (append_assoc before (x ∷ []) (part ++ later))) each)
 
 not_ended : (reply : Reply) (behind : ℕ) → is_ended reply ≡ false → place_or reply behind ≡ behind
 not_ended (replies.Ended place) behind is = absurd (let no : true ≡ false = is in cc)

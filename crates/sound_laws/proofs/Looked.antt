@@ -15,7 +15,7 @@ use Rattle.batch_meaning.specs.Meaning.{definition_fetch, with_found}
 use Rattle.write_laws.proofs.Changes.{all_both}
 use Rattle.reading_laws.specs.Reads.{AskOnly, HoldsIt}
 use Rattle.statement_paths.specs.Paths.{AreLookedUp, IsFound, IsLookedUp}
-use Rattle.integrity_laws.specs.Sound.{IsDefined, IsTableOf}
+use Rattle.integrity_laws.specs.Sound.{IsDefined, IsTableOf, Sound}
 use Rattle.integrity_laws.proofs.Found.{found_defined}
 
 abbrev pub DefinedIn : Database → Definition → Type 0
@@ -47,11 +47,11 @@ looked_holds manner (name ∷ names) so_far definitions exchanges (found, first,
     ]))
 
 -- what one finds is defined
-module _ (db : Database) where
+module _ (db : Database) (sound : Sound db) where
   found_by : (name : List ℕ) (reply : Reply) (found : Option Definition) (so_far : List Definition) → AnswersIn db (definition_fetch name) reply → IsFound reply found → AllByRecursion (DefinedIn db) so_far
       → AllByRecursion (DefinedIn db) (with_found so_far found)
   found_by name (replies.Row key row at) None so_far answer is all = all
-  found_by name (replies.Row key row at) (Some definition) so_far answer is all = all_both (DefinedIn db) so_far (definition ∷ []) all (found_defined db key row definition answer.1 is, tt)
+  found_by name (replies.Row key row at) (Some definition) so_far answer is all = all_both (DefinedIn db) so_far (definition ∷ []) all (found_defined db key row definition sound answer.1 is, tt)
   found_by name (replies.Gone key at) found so_far answer is all = subst (λ (found : Option Definition). AllByRecursion (DefinedIn db) (with_found so_far found)) (sym is) all
   found_by name (replies.End at) found so_far answer is all = subst (λ (found : Option Definition). AllByRecursion (DefinedIn db) (with_found so_far found)) (sym is) all
   found_by name reply found so_far answer is all = absurd is
@@ -74,8 +74,9 @@ module _ (db : Database) where
         | inr ends ↦ subst (AllByRecursion (DefinedIn db)) (sym ends.2) all
       ]
 
-  pub tables_defined : (definitions : List Definition) → AllByRecursion (DefinedIn db) definitions → AllByRecursion (IsTableOf db) (tables_of definitions)
-  tables_defined [] all = tt
-  tables_defined (Table table ∷ definitions) all = (all.0, tables_defined definitions all.1)
-  tables_defined (Procedure procedure ∷ definitions) all = tables_defined definitions all.1
-  tables_defined (Trigger trigger ∷ definitions) all = tables_defined definitions all.1
+-- the tables among definitions
+pub tables_defined : (db : Database) (definitions : List Definition) → AllByRecursion (DefinedIn db) definitions → AllByRecursion (IsTableOf db) (tables_of definitions)
+tables_defined db [] all = tt
+tables_defined db (Table table ∷ definitions) all = (all.0, tables_defined db definitions all.1)
+tables_defined db (Procedure procedure ∷ definitions) all = tables_defined db definitions all.1
+tables_defined db (Trigger trigger ∷ definitions) all = tables_defined db definitions all.1

@@ -150,14 +150,13 @@ module _ (asked : List Asked) (engine : Engine) (run : Run opening asked engine)
         inserts = fits.inserts;
         commits = fits.commits;
         gone = runs_gone asked engine run session;
-        told = serve.told session;
         comes = runs_come session asked engine run;
       }
 
   kept : (session place : ℕ) (changes : List Change) (has : HasCommit (without_waits (mine_of session asked)) place changes) → Intact (State (take place engine.log)) → Intact (behind (State (take place engine.log)) (progress_of has.before).own)
   kept session place changes has intact =
       let mine : List Exchange = without_waits (mine_of session asked) in
-      let of = of_batch mine has.before has.later has.commit (serve.served session) has.split has.commits in
+      let of = of_batch mine has.before has.later has.commit (serve session) has.split has.commits in
       let after : Intact (State (take (place + length (committed_by has.commit.op has.commit.reply (progress_of has.before))) engine.log)) =
       subst (λ (xs : List Exchange). Intact (State (take (place + length (committed_by has.commit.op has.commit.reply (progress_of xs))) engine.log))) of.ahead
       (batch_sound session [] engine.log mine of.earlier of.exchanges of.later (tied session) of.batch of.front of.behind has.commit of.among has.commits place has.ended intact) in

@@ -122,15 +122,17 @@ module _ (session : ℕ) (begin log : List Logged) (mine before path later : Lis
   here_looked : Here log p.place ((before ++ begins ∷ []) ++ p.looked) (p.worked ++ rest)
   here_looked = here_on log p.place (before ++ begins ∷ []) p.looked (p.worked ++ rest) here_first (hold_fetches p.looked (looked_holds manner (looked_up statement) [] p.definitions p.looked p.looks))
 
-  all_defined : AllByRecursion (DefinedIn db) p.definitions
-  all_defined = looked_defined db manner (looked_up statement) [] p.definitions p.looked p.looks
-      (subst (λ (db : Database). Answered db p.looked) (here_is log p.place (before ++ begins ∷ []) p.looked (p.worked ++ rest) here_first looked_goes)
-      (answers log mine (before ++ begins ∷ []) p.looked (p.worked ++ rest) at_begin tied.ranges (looked_holds manner (looked_up statement) [] p.definitions p.looked p.looks))) tt
+  looked_answered : Answered db p.looked
+  looked_answered = subst (λ (db : Database). Answered db p.looked) (here_is log p.place (before ++ begins ∷ []) p.looked (p.worked ++ rest) here_first looked_goes)
+      (answers log mine (before ++ begins ∷ []) p.looked (p.worked ++ rest) at_begin tied.ranges (looked_holds manner (looked_up statement) [] p.definitions p.looked p.looks))
 
   at_work : mine ≡ ((before ++ begins ∷ []) ++ p.looked) ++ (p.worked ++ rest)
   at_work = at_begin ∙ sym (append_assoc (before ++ begins ∷ []) p.looked (p.worked ++ rest))
 
   module _ (back : ReadsBackAs (form_of statement)) (intact : Intact db) where
+    all_defined : AllByRecursion (DefinedIn db) p.definitions
+    all_defined = looked_defined db intact.sound manner (looked_up statement) [] p.definitions p.looked p.looks looked_answered tt
+
     abbrev Came : Type 0
     Came = Comes db ((before ++ begins ∷ []) ++ p.looked) p.worked planned
 

@@ -157,7 +157,7 @@ module _ (session : ℕ) (begin log : List Logged) (mine : List Exchange) (tied 
         let parts : worked ++ rest ≡ w.defined ++ (w.read ++ (w.applied ++ rest)) = ap (λ (xs : List Exchange). xs ++ rest) w.parts ∙ three_parts w.defined w.read w.applied rest in
         let is1 : mine ≡ front ++ (w.defined ++ (w.read ++ (w.applied ++ rest))) = is ∙ ap (λ (xs : List Exchange). front ++ xs) parts in
         let here1 : Here log place front (w.defined ++ (w.read ++ (w.applied ++ rest))) = subst (Here log place front) parts here in
-        let tables : AreTables db shapes = tables_read log place mine front w.defined (w.read ++ (w.applied ++ rest)) manner w.definitions tied.ranges tied.gone tied.told is1 here1 w.defines intact.sound in
+        let tables : AreTables db shapes = tables_read log place mine front w.defined (w.read ++ (w.applied ++ rest)) manner w.definitions tied.ranges tied.gone is1 here1 w.defines intact.sound in
         let here2 = here_on log place front w.defined (w.read ++ (w.applied ++ rest)) here1 (hold_fetches w.defined (defined_holds manner w.definitions w.defined First [] w.defines)) in
         let here3 = here_on log place (front ++ w.defined) w.read (w.applied ++ rest) here2 (images_fetch manner named ReadCommitted (bound.Write write) w.read (Ok w.images) w.reads) in
         let asked : List Exchange = (front ++ w.defined) ++ w.read in
@@ -199,7 +199,7 @@ module _ (session : ℕ) (begin log : List Logged) (mine : List Exchange) (tied 
         let parts : worked ++ rest ≡ d.defined ++ (d.read ++ (d.applied ++ rest)) = ap (λ (xs : List Exchange). xs ++ rest) d.parts ∙ three_parts d.defined d.read d.applied rest in
         let is1 : mine ≡ front ++ (d.defined ++ (d.read ++ (d.applied ++ rest))) = is ∙ ap (λ (xs : List Exchange). front ++ xs) parts in
         let here1 : Here log place front (d.defined ++ (d.read ++ (d.applied ++ rest))) = subst (Here log place front) parts here in
-        let tables : AreTables db (tables_of d.definitions) = tables_read log place mine front d.defined (d.read ++ (d.applied ++ rest)) manner d.definitions tied.ranges tied.gone tied.told is1 here1 d.defines intact.sound in
+        let tables : AreTables db (tables_of d.definitions) = tables_read log place mine front d.defined (d.read ++ (d.applied ++ rest)) manner d.definitions tied.ranges tied.gone is1 here1 d.defines intact.sound in
         let here2 = here_on log place front d.defined (d.read ++ (d.applied ++ rest)) here1 (hold_fetches d.defined (defined_holds manner d.definitions d.defined First [] d.defines)) in
         let fetches = images_fetch manner named Serializable (bound.Write (whole name)) d.read (Ok d.images) d.reads in
         let here3 = here_on log place (front ++ d.defined) d.read (d.applied ++ rest) here2 fetches in

@@ -16,7 +16,7 @@ use Rattle.batch_meaning.specs.Meaning.{batch}
 use Rattle.batch_meaning.specs.Progress.{SessionProgress}
 use Rattle.statement_paths.specs.Paths.{NoneCommits}
 use Rattle.sound_laws.specs.Laws.{Intact, IsRun}
-use Rattle.sound_laws.specs.Tied.{ReadsBack, told_own}
+use Rattle.sound_laws.specs.Tied.{ReadsBack}
 
 -- these exchanges are those of a batch, which began where no transaction was open, and others that commit nothing
 pub record IsServed (part : List Exchange) : Type 0 where
@@ -52,10 +52,9 @@ pub record AreServed (mine : List Exchange) : Type 0 where
   pub whole : AllByRecursion IsWhole parts
   pub ends : IsServed last
 
--- So it is of each session; and each is told of rows of `objects` at their own keys.
-pub record ServeBatches (asked : List Asked) : Type 0 where
-  pub served : (session : ℕ) → AreServed (without_waits (mine_of session asked))
-  pub told : (session : ℕ) → told_own (without_waits (mine_of session asked))
+-- so it is of each session
+abbrev pub ServeBatches : List Asked → Type 0
+ServeBatches asked = (session : ℕ) → AreServed (without_waits (mine_of session asked))
 
 -- Then every database that the first commits of the log leave is intact.
 abbrev pub RunSound : Type 0

@@ -1,25 +1,19 @@
 -- Own: what is asked of the exchanges of one session, and of its statements, so that its commits keep a database sound.
-use Rattle.std.specs.Prelude.{◌≡◌, ◌≤◌, ℕ, List, length}
+use Rattle.std.specs.Prelude.{◌≤◌, ℕ, List, length}
 use Rattle.std.specs.List.{AllByRecursion}
 use Rattle.tsql_tree.specs.declared.definition.Definition.TheVariants.{Table}
 use Rattle.tsql_tree.specs.declared.statement.Form.{Form-F}
 use Rattle.binder.specs.Names.{Layer, form_of}
-use Rattle.catalog_rows.specs.Definitions.{Defines, longest_text, objects_name}
-use Rattle.step_model.specs.declared.op.Op.{Op}
-use Rattle.step_model.specs.declared.op.Op.TheVariants.{Fetch}
-use Rattle.step_model.specs.declared.reply.Reply.{Reply}
-use Rattle.step_model.specs.declared.reply.Reply.TheVariants.{Row}
+use Rattle.catalog_rows.specs.Definitions.{Defines, longest_text}
 use Rattle.step_model.specs.Exchange.{Exchange, MayCome}
 use Rattle.step_model.specs.Fits.{Each, commits_once, inserts_fresh, ranges_hold}
 use Rattle.step_model.specs.Log.{Commit as Logged}
 use Rattle.step_model.specs.Own.{progress_of, standing_at}
-use Rattle.constraint_check.specs.Reads.{rows_table}
 use Rattle.reading_laws.specs.Gone.{gone_own}
 use Rattle.batch_meaning.specs.declared.form.Form.{Form}
 use Rattle.batch_meaning.specs.declared.form.Form.TheVariants as forms
 use Rattle.batch_meaning.specs.declared.form.Served.{Served}
 use Rattle.batch_meaning.specs.Statements.{ReadsAs}
-use Rattle.integrity_laws.specs.Found.{AtOwnKey}
 
 -- ---- exchanges
 
@@ -27,24 +21,14 @@ use Rattle.integrity_laws.specs.Found.{AtOwnKey}
 abbrev pub may_come : List Exchange → Type 0
 may_come mine = Each (λ before exchange later. MayCome (standing_at (progress_of before)) exchange.op) mine
 
--- a row of `objects` is told at the key of the name that it defines, and not at one that compares equal: an entry keeps its
--- key, so it would be told at that of `t` where one transaction erased the row of `t` and put one of `t ` there
-abbrev pub IsToldOwn : Op → Reply → Type 0
-IsToldOwn (Fetch table start stop hold part) (Row key row at) = table ≡ rows_table objects_name → AtOwnKey (key, row)
-IsToldOwn op reply = Unit {0}
-
-abbrev pub told_own : List Exchange → Type 0
-told_own mine = Each (λ before exchange later. IsToldOwn exchange.op exchange.reply) mine
-
 -- A session's exchanges fit the log in these points: the ranges that it held, its insertions and its commits are those of the
--- database at its transaction's place; it is told of keys without a row, and of rows of `objects`, as said; and it asks
+-- database at its transaction's place; it is told of keys without a row where it asked to write there itself; and it asks
 -- what may come.
 pub record Tied (session : ℕ) (begin log : List Logged) (mine : List Exchange) : Type 0 where
   pub ranges : ranges_hold log mine
   pub inserts : inserts_fresh log mine
   pub commits : commits_once session begin log mine
   pub gone : gone_own mine
-  pub told : told_own mine
   pub comes : may_come mine
 
 -- ---- statements

@@ -1,5 +1,5 @@
-//! Laws of soundness: each commit of the statements that batches are keeps a sound database sound, and so each database
-//! that the commits of the log leave is sound.
+//! Laws of soundness: each commit of the statements that batches are keeps a database sound in which no trigger is defined,
+//! and so each database that the commits of the log leave is sound: none of these statements defines a trigger.
 //!
 //! Read `specs/Tied.antt` first: what is asked of the exchanges of a session; then `specs/Laws.antt`. The functions do
 //! nothing: each one's contract is a law. They ask nothing of their caller; only the definitions that they cite say what
@@ -10,7 +10,7 @@ ghost use Rattle.sound_laws.specs.Laws.{BatchSound, LogSound, StatementSound, Wh
 ghost use Rattle.sound_laws.specs.Runs.{DoneWhole, LeftWhole, RunSound};
 ghost use Rattle.sound_laws.specs.Tied.{TextsBack};
 
-/// The commit of a statement that went its path keeps a sound database sound.
+/// The commit of a statement that went its path keeps a database sound in which no trigger is defined, and such.
 pub fn law_statement_sound()
     ensures { StatementSound }
 {}

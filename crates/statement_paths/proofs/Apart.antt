@@ -24,7 +24,7 @@ unfolding Held
 held_manner (over c) p new exchanges a held = ap (λ (q : SessionProgress). q.manner) held.2
 held_manner (reads look) p new exchanges a held = held_manner (look p) p new exchanges a held
 held_manner (makes step next) p new exchanges a held = held_manner next (made step p) new exchanges a held ∙ made_manner step p
-held_manner (defines key row go) p new exchanges a held = held_manner (go held.0) p new exchanges a held.2
+held_manner (defines row go) p new exchanges a held = held_manner (go held.0) p new exchanges a held.2
 held_manner (asks op go) p new [] a held = absurd held
 held_manner (asks op go) p new (x ∷ later) a held = held_manner (go x.reply) (asked op x.reply p) new later a held.3
 held_manner (room go) p new exchanges a held = held_manner (go held.0) p new exchanges a held.1
@@ -50,7 +50,7 @@ held_apart (reads look) go p new exchanges b held =
     let on = held_apart (look p) go p new exchanges b held in record { front = on.front; back = on.back; came = on.came; mid = on.mid; parts = on.parts; held = on.held; rest = on.rest }
 held_apart (makes step next) go p new exchanges b held =
     let on = held_apart next go (made step p) new exchanges b held in record { front = on.front; back = on.back; came = on.came; mid = on.mid; parts = on.parts; held = on.held; rest = on.rest }
-held_apart (defines key row next) go p new exchanges b held =
+held_apart (defines row next) go p new exchanges b held =
     let on = held_apart (next held.0) go p new exchanges b held.2 in record { front = on.front; back = on.back; came = on.came; mid = on.mid; parts = on.parts; held = (held.0, held.1, on.held); rest = on.rest }
 held_apart (asks op next) go p new [] b held = absurd held
 held_apart (asks op next) go p new (x ∷ later) b held =
@@ -76,10 +76,10 @@ left_apart {A = A} {B = B} (makes step next) go p new exchanges (inr later) = by
     by_on : Left next (made step p) exchanges new ⊎ Apart next (made step p) exchanges (λ a mid back. Left (go a) mid back new) → Left (makes step next) p exchanges new ⊎ Apart (makes step next) p exchanges (λ a mid back. Left (go a) mid back new)
     by_on (inl here) = inl (inr here)
     by_on (inr on) = inr (record { front = on.front; back = on.back; came = on.came; mid = on.mid; parts = on.parts; held = on.held; rest = on.rest })
-left_apart {A = A} {B = B} (defines key row next) go p new exchanges (inl here) = inl (inl here)
-left_apart {A = A} {B = B} (defines key row next) go p new exchanges (inr later) = by_on (left_apart (next later.0) go p new exchanges later.2)
+left_apart {A = A} {B = B} (defines row next) go p new exchanges (inl here) = inl (inl here)
+left_apart {A = A} {B = B} (defines row next) go p new exchanges (inr later) = by_on (left_apart (next later.0) go p new exchanges later.2)
   where
-    by_on : Left (next later.0) p exchanges new ⊎ Apart (next later.0) p exchanges (λ a mid back. Left (go a) mid back new) → Left (defines key row next) p exchanges new ⊎ Apart (defines key row next) p exchanges (λ a mid back. Left (go a) mid back new)
+    by_on : Left (next later.0) p exchanges new ⊎ Apart (next later.0) p exchanges (λ a mid back. Left (go a) mid back new) → Left (defines row next) p exchanges new ⊎ Apart (defines row next) p exchanges (λ a mid back. Left (go a) mid back new)
     by_on (inl here) = inl (inr (later.0, later.1, here))
     by_on (inr on) = inr (record { front = on.front; back = on.back; came = on.came; mid = on.mid; parts = on.parts; held = (later.0, later.1, on.held); rest = on.rest })
 left_apart {A = A} {B = B} (asks op next) go p new [] left = inl left
@@ -101,7 +101,7 @@ unfolding Held Left
 held_left (over c) p new exchanges a held = (held.0, held.2)
 held_left (reads look) p new exchanges a held = held_left (look p) p new exchanges a held
 held_left (makes step next) p new exchanges a held = inr (held_left next (made step p) new exchanges a held)
-held_left (defines key row go) p new exchanges a held = inr (held.0, held.1, held_left (go held.0) p new exchanges a held.2)
+held_left (defines row go) p new exchanges a held = inr (held.0, held.1, held_left (go held.0) p new exchanges a held.2)
 held_left (asks op go) p new [] a held = absurd held
 held_left (asks op go) p new (x ∷ later) a held = (held.0, held.1, held.2, held_left (go x.reply) (asked op x.reply p) new later a held.3)
 held_left (room go) p new exchanges a held = (held.0, held_left (go held.0) p new exchanges a held.1)

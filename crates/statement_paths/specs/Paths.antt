@@ -12,7 +12,7 @@ use Rattle.bound_tree.specs.declared.write.Bound.{Bound}
 use Rattle.bound_tree.specs.declared.write.Bound.TheVariants as bound
 use Rattle.bound_tree.specs.declared.write.BoundWrite.{BoundWrite}
 use Rattle.binder.specs.Names.{Layer, form_of, looked_up}
-use Rattle.catalog_rows.specs.Definitions.{IsDefinitionAt, is_objects, tables_of}
+use Rattle.catalog_rows.specs.Definitions.{IsDefinitionIn, is_objects, tables_of}
 use Rattle.step_model.specs.declared.change.Planned.{Planned}
 use Rattle.step_model.specs.declared.manner.Manner.{Manner}
 use Rattle.step_model.specs.declared.op.Op.{Op}
@@ -54,9 +54,9 @@ NoneCommits exchanges = AllByRecursion (λ exchange. exchange.op ≢ Commit) exc
 
 -- ---- what is defined
 
--- what the reply to the fetch of a name's key says: the definition of that name, or nothing
+-- what the reply to the fetch of a name's key says: what the row there defines, or nothing
 abbrev pub IsFound : Reply → Option Definition → Type 0
-IsFound (Row key row at) found = IsDefinitionAt key row found
+IsFound (Row key row at) found = IsDefinitionIn row found
 IsFound (Gone key at) found = found ≡ None
 IsFound (End at) found = found ≡ None
 IsFound reply found = ⊥
@@ -75,7 +75,7 @@ AreLookedUp manner so_far (name ∷ names) exchanges definitions =
 
 -- what a fetch of `objects` adds to the definitions so far, by its reply; it goes on behind a key, and ends at the end
 abbrev pub AddsBy : (Start → List Definition → Type 0) → (List Definition → Type 0) → List Definition → Reply → Type 0
-AddsBy GoesOn Ends so_far (Row key row at) = (found : Option Definition) × IsDefinitionAt key row found × GoesOn (Past key) (with_found so_far found)
+AddsBy GoesOn Ends so_far (Row key row at) = (found : Option Definition) × IsDefinitionIn row found × GoesOn (Past key) (with_found so_far found)
 AddsBy GoesOn Ends so_far (Gone key at) = GoesOn (Past key) so_far
 AddsBy GoesOn Ends so_far (End at) = Ends so_far
 AddsBy GoesOn Ends so_far reply = ⊥

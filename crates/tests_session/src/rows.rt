@@ -41,15 +41,20 @@ const ROWS: &str = "null = null|null
 
 /// Rows of `objects` by which no table `t` is known.
 const UNKNOWN: &str = "'u = 't|'CREATE TABLE t (k INT NOT NULL PRIMARY KEY, v INT NOT NULL)
-'t  = 't|'CREATE TABLE t (k INT NOT NULL PRIMARY KEY, v INT NOT NULL)
-'t|null = 't|'CREATE TABLE t (k INT NOT NULL PRIMARY KEY, v INT NOT NULL)
 't = 'u|'CREATE TABLE t (k INT NOT NULL PRIMARY KEY, v INT NOT NULL)
+'t = 'u|'CREATE TABLE u (k INT NOT NULL PRIMARY KEY, v INT NOT NULL)
 't = 't|'CREATE TABLE u (k INT NOT NULL PRIMARY KEY, v INT NOT NULL)
 't = 't|'CREATE TABLE t (k INT NOT NULL PRIMARY KEY, v INT NOT NULL);
 't = 't|'SELECT k, v FROM t
 't = 't|null
 't = 't
 't = 't|'CREATE TABLE t (k INT NOT NULL PRIMARY KEY, v INT NOT NULL)|1";
+
+/// Rows of `objects` by which the table `t` is known, where a look-up of it finds them: at its key, at one that compares equal,
+/// and at one that begins with it.
+const KNOWN: &str = "'t = 't|'CREATE TABLE t (k INT NOT NULL PRIMARY KEY, v INT NOT NULL)
+'t  = 't|'CREATE TABLE t (k INT NOT NULL PRIMARY KEY, v INT NOT NULL)
+'t|null = 't|'CREATE TABLE t (k INT NOT NULL PRIMARY KEY, v INT NOT NULL)";
 
 /// The value of a word: `null`, `true`, a text behind a quote, or a number.
 fn value_of(alloc: Global, word: &str) -> Result<Value, Memory> {
@@ -228,6 +233,21 @@ ERROR 208 class 16 state 1 line 1: Invalid object name 't'.
 DONE(02,0,0)
 ";
     for line in UNKNOWN.lines() {
+        let given = told_of(&rt, rt.alloc(), line)?;
+        assert!(rt; given.as_str() == wanted, "{line}");
+    }
+    Ok(())
+}
+
+#[test]
+fn a_row_is_read_for_its_own_name(rt: HostRuntime) -> Result<(), Fail> {
+    let wanted = "COL(k INT, v INT)
+DONE(11,C1,0)
+DONE(00,0,0)
+DONE(11,C3,1)
+DONE(00,0,0)
+";
+    for line in KNOWN.lines() {
         let given = told_of(&rt, rt.alloc(), line)?;
         assert!(rt; given.as_str() == wanted, "{line}");
     }

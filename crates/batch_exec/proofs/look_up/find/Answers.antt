@@ -4,7 +4,7 @@ use Rattle.batch_exec.proofs.Selects.{does_defined, does_made}
 use Rattle.batch_exec.proofs.look_up.find.Goals as goal
 
 pub returns-in-Row-clause-does : goal.returns-in-Row-clause-does
-returns-in-Row-clause-does g c = does_asks c.in-Row.ensures.asked (does_defined _ _ _ c.defined.ensures)
+returns-in-Row-clause-does g c = does_asks c.in-Row.ensures.asked (does_defined _ _ c.defined.ensures)
 
 pub returns-in-Gone-clause-does : goal.returns-in-Gone-clause-does
 returns-in-Gone-clause-does g c = does_asks c.in-Gone.ensures.asked (does_over refl)
