@@ -13,6 +13,7 @@ ghost use Rattle.batch_meaning.specs.Progress.{Ready};
 ghost use Rattle.batch_meaning.specs.Selecting.{bound_over};
 
 use crate::changing::{change, create, drop_table};
+use crate::discard::discard;
 use crate::failures::{naming, no_memory, unbound};
 use crate::look_up::look_up_all;
 use crate::numbers::{NOT_BUILT, OBJECT_PRESENT};
@@ -63,7 +64,11 @@ fn run_over<P: Port>(
     ensures begun { session.new.is_open ≡ true }
 {
     match bound(alloc, statement, definitions.as_slice()) {
-        Ok(of) => run_bound(alloc, session, port, statement, definitions, &of),
+        Ok(of) => {
+            let came = run_bound(alloc, session, port, statement, definitions, &of);
+            discard(of);
+            came
+        }
         Err(failure) => Err(failure),
     }
 }

@@ -14,6 +14,7 @@ ghost use Rattle.batch_meaning.specs.Progress.{Ready};
 ghost use Rattle.batch_exec.specs.Selected.{IsInsertion, IsOrMemory, TakesBack};
 
 use crate::dialogs::{apply, read};
+use crate::discard::{discard, discard_write};
 use crate::failures::{naming, no_memory, unbound, unplanned};
 use crate::look_up::objects;
 use crate::numbers::{DEADLOCK, IS_PARENT, LOCK_TIMEOUT, NOT_THERE, OBJECT_PRESENT, UNKNOWN_TABLE};
@@ -373,7 +374,9 @@ fn read_whole<P: Port>(
     match whole(alloc, name) {
         Ok(write) => {
             let of = Bound::Write(write);
-            read(alloc, session, port, shapes, Level::Serializable, &of)
+            let came = read(alloc, session, port, shapes, Level::Serializable, &of);
+            discard(of);
+            came
         }
         Err(_) => Err(no_memory()),
     }
@@ -405,6 +408,7 @@ fn plan_drop(
     match whole(alloc, name) {
         Ok(write) => {
             let planned = plan_with(alloc, shape, &[], &write, images);
+            discard_write(write);
             dropped_as(alloc, name, planned)
         }
         Err(_) => Err(no_memory()),

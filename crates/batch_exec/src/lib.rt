@@ -11,6 +11,7 @@ mod batch;
 mod bound;
 mod changing;
 mod dialogs;
+mod discard;
 mod failures;
 mod look_up;
 mod numbers;

@@ -9,6 +9,7 @@ ghost use Rattle.batch_meaning.specs.Progress.{Ready};
 ghost use Rattle.batch_meaning.specs.Selecting.{bound_over};
 
 use crate::bound::{bound, run};
+use crate::discard::discard;
 use crate::failures::{naming, no_memory};
 use crate::numbers::{NOT_BUILT, NOT_THERE, OBJECT_PRESENT, RESULT_FULL};
 use crate::query::{answer, is_select};
@@ -75,7 +76,11 @@ fn come_named<P: Port>(
         return run_own(alloc, session, port, statement, names);
     }
     match bound(alloc, statement, &[]) {
-        Ok(of) => come_unasked(alloc, session, port, statement, names, &of),
+        Ok(of) => {
+            let came = come_unasked(alloc, session, port, statement, names, &of);
+            discard(of);
+            came
+        }
         Err(failure) => Err(failure),
     }
 }

@@ -4,7 +4,7 @@ use Rattle.batch_exec.proofs.Selects.{does_made}
 use Rattle.batch_exec.proofs.changing.read_whole.Goals as goal
 
 pub returns-in-Ok-clause-does : goal.returns-in-Ok-clause-does
-returns-in-Ok-clause-does g c = does_room true (rw c.in-Ok.ensures at c.read.ensures.does)
+returns-in-Ok-clause-does g c = does_room true (rw c.in-Ok.ensures at c.read-came.ensures.does)
 
 pub returns-in-Err-clause-does : goal.returns-in-Err-clause-does
 returns-in-Err-clause-does g c = does_room false (does_made (ap Err c.no_memory.ensures))

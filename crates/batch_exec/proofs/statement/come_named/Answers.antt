@@ -9,11 +9,11 @@ returns-then-asks_any-clause-does g c = does_yes _ _ _ (sym (rw c.requires.names
 
 pub returns-in-Ok-clause-does : goal.returns-in-Ok-clause-does
 unfolding unasked
-returns-in-Ok-clause-does g c = does_no _ _ _ (sym (rw c.requires.names at c.if-asks_any.ensures)) (does_on _ _ (rw c.in-Ok.is at c.bound.ensures) c.come_unasked.ensures.does)
+returns-in-Ok-clause-does g c = does_no _ _ _ (sym (rw c.requires.names at c.if-asks_any.ensures)) (does_on _ _ (rw c.in-Ok.is at c.bound.ensures) c.come_unasked-came.ensures.does)
 
 pub returns-in-Err-clause-does : goal.returns-in-Err-clause-does
 unfolding unasked
 returns-in-Err-clause-does g c = does_no _ _ _ (sym (rw c.requires.names at c.if-asks_any.ensures)) (does_failed _ _ (does_result _ _ (rw c.in-Err.is at c.bound.ensures)))
 
-pub come_unasked-requires : goal.come_unasked-requires
-come_unasked-requires g c = record { ready = c.requires.ready; names = c.requires.names; bound = meant_ok _ _ (rw c.in-Ok.is at c.bound.ensures) }
+pub come_unasked-came-requires : goal.come_unasked-came-requires
+come_unasked-came-requires g c = record { ready = c.requires.ready; names = c.requires.names; bound = meant_ok _ _ (rw c.in-Ok.is at c.bound.ensures) }
