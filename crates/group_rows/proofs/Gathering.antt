@@ -50,6 +50,18 @@ module _ {X : Type 0} (same : X → X → Bool) (laws : IsEquivalence same) wher
   any-firsts k [] = refl
   any-firsts k (x ∷ xs) = or-same (same k x) _ _ (λ apart. any-kept k x apart (firsts same xs) ∙ any-firsts k xs)
 
+  -- ---- one more behind some, and behind others that have the same firsts
+
+  pub firsts-again : (xs : List X) (y : X) → list_any (same y) xs ≡ true → firsts same xs ≡ firsts same (xs ++ y ∷ [])
+  firsts-again xs y again = sym (firsts-push xs y ∙ ap (λ b. firsts same xs ++ unless b y) again ∙ append-nil (firsts same xs))
+
+  pub firsts-more : (xs ys : List X) (y : X) → firsts same xs ≡ firsts same ys → firsts same (xs ++ y ∷ []) ≡ firsts same (ys ++ y ∷ [])
+  firsts-more xs ys y alike =
+      firsts-push xs y
+      ∙ ap (λ l. l ++ unless (list_any (same y) xs) y) alike
+      ∙ ap (λ b. firsts same ys ++ unless b y) (sym (any-firsts y xs) ∙ ap (list_any (same y)) alike ∙ any-firsts y ys)
+      ∙ sym (firsts-push ys y)
+
   -- ---- no two of them are equal
 
   abbrev pub Apart : List X → Type 0

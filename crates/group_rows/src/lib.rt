@@ -11,6 +11,7 @@
 mod aggregate;
 mod equals;
 mod fault;
+mod fewer;
 mod in_order;
 mod keyed;
 mod laws;
@@ -19,5 +20,6 @@ mod order;
 pub use aggregate::total;
 pub use equals::{classes, distinct, distinct_pairs};
 pub use fault::GroupFault;
+pub use fewer::{Spot, push_pair};
 pub use in_order::ordered;
 pub use laws::law_in_order;

@@ -2,9 +2,17 @@
 
 ghost use Rattle.std.specs.Prelude.{◌≡◌};
 ghost use Rattle.value_types.specs.Order as spec;
+ghost use Rattle.group_rows.specs.Equals as equals;
 
 use std::cmp::Ordering;
-use value_types::{Value, compare};
+use value_types::{Row, Value, compare};
+
+/// Whether no column tells two rows apart.
+pub(crate) fn same_row(a: &Row, b: &Row) -> bool
+    ensures { result ≡ equals.same_row a.now b.now }
+{
+    row_order(a.as_slice(), b.as_slice()).is_eq()
+}
 
 /// The order of two values in a key: NULL is lowest and equal to NULL, and kinds go by their rank.
 pub(crate) fn value_order(a: &Value, b: &Value) -> Ordering
@@ -24,6 +32,7 @@ pub(crate) fn value_order(a: &Value, b: &Value) -> Ordering
 }
 
 /// The order of two rows as keys: value by value, and a proper prefix first.
+#[inline(always)]
 pub(crate) fn row_order(a: &[Value], b: &[Value]) -> Ordering
     ensures { result ≡ spec.key_cmp a.now b.now }
 {

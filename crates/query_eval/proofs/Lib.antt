@@ -1,6 +1,7 @@
 pub mod Places
 pub mod Each
 pub mod Equals
+pub mod Fewer
 pub mod Images
 pub mod Inner
 pub mod JoinCalls

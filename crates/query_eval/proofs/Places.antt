@@ -6,7 +6,6 @@ use Rattle.std.proofs.lemmas.List.{map_push, take_more}
 use Rattle.value_types.specs.declared.value.Value.TheVariants.{Null}
 use Rattle.bound_tree.specs.declared.expr.BoundExpr.{BoundExpr}
 use Rattle.bound_tree.specs.declared.expr.BoundTest.{BoundTest}
-use Rattle.bound_tree.specs.declared.query.Item.{Item}
 use Rattle.bound_tree.specs.declared.query.Sum.{Sum}
 use Rattle.bound_tree.specs.declared.truth.Truth.{Truth}
 use Rattle.bound_tree.specs.declared.truth.Truth.TheVariants.{False, Unknown, True}
@@ -17,7 +16,7 @@ use Rattle.bound_tree.specs.Truths.{is_true}
 use Rattle.join_rows.specs.Joined.{Row}
 use Rattle.group_rows.specs.Equals.{classes, same_row}
 use Rattle.query_eval.specs.declared.fault.Stop.{Stop}
-use Rattle.query_eval.specs.Phases.{class_row, class_rows, classes_of, distinct_if, each, rows_where, with_items}
+use Rattle.query_eval.specs.Phases.{class_row, class_rows, classes_of, each, rows_where}
 use Rattle.query_eval.specs.Places.{row_at, rows_at_places}
 use Rattle.query_eval.proofs.Each.{FindsFault, each_map, fault_first}
 use Rattle.query_eval.proofs.Equals.{map_both}
@@ -85,18 +84,3 @@ module _ (setting_at : Row → Setting) (test : BoundTest) (rows : List Row) whe
   where_found listed same truths found is are =
       ap (λ o. after o (λ truths. Ok (items_where_true (map is_true truths) rows))) (ap (each (λ row. truth (setting_at row) test)) (sym same) ∙ is)
       ∙ ap Ok (sym (are ∙ rows_true_are rows truths))
-
--- rows beside their items
-module _ (setting_at : Row → Setting) (distinct : Bool) (items : List Item) (rows : List Row) where
-  abbrev gives : Row → Outcome Row
-  gives row = each (λ item. value (setting_at row) item.expr) items
-
-  pub items_fault : (listed : List Row) → listed ≡ rows → (stop : Stop) → FindsFault stop (each gives listed) → FindsFault stop (with_items setting_at distinct items rows)
-  items_fault listed same stop is =
-      fault_first stop (each gives rows) (λ values. Ok (distinct_if distinct (zip rows values)))
-      (subst (λ l. FindsFault stop (each gives l)) same is)
-
-  pub items_found : (listed : List Row) → listed ≡ rows → (values : List Row) (pairs : List (Row × Row)) → each gives listed ≡ Ok values → pairs ≡ distinct_if distinct (zip rows values)
-      → with_items setting_at distinct items rows ≡ Ok pairs
-  items_found listed same values pairs is are =
-      ap (λ o. after o (λ values. Ok (distinct_if distinct (zip rows values)))) (ap (each gives) (sym same) ∙ is) ∙ ap Ok (sym are)

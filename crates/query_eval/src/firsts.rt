@@ -1,4 +1,4 @@
-//! The first of equal rows and values.
+//! Rows beside their items, and the first of equal values.
 
 ghost use Rattle.std.specs.Prelude.{◌≡◌, ◌∷◌, [], map, IfOk};
 ghost use Rattle.std.specs.List.{zip};
@@ -6,30 +6,16 @@ ghost use Rattle.bound_tree.specs.Setting.{only_of};
 ghost use Rattle.group_rows.specs.Equals.{firsts};
 ghost use Rattle.query_eval.specs.Phases as spec;
 
-use group_rows::{distinct, distinct_pairs};
+use group_rows::distinct;
 use std::alloc::Global;
 use value_types::{Memory, Row, Value};
 
-/// Each row beside what the items give for it; with DISTINCT the first of those for which they give equal
-/// rows.
-pub(crate) fn pairs_if(
+/// Each row beside its items.
+pub(crate) fn pairs_of(
     alloc: Global,
-    distinct: bool,
     rows: Vec<Row>,
     values: Vec<Row>,
 ) -> Result<Vec<(Row, Row)>, Memory>
-    ensures { IfOk result (λ pairs. pairs.items ≡ spec.distinct_if distinct (zip rows.items values.items)) }
-{
-    let pairs = pairs_of(alloc, rows, values)?;
-    if distinct {
-        distinct_pairs(alloc, pairs)
-    } else {
-        Ok(pairs)
-    }
-}
-
-/// Each row beside its items.
-fn pairs_of(alloc: Global, rows: Vec<Row>, values: Vec<Row>) -> Result<Vec<(Row, Row)>, Memory>
     ensures { IfOk result (λ pairs. pairs.items ≡ zip rows.items values.items) }
 {
     Ok(rows.into_iter().zip(values).collect(alloc)?)

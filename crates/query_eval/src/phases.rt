@@ -1,6 +1,6 @@
 //! What comes of the joined rows of a query, phase by phase.
 
-ghost use Rattle.std.specs.Prelude.{◌≡◌, sum_by, map, IfOk};
+ghost use Rattle.std.specs.Prelude.{◌≡◌, true, sum_by, map, IfOk};
 ghost use Rattle.std.specs.List.{filter, zip};
 ghost use Rattle.bound_tree.specs.declared.query.BoundQuery.{out-BoundQuery};
 ghost use Rattle.bound_tree.specs.Meaning as meaning;
@@ -11,12 +11,15 @@ ghost use Rattle.query_eval.specs.Phases as spec;
 use crate::classes::class_rows;
 use crate::context::Context;
 use crate::fault::Stop;
-use crate::firsts::pairs_if;
+use crate::firsts::pairs_of;
 use crate::joining::wider;
 use bound_tree::{BoundOrder, BoundQuery, BoundTest, Item, OrderKey, Reference, Truth};
-use group_rows::ordered;
+use group_rows::{Spot, distinct_pairs, ordered, push_pair};
 use std::alloc::{AllocError, Global};
 use value_types::{Memory, Row, Value};
+
+/// How many spots there are at most by which rows that come again are found.
+const SPOTS: usize = 16_381;
 
 /// What comes of the joined rows of a query.
 pub(crate) fn rows_given(
@@ -116,8 +119,33 @@ fn with_items(
     ensures { FindsBy (λ pairs. pairs.items) result
         (spec.with_items (setting_at context.now) distinct items.now rows.items) }
 {
+    if distinct {
+        let pairs = fewer_pairs(alloc, context, items, rows)?;
+        return Ok(distinct_pairs(alloc, pairs)?);
+    }
     let values = item_rows(alloc, context, items, rows.as_slice())?;
-    Ok(pairs_if(alloc, distinct, rows, values)?)
+    Ok(pairs_of(alloc, rows, values)?)
+}
+
+/// Each row beside what the items give for it, without some of those for which they give what they gave
+/// before. So most rows that come again are dropped at once, and only what is left is put in order.
+fn fewer_pairs(
+    alloc: Global,
+    context: &Context<'_>,
+    items: &[Item],
+    rows: Vec<Row>,
+) -> Result<Vec<(Row, Row)>, Stop>
+    ensures { FindsBy (λ pairs. spec.distinct_if true pairs.items) result
+        (spec.with_items (setting_at context.now) true items.now rows.items) }
+{
+    let count = rows.len();
+    let mut spots = vec![in alloc; Spot::first(); count.min(SPOTS)]?;
+    let mut pairs = Vec::with_capacity(alloc, count)?;
+    for row in rows {
+        let values = item_row(alloc, context, items, &row)?;
+        push_pair(&mut spots, &mut pairs, (row, values))?;
+    }
+    Ok(pairs)
 }
 
 /// What the items give for each row.
