@@ -27,6 +27,7 @@ use Rattle.batch_meaning.specs.Meaning.{rolls_back_open}
 use Rattle.batch_meaning.specs.Progress.{SessionProgress, first_progress}
 use Rattle.session_server.specs.Response.{Response}
 use Rattle.session_server.specs.Talk.{walk_of, Request, AreRequests, talk_of}
+use Rattle.connection_laws.proofs.Sound.{connection_sound}
 use Rattle.tsqld.specs.Program.{PipedOver, EndsWell, status_of, fresh_port}
 
 -- a log of one session's commits alone
@@ -130,6 +131,17 @@ piped config gave left sink_before sink_after before after end status new served
       fits = fits;
       commits = logged means.exchanges after.engine.log fits own;
       own = own;
+      sound = λ place. (connection_sound 1 means.exchanges after.engine (record {
+        config = config;
+        taken = heard.taken;
+        messages = heard.messages;
+        rest = heard.rest;
+        requests = means.requests;
+        responses = heard.responses;
+        cause = heard.cause;
+        split = heard.split;
+        asked = means.asked;
+      }) run place).sound;
       idle = ap (λ (session : ℕ). is_open session after.engine) (sym one) ∙ closed;
       memory = wanted config sink_before sink_after heard.taken heard.rest means.requests means.exchanges heard.responses after.told end status heard.messages heard.cause is heard.end_is heard.split.joined means.asked means.past.told heard.caused heard.written;
     }

@@ -1,6 +1,6 @@
 -- Own: the words of the program, its statuses, and what `pipe` and `steps` do. It is said of the whole run; the
 -- code calls the connection, and asks the port whether it tells.
-use Rattle.std.specs.Prelude.{◌≡◌, ℕ, ◌<◌, ◌≤◌, ◌⊎◌, Bool, true, false, List, [], ◌∷◌, length, map, Option, Some, is_some, IfSome, codes}
+use Rattle.std.specs.Prelude.{◌≡◌, ℕ, ◌<◌, ◌≤◌, ◌⊎◌, Bool, true, false, List, [], ◌∷◌, length, map, take, Option, Some, is_some, IfSome, codes}
 use Rattle.std.specs.List.{All}
 use Rattle.value_types.specs.Units.{utf16_of}
 use Rattle.tds_login.specs.declared.config.Config.{Config}
@@ -9,8 +9,10 @@ use Rattle.tds_packets.specs.declared.message.Message.{Message}
 use Rattle.tds_packets.specs.Stream.{Splits}
 use Rattle.tds_packets.specs.Reading.{byte_limit}
 use Rattle.step_model.specs.Fits.{Fits, commits_of}
+use Rattle.step_model.specs.Log.{State}
 use Rattle.step_model.specs.State.{is_open}
 use Rattle.step_model.specs.Runs.{Run, opening}
+use Rattle.integrity_laws.specs.Sound.{Sound}
 use Rattle.engine_core.specs.Solo.{Solo, asked_by, solo_past}
 use Rattle.steps_command.specs.Play.{Stage, first_manners}
 use Rattle.session_server.specs.declared.end.End.{End}
@@ -84,6 +86,8 @@ pub record PipedOver (config : Config) (gave : List ℕ → Type 0) (left sink_b
   -- the commits of the log are those of the exchanges, each once, in order, and no others
   pub commits : map (λ commit. commit.changes) port.engine.log ≡ commits_of conversation.means.exchanges
   pub own : All (λ commit. commit.session ≡ 1) port.engine.log
+  -- every database that the first commits of the log leave is sound
+  pub sound : (place : ℕ) → Sound (State (take place port.engine.log))
   -- no transaction is left open
   pub idle : is_open 1 port.engine ≡ false
   -- memory was wanting only after a whole header was taken

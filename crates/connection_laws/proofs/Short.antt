@@ -1,0 +1,172 @@
+-- The payload of a message has a limit, so the text of a batch is short, and what its CREATE TABLEs keep reads back.
+use Rattle.std.proofs.Common.{◌≡◌, ◌⊎◌, inl, inr, ℕ, ◌+◌, ◌≤◌, ◌==◌, Bool, true, false, if◌then◌else◌, List, [], ◌∷◌, ◌++◌, fold, map, length, drop, Option, None, Some, Result, Ok, Err, refl, sym, ap, subst, arith, length-drop}
+use Rattle.std.specs.Prelude.{ℤ}
+use Rattle.std.specs.List.{All, AllByRecursion}
+use Rattle.std.proofs.lemmas.List.Elements.{All-head, All-tail}
+use Rattle.value_types.specs.Units.{units_of}
+use Rattle.catalog_rows.specs.Definitions.{longest_text}
+use Rattle.tds_packets.specs.declared.message.Message.{Message}
+use Rattle.tds_packets.specs.Header.{sql_batch, attention, login7, prelogin}
+use Rattle.tds_packets.specs.Stream.{Joins, payload_limit}
+use Rattle.tds_login.specs.declared.config.Config.{Config}
+use Rattle.tds_login.specs.declared.config.Entry.{Entry}
+use Rattle.tds_login.specs.declared.config.Entry.TheVariants.{Login as AsksLogin, Bare}
+use Rattle.tds_login.specs.declared.login.Login.{Login}
+use Rattle.tds_login.specs.declared.login.LoginFault.{LoginFault}
+use Rattle.tds_login.specs.declared.prelogin.Prelogin.{Prelogin}
+use Rattle.tds_login.specs.declared.prelogin.PreloginFault.{PreloginFault}
+use Rattle.tds_login.specs.Prelogin.{prelogin_of}
+use Rattle.tds_login.specs.Login.{login_of}
+use Rattle.tds_login.specs.Verdict.{judge_login}
+use Rattle.batch_meaning.specs.declared.form.Served.{Served}
+use Rattle.session_server.specs.declared.end.BatchFault.{BatchFault}
+use Rattle.session_server.specs.declared.end.End.{End}
+use Rattle.session_server.specs.Talk.{Handling, responds, runs, refuses, ends, first_state, next_of, handle_prelogin, handle_verdict, handle_login, headers_length, batch_fault, text_of, handle_batch, handle, Walk, with_handling, walk_on, walk_by, with_message, first_walk, walk_of, Request, AreStatements, IsRequest, handling_in, AreRequests}
+use Rattle.sound_laws.proofs.ReadingBack.{texts_back}
+use Rattle.connection_laws.specs.Batches.{Batch, ReadBack, batches_of, with_batch}
+
+-- ---- one message
+
+units_short : (bytes : List ℕ) → length (units_of bytes) ≤ length bytes
+units_short [] = omega arith
+units_short (low ∷ []) = omega arith
+units_short (low ∷ high ∷ bytes) = omega (arith, units_short bytes)
+
+text_short : (payload : List ℕ) → length payload ≤ payload_limit → length (text_of payload) ≤ longest_text
+text_short payload limit = omega (arith, units_short (drop (headers_length payload) payload), length-drop (headers_length payload) payload)
+
+-- the text of a batch that is run is short
+abbrev pub IsShort : Handling → Type 0
+IsShort (runs size text) = length text ≤ longest_text
+IsShort handling = Unit {0}
+
+-- The connection stands where it begins before a login, behind a PRELOGIN, or logged in; or it has ended. The type of its
+-- states is the code's own, so each is told here by what leads to it.
+abbrev pub IsReached : Walk → Type 0
+IsReached walk =
+    (walk.stands ≡ Ok (first_state AsksLogin))
+    ⊎ (((read : Prelogin) × (walk.stands ≡ next_of (handle_prelogin (Ok read))))
+    ⊎ (((size : ℕ) × (walk.stands ≡ next_of (runs size [])))
+    ⊎ ((end : End) × (walk.stands ≡ Err end))))
+
+module _ (walk : Walk) where
+  -- the text is short, and the connection goes on to one of its states
+  abbrev pub Goes : Handling → Type 0
+  Goes handling = IsShort handling × IsReached (walk_on walk handling)
+
+  goes_if : (test : Bool) (first other : Handling) → Goes first → Goes other → Goes (if test then first else other)
+  goes_if true first other one two = one
+  goes_if false first other one two = two
+
+  ends_goes : (end : End) → Goes (ends end)
+  ends_goes end = (tt, inr (inr (inr (end, refl))))
+
+  prelogin_goes : (read : Result Prelogin PreloginFault) → Goes (handle_prelogin read)
+  prelogin_goes (Ok read) = (tt, inr (inl (read, refl)))
+  prelogin_goes (Err fault) = (tt, inr (inr (inr (_, refl))))
+
+  verdict_goes : (verdict : Result ℕ ℤ) → Goes (handle_verdict verdict)
+  verdict_goes (Ok size) = (tt, inr (inr (inl (size, refl))))
+  verdict_goes (Err number) = (tt, inr (inr (inr (_, refl))))
+
+  login_goes : (config : Config) (read : Result Login LoginFault) → Goes (handle_login config read)
+  login_goes config (Ok login) = verdict_goes (judge_login login config)
+  login_goes config (Err fault) = (tt, inr (inr (inr (_, refl))))
+
+  batch_goes : (size : ℕ) (payload : List ℕ) → length payload ≤ payload_limit → (fault : Option BatchFault) → Goes (handle_batch size payload fault)
+  batch_goes size payload limit None = (text_short payload limit, inr (inr (inl (size, refl))))
+  batch_goes size payload limit (Some fault) = (tt, inr (inr (inr (_, refl))))
+
+-- the payload of a message is within its limit
+abbrev pub IsLimited : Message → Type 0
+IsLimited message = length message.payload ≤ payload_limit
+
+-- by where the connection stands
+abbrev pub GoesBy : {S : Type 0} → Walk → (S → Handling) → Result S End → Type 0
+GoesBy walk handled (Ok state) = Goes walk (handled state)
+GoesBy walk handled (Err end) = Unit {0}
+
+-- a message is handled so, wherever the connection stands
+pub handled_goes : (config : Config) (walk : Walk) (message : Message) → IsLimited message → IsReached walk → GoesBy walk (λ state. handle config state message) walk.stands
+handled_goes config walk message limit (inl first) = subst (GoesBy walk (λ state. handle config state message)) (sym first)
+    (goes_if walk (message.kind == prelogin) _ _ (prelogin_goes walk (prelogin_of message.payload)) (goes_if walk (message.kind == login7) _ _ (login_goes walk config (login_of message.payload)) (ends_goes walk _)))
+handled_goes config walk message limit (inr (inl (read, ready))) = subst (GoesBy walk (λ state. handle config state message)) (sym ready)
+    (goes_if walk (message.kind == login7) _ _ (login_goes walk config (login_of message.payload)) (ends_goes walk _))
+handled_goes config walk message limit (inr (inr (inl (size, logged)))) = subst (GoesBy walk (λ state. handle config state message)) (sym logged)
+    (goes_if walk (message.kind == sql_batch) _ _ (batch_goes walk size message.payload limit (batch_fault message.payload)) (goes_if walk (message.kind == attention) _ _ (tt, inr (inr (inl (size, refl)))) (ends_goes walk _)))
+handled_goes config walk message limit (inr (inr (inr (end, ended)))) = subst (GoesBy walk (λ state. handle config state message)) (sym ended) tt
+
+-- where it goes on from a state, the text is short
+pub last_short : {S : Type 0} (walk : Walk) (handled : S → Handling) (stands : Result S End) (state : S) → stands ≡ Ok state → GoesBy walk handled stands → IsShort (handled state)
+last_short walk handled stands state is goes = (subst (GoesBy walk handled) is goes).0
+
+-- ---- all messages
+
+pub all_limited : (at : ℕ) (bytes : List ℕ) (messages : List Message) (rest : List ℕ) → Joins at bytes messages rest → AllByRecursion IsLimited messages
+unfolding Joins
+all_limited at bytes [] rest joined = tt
+all_limited at bytes (message ∷ messages) rest joined = (joined.3.limit, all_limited (at + length joined.0) joined.1 messages rest joined.4)
+
+abbrev pub AreShort : List Handling → Type 0
+AreShort handled = AllByRecursion IsShort handled
+
+short_append : (handled : List Handling) (handling : Handling) → AreShort handled → IsShort handling → AreShort (handled ++ handling ∷ [])
+short_append [] handling all one = (one, tt)
+short_append (first ∷ handled) handling all one = (all.0, short_append handled handling all.1 one)
+
+short_with : (handled : List Handling) (handling : Handling) → AreShort handled → IsShort handling → AreShort (with_handling handled handling)
+short_with handled (responds response next) all one = short_append handled (responds response next) all one
+short_with handled (runs size text) all one = short_append handled (runs size text) all one
+short_with handled (refuses response number) all one = short_append handled (refuses response number) all one
+short_with handled (ends end) all one = all
+
+-- all texts so far are short
+pub record IsShortWalk (walk : Walk) : Type 0 where
+  pub short : AreShort walk.handled
+  pub reached : IsReached walk
+
+-- one message more
+message_short : {S : Type 0} (walk : Walk) (handled : S → Handling) (on : Result S End → Walk) → ((state : S) → on (Ok state) ≡ walk_on walk (handled state)) → ((end : End) → on (Err end) ≡ walk)
+    → IsShortWalk walk → (stands : Result S End) → GoesBy walk handled stands → IsShortWalk (on stands)
+message_short walk handled on goes stays so (Ok state) is = subst IsShortWalk (sym (goes state)) (record { short = short_with walk.handled (handled state) so.short is.0; reached = is.1 })
+message_short walk handled on goes stays so (Err end) is = subst IsShortWalk (sym (stays end)) so
+
+module _ (config : Config) where
+  messages_short : (messages : List Message) (walk : Walk) → AllByRecursion IsLimited messages → IsShortWalk walk → IsShortWalk (fold (with_message config) walk messages)
+  messages_short [] walk limits so = so
+  messages_short (message ∷ messages) walk limits so = messages_short messages (with_message config walk message) limits.1
+      (message_short walk (λ state. handle config state message) (λ stands. walk_by config walk stands message) (λ state. refl) (λ end. refl) so walk.stands (handled_goes config walk message limits.0 so.reached))
+
+  first_reached : (entry : Entry) → config.entry ≡ entry → IsReached (first_walk config)
+  first_reached AsksLogin is = inl (ap (λ entry. Ok (first_state entry)) is)
+  first_reached Bare is = inr (inr (inl (_, ap (λ entry. Ok (first_state entry)) is)))
+
+  pub walk_short : (messages : List Message) → AllByRecursion IsLimited messages → IsShortWalk (walk_of config messages)
+  unfolding walk_of
+  walk_short messages limits = messages_short messages (first_walk config) limits (record { short = tt; reached = first_reached config.entry refl })
+
+-- ---- requests
+
+nothing_back : (statements : List Served) → statements ≡ [] → ReadBack statements
+nothing_back statements none = subst ReadBack (sym none) tt
+
+pub statements_back : (handling : Handling) (statements : List Served) → IsShort handling → AreStatements handling statements → ReadBack statements
+statements_back (runs size text) statements short reads = texts_back text statements reads short
+statements_back (responds response next) statements short none = nothing_back statements none
+statements_back (refuses response number) statements short none = nothing_back statements none
+statements_back (ends end) statements short none = nothing_back statements none
+
+with_back : (handling : Handling) (statements : List Served) (others : List Batch) → IsShort handling → AreStatements handling statements → AllByRecursion ReadBack others → AllByRecursion ReadBack (with_batch handling statements others)
+with_back (runs size text) statements others short reads back = (texts_back text statements reads short, back)
+with_back (responds response next) statements others short none back = back
+with_back (refuses response number) statements others short none back = back
+with_back (ends end) statements others short none back = back
+
+each_back : (requests : List Request) → AreShort (map handling_in requests) → All IsRequest requests → AllByRecursion ReadBack (batches_of requests)
+each_back [] short are = tt
+each_back (request ∷ requests) short are =
+    with_back request.handling request.statements (batches_of requests) short.0 (All-head IsRequest request requests are) (each_back requests short.1 (All-tail IsRequest request requests are))
+
+-- the batches of requests that were handled so
+pub batches_back : (handled : List Handling) (requests : List Request) → AreShort handled → AreRequests handled requests → AllByRecursion ReadBack (batches_of requests)
+batches_back handled requests short are = each_back requests (subst AreShort (sym are.handlings) short) are.are

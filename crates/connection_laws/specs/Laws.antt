@@ -1,0 +1,56 @@
+-- Own: the laws of connections. A connection asks what its messages mean; here it is said that these are batches, and what
+-- follows of it for the log of commits.
+use Rattle.std.specs.Prelude.{◌≡◌, ℕ, List, take}
+use Rattle.std.specs.List.{AllByRecursion, flat_map}
+use Rattle.tds_login.specs.declared.config.Config.{Config}
+use Rattle.tds_packets.specs.declared.message.Message.{Message}
+use Rattle.tds_packets.specs.Stream.{Splits}
+use Rattle.step_model.specs.Exchange.{Exchange}
+use Rattle.step_model.specs.Fits.{without_waits}
+use Rattle.step_model.specs.Log.{State}
+use Rattle.step_model.specs.Runs.{Asked, Run, mine_of, opening}
+use Rattle.step_model.specs.State.{Engine}
+use Rattle.engine_core.specs.Solo.{asked_by}
+use Rattle.session_server.specs.Conversation.{IsAsked}
+use Rattle.session_server.specs.Ends.{Cause}
+use Rattle.session_server.specs.Response.{Response}
+use Rattle.session_server.specs.Talk.{Request}
+use Rattle.sound_laws.specs.Laws.{Intact}
+use Rattle.sound_laws.specs.Runs.{AreServed}
+use Rattle.connection_laws.specs.Batches.{AsksBatches, batches_of}
+
+-- These exchanges are what one connection has asked for the messages that it took, until it ended.
+pub record IsConnection (exchanges : List Exchange) : Type 0 where
+  pub config : Config
+  pub taken : List ℕ
+  pub messages : List Message
+  pub rest : List ℕ
+  pub requests : List Request
+  pub responses : List Response
+  pub cause : Cause
+  pub split : Splits taken messages rest
+  pub asked : IsAsked config messages requests exchanges responses cause
+
+-- They are those of the batches of its requests, one behind another, and at the end those of one that was left, if one was.
+abbrev pub ConnectionAsks : Type 0
+ConnectionAsks = (exchanges : List Exchange) (connection : IsConnection exchanges) → AsksBatches connection.cause (batches_of connection.requests) exchanges
+
+-- So they have the form that the laws of soundness ask for.
+abbrev pub ConnectionServed : Type 0
+ConnectionServed = (exchanges : List Exchange) → IsConnection exchanges → AreServed exchanges
+
+-- These are those of connections, one behind another; of none where a session has asked nothing.
+pub record AreConnections (mine : List Exchange) : Type 0 where
+  pub each : List (List Exchange)
+  pub split : mine ≡ flat_map (λ exchanges. exchanges) each
+  pub connections : AllByRecursion IsConnection each
+
+-- Where each session has served connections, every database that the first commits of the log leave is intact.
+abbrev pub ConnectionsSound : Type 0
+ConnectionsSound = (asked : List Asked) (engine : Engine) → Run opening asked engine → ((session : ℕ) → AreConnections (without_waits (mine_of session asked)))
+    → (place : ℕ) → Intact (State (take place engine.log))
+
+-- So it is where one session has served one, and no other has stepped.
+abbrev pub ConnectionSound : Type 0
+ConnectionSound = (session : ℕ) (exchanges : List Exchange) (engine : Engine) → IsConnection exchanges → Run opening (asked_by session exchanges) engine
+    → (place : ℕ) → Intact (State (take place engine.log))

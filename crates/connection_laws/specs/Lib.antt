@@ -1,0 +1,3 @@
+-- Read in this order; the comment behind a name says what the file is for.
+pub mod Batches  -- AsksBatches: what a connection has asked, batch by batch
+pub mod Laws  -- ConnectionAsks, ConnectionServed, ConnectionsSound: the laws
