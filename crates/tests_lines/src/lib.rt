@@ -1,7 +1,7 @@
 //! What the programs share that try lines of files: the loop over files, the texts of lines, and what the
 //! tables and variables of a text are.
 //!
-//! It has no test. `tests_binding` and `tests_queries` rely on it; `docs/ROWS.md` says how lines are written.
+//! It has no test. `tests_text`, `tests_binding` and `tests_queries` rely on it; `docs/ROWS.md` says how lines are written.
 #![tactic(auto)]
 
 mod files;

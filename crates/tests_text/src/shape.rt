@@ -1,6 +1,6 @@
 //! Trees in a line: each form as a word and its parts, in parentheses.
 
-use crate::described::put_units;
+use crate::units::put_units;
 use sqlite_items::Boxed;
 use std::alloc::AllocError;
 use std::fmt::Write;

@@ -1,26 +1,19 @@
-//! Tests of values, conversions, variables, expressions and transaction states, with ample memory.
-//! What they answer is proved; that they answer is shown here, by lines that say what is asked and
-//! what is answered.
+//! Tests of what no text reaches: keys in maps and in order, units and copies, variables, transaction states and places
+//! of trees where nothing stands, with ample memory. What they answer is proved; that they answer is shown here.
+//!
+//! Conversions, expressions and tests are lines of `tests_queries`.
 #![tactic(auto)]
 
 #[cfg(test)]
-mod conversions;
+mod copies;
 #[cfg(test)]
-mod expressions;
+mod keys;
 #[cfg(test)]
-mod order;
-#[cfg(test)]
-mod reads;
+mod places;
 #[cfg(test)]
 mod transactions;
 #[cfg(test)]
-mod trees;
-#[cfg(test)]
-mod values;
-#[cfg(test)]
 mod variables;
-#[cfg(test)]
-mod words;
 
 /// The crate has tests alone.
 pub fn nothing() {}
