@@ -5,6 +5,7 @@ ghost use Rattle.typed_nodes.specs.Refusals.{Gives};
 ghost use Rattle.clause_binder.specs.Answers.{GivesOn};
 ghost use Rattle.binder.specs.Writes as spec;
 
+use crate::and_next::and_next;
 use crate::insert::whole_table;
 use crate::limits::is_beyond;
 use crate::made::Made;
@@ -71,7 +72,7 @@ fn delete_made(
     ensures { Gives result (Ok (spec.delete_made table.now filter done)) }
 {
     let beyond = is_beyond(&done);
-    let table = whole_table(alloc, table)?;
+    let (filter, table) = and_next(filter, whole_table(alloc, table))?;
     Ok(Made {
         bound: Bound::Write(BoundWrite::Delete {
             table,

@@ -6,6 +6,7 @@ ghost use Rattle.typed_nodes.specs.Refusals.{Gives};
 ghost use Rattle.clause_binder.specs.Answers.{GivesOn};
 ghost use Rattle.binder.specs.Writes as spec;
 
+use crate::and_next::and_next;
 use crate::fault::{WRONG_COUNT, refused_unnamed};
 use crate::limits::is_beyond;
 use crate::made::Made;
@@ -180,9 +181,10 @@ fn insert_selected(
     ensures { Gives result (spec.insert_selected table.now columns twice select) }
 {
     if items_counted(select.query.items.len()) != items_counted(columns.len()) {
+        drop(select);
         return refused_unnamed(alloc, WRONG_COUNT);
     }
-    let table = whole_table(alloc, table)?;
+    let (select, table) = and_next(select, whole_table(alloc, table))?;
     let beyond = select.beyond || select.assigns || twice;
     let rows = BoundRows::Query(select.query);
     Ok(Made {

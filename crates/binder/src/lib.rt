@@ -8,6 +8,7 @@
 //! that want of memory is not answered where there is memory.
 #![tactic(auto)]
 
+mod and_next;
 mod create_table;
 mod delete;
 mod fault;

@@ -7,6 +7,7 @@ ghost use Rattle.clause_binder.specs.Clauses.{set_aside};
 ghost use Rattle.clause_binder.specs.Scope.{behind};
 ghost use Rattle.binder.specs.Writes as spec;
 
+use crate::and_next::and_next;
 use crate::delete::bind_where;
 use crate::insert::{bind_value, whole_table};
 use crate::limits::is_beyond;
@@ -34,14 +35,14 @@ pub(crate) fn update<'d>(
 ) -> Result<Made, BindFault>
     ensures { Gives result (spec.update binder.now.definitions.now binder.now.vars.now table.now sets.now filter.now) }
 {
+    let twice = is_set_twice(binder.alloc, sets)?;
     let columns = columns_of(table, binder.definitions);
     let sources = [TableSource::new(table, columns)];
     let at = Context::plain(&sources);
     let mut done = Progress::begin_at(binder.alloc, inners_of(binder, sets));
     let filter = bind_where(binder, filter, &at, &mut done)?;
     let aside = set_aside(binder.alloc, &mut done);
-    let set = bind_sets(binder, columns, sets, &at, &mut done)?;
-    let twice = is_set_twice(binder.alloc, sets)?;
+    let (filter, set) = and_next(filter, bind_sets(binder, columns, sets, &at, &mut done))?;
     done.note_beyond(twice);
     update_made(binder.alloc, table, set, filter, aside, done)
 }
@@ -135,9 +136,9 @@ fn update_made(
     ensures { Gives result (Ok (spec.update_made table.now sets filter aside done)) }
 {
     let beyond = is_beyond(&done);
-    let table = whole_table(alloc, table)?;
+    let (filter, table) = and_next(filter, whole_table(alloc, table))?;
     let mut inner = done.inner;
-    inner.append(aside)?;
+    let (filter, _) = and_next(filter, inner.append(aside))?;
     Ok(Made {
         bound: Bound::Write(BoundWrite::Update {
             table,

@@ -5,6 +5,7 @@ ghost use Rattle.typed_nodes.specs.Refusals.{Gives};
 ghost use Rattle.clause_binder.specs.Answers.{GivesOn};
 ghost use Rattle.clause_binder.specs.Clauses as clause;
 
+use crate::and_next::and_next;
 use crate::progress::Progress;
 use crate::scope::{TableSource, alias_of, columns_of, is_long, key_places, last_place};
 use crate::tables::TablesByName;
@@ -103,9 +104,9 @@ fn reference(
 ) -> Result<Reference, BindFault>
     ensures { Gives result (Ok (clause.reference definitions.now of.now join on)) }
 {
-    let object = of.name.copy(alloc)?;
+    let (on, object) = and_next(on, of.name.copy(alloc))?;
     let table = definitions.find(&of.name);
-    let key = key_places(alloc, table)?;
+    let (on, key) = and_next(on, key_places(alloc, table))?;
     Ok(Reference {
         table: TableName { object, part: 0 },
         width: last_place(columns_of(table).len()),

@@ -5,6 +5,7 @@ ghost use Rattle.typed_nodes.specs.Refusals.{Gives};
 ghost use Rattle.clause_binder.specs.Answers.{GivesOn};
 ghost use Rattle.clause_binder.specs.Clauses as spec;
 
+use crate::and_next::and_next;
 use crate::groups::looked_at;
 use crate::named::NamedItems;
 use crate::operand::{cell, or_int, variable_of};
@@ -30,7 +31,8 @@ pub fn value_item(
 ) -> Result<NamedItems, BindFault>
     ensures { GivesOn result (spec.value_item name alias before a at.now done.old) done.new }
 {
-    looked_at(alloc, a.facts, at, done)?;
+    let looked = looked_at(alloc, a.facts, at, done);
+    let (a, (before, _)) = and_next(a, and_next(before, looked))?;
     done.note_beyond(is_long(&name));
     let item = Item {
         name,
@@ -171,7 +173,9 @@ pub fn assigned_onto(
 {
     let variable = variable_of(alloc, name, vars)?;
     done.note_beyond(is_deep(variable.facts));
-    before.with_place(place_or(&variable.expr))
+    let place = place_or(&variable.expr);
+    drop(variable);
+    before.with_place(place)
 }
 
 /// The place of a variable.

@@ -13,6 +13,7 @@
 #![tactic(auto)]
 
 mod aliases;
+mod and_next;
 mod aside;
 mod back;
 mod columns;

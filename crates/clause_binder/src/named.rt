@@ -5,6 +5,7 @@ ghost use Rattle.typed_nodes.specs.Refusals.{Gives};
 ghost use Rattle.clause_binder.specs.Clauses as spec;
 
 use crate::aliases::Aliases;
+use crate::and_next::and_next;
 use bound_tree::Item;
 use sqlite_items::Items;
 use std::alloc::Global;
@@ -62,7 +63,7 @@ impl NamedItems {
             places,
             assigns,
         } = self;
-        let aliases = aliases.with(alloc, alias)?;
+        let (item, aliases) = and_next(item, aliases.with(alloc, alias))?;
         items.push(item)?;
         Ok(NamedItems {
             items,

@@ -11,6 +11,7 @@ ghost use Rattle.typed_nodes.specs.Facts as facts;
 ghost use Rattle.clause_binder.specs.Scope.{syntax_error};
 ghost use Rattle.clause_binder.specs.Operands as spec;
 
+use crate::and_next::and_next;
 use crate::fault::{
     OPERAND_NOT_ALLOWED, SEVERAL_ITEMS, SYNTAX_ERROR, UNDECLARED_VARIABLE, refused, refused_unnamed,
 };
@@ -223,9 +224,10 @@ impl Progress {
     pub(crate) fn add_sum(&mut self, from: usize, sum: Sum) -> Result<TypedExpr, BindFault>
         ensures { GivesOn result (Ok (spec.add_sum from sum self.old)) self.new }
     {
-        let cell = cell_at(behind(from, self.sums.len()), sum.to);
+        let place = behind(from, self.sums.len());
+        let to = sum.to;
         self.sums.push(sum)?;
-        Ok(cell)
+        Ok(cell_at(place, to))
     }
 }
 
@@ -237,7 +239,8 @@ pub fn scalar_from(
 ) -> Result<TypedExpr, BindFault>
     ensures { GivesOn result (spec.scalar_with select done.old) done.new }
 {
-    let kind = only_kind(alloc, select.query.items.as_slice())?;
+    let kind = only_kind(alloc, select.query.items.as_slice());
+    let (select, kind) = and_next(select, kind)?;
     let place = done.inner_place();
     done.add_inner(select, true)?;
     Ok(scalar_at(place, kind))
@@ -275,9 +278,10 @@ pub fn in_query_from(
 ) -> Result<TypedTest, BindFault>
     ensures { GivesOn result (spec.in_query_with a select done.old) done.new }
 {
-    let kind = only_kind(alloc, select.query.items.as_slice())?;
+    let kind = only_kind(alloc, select.query.items.as_slice());
+    let (a, (select, kind)) = and_next(a, and_next(select, kind))?;
     let place = done.inner_place();
-    done.add_inner(select, false)?;
+    let (a, _) = and_next(a, done.add_inner(select, false))?;
     in_query_at(alloc, a, kind, place)
 }
 
@@ -292,7 +296,10 @@ fn in_query_at(
 {
     match u16::try_from(place) {
         Ok(place) => in_query_test(alloc, a, kind, place),
-        Err(_) => test_left_out(alloc),
+        Err(_) => {
+            drop(a);
+            test_left_out(alloc)
+        }
     }
 }
 
@@ -319,7 +326,7 @@ pub fn sum_of(
     ensures { GivesOn result (spec.sum_with of distinct from operand done.old) done.new }
 {
     let kind = or_int(operand.facts.kind);
-    let to = aggregate_kind(alloc, of, kind)?;
+    let (operand, to) = and_next(operand, aggregate_kind(alloc, of, kind))?;
     done.note_beyond(is_deep(operand.facts));
     let sum = Sum {
         kind: sum_kind(of),

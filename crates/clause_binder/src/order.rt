@@ -5,6 +5,7 @@ ghost use Rattle.clause_binder.specs.Answers.{GivesOn};
 ghost use Rattle.clause_binder.specs.Clauses as spec;
 
 use crate::aliases::Aliases;
+use crate::and_next::and_next;
 use crate::groups::looked_at;
 use crate::named::{MAX_COLUMNS, NamedItems};
 use crate::progress::{Context, Progress};
@@ -64,7 +65,9 @@ fn key_by(distinct: bool, items: &NamedItems, a: BoundExpr, done: &mut Progress)
     ensures { (result, done.new) ≡ spec.key_by distinct items.now a done.old }
 {
     if distinct {
-        key_at(item_place(&a, items.items.as_slice()), done)
+        let place = item_place(&a, items.items.as_slice());
+        drop(a);
+        key_at(place, done)
     } else {
         OrderKey::Expr(a)
     }
@@ -81,7 +84,8 @@ pub fn expr_key(
 ) -> Result<OrderKey, BindFault>
     ensures { GivesOn result (spec.expr_key distinct items.now a at.now done.old) done.new }
 {
-    looked_at(alloc, a.facts, at, done)?;
+    let looked = looked_at(alloc, a.facts, at, done);
+    let (a, _) = and_next(a, looked)?;
     Ok(key_by(distinct, items, a.expr, done))
 }
 

@@ -10,6 +10,7 @@ ghost use Rattle.lexeme_reader.specs.Reading.{read, sees_any, Gives};
 ghost use Rattle.tsql_grammar.specs.Lookahead.{adds, multiplies};
 
 use crate::nested::{Found, Nested};
+use crate::pairs::beside;
 use crate::reader::Reader;
 use lexeme_reader::{Lexemes, ReadFault};
 use sqlite_items::{Boxed, Items};
@@ -41,7 +42,7 @@ impl<F: Fn(Global, &mut Lexemes<'_>, usize, Nested) -> Result<Found, ReadFault>>
         if !lexemes.sees_any(&ADDS) {
             return Ok(first);
         }
-        let more = self.more_terms(lexemes)?;
+        let (first, more) = beside(first, self.more_terms(lexemes))?;
         Ok(sum(self.alloc, first, more)?)
     }
 
@@ -82,7 +83,7 @@ impl<F: Fn(Global, &mut Lexemes<'_>, usize, Nested) -> Result<Found, ReadFault>>
         if !lexemes.sees_any(&MULTIPLIES) {
             return Ok(first);
         }
-        let more = self.more_factors(lexemes)?;
+        let (first, more) = beside(first, self.more_factors(lexemes))?;
         Ok(product(self.alloc, first, more)?)
     }
 
@@ -138,9 +139,9 @@ impl<F: Fn(Global, &mut Lexemes<'_>, usize, Nested) -> Result<Found, ReadFault>>
         if !joins(lexemes) {
             return Ok(first);
         }
-        let factors = self.more_factors(lexemes)?;
-        let terms = self.more_terms(lexemes)?;
+        let (first, factors) = beside(first, self.more_factors(lexemes))?;
         let first = product(self.alloc, first, factors)?;
+        let (first, terms) = beside(first, self.more_terms(lexemes))?;
         Ok(sum(self.alloc, first, terms)?)
     }
 
@@ -154,7 +155,7 @@ impl<F: Fn(Global, &mut Lexemes<'_>, usize, Nested) -> Result<Found, ReadFault>>
             return self.simple_primary(lexemes);
         }
         let inner = self.enclosed(lexemes)?;
-        lexemes.want_sign(Sign::Close)?;
+        let (inner, ()) = beside(inner, lexemes.want_sign(Sign::Close))?;
         Ok(inner)
     }
 

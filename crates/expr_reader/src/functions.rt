@@ -7,6 +7,7 @@ ghost use Rattle.expr_reader.specs.Parts.{cast_from, length_from, count_from, sy
 ghost use Rattle.lexeme_reader.specs.Reading.{read, applied, Gives};
 
 use crate::nested::{Found, Nested};
+use crate::pairs::beside;
 use crate::reader::Reader;
 use lexeme_reader::{Lexemes, ReadFault};
 use sqlite_items::Boxed;
@@ -110,7 +111,7 @@ impl<F: Fn(Global, &mut Lexemes<'_>, usize, Nested) -> Result<Found, ReadFault>>
     {
         lexemes.want_sign(Sign::Open)?;
         let counted = self.count_arguments(lexemes)?;
-        lexemes.want_sign(Sign::Close)?;
+        let (counted, ()) = beside(counted, lexemes.want_sign(Sign::Close))?;
         Ok(counted)
     }
 

@@ -10,6 +10,7 @@ ghost use Rattle.lexeme_reader.specs.declared.fault.ReadFault.TheVariants.{NoRoo
 
 use crate::expr::ADDS;
 use crate::nested::{Found, Nested};
+use crate::pairs::beside;
 use crate::reader::Reader;
 use lexeme_reader::{Lexemes, ReadFault};
 use sqlite_items::{Boxed, Items};
@@ -50,7 +51,7 @@ impl<F: Fn(Global, &mut Lexemes<'_>, usize, Nested) -> Result<Found, ReadFault>>
         ensures { Gives (read r.Test lexemes.old) result lexemes.new }
     {
         let first = self.and_test(lexemes)?;
-        let more = self.more_ors(lexemes)?;
+        let (first, more) = beside(first, self.more_ors(lexemes))?;
         Ok(any_of(self.alloc, first, more)?)
     }
 
@@ -78,7 +79,7 @@ impl<F: Fn(Global, &mut Lexemes<'_>, usize, Nested) -> Result<Found, ReadFault>>
         ensures { Gives (read r.AndTest lexemes.old) result lexemes.new }
     {
         let first = self.not_test(lexemes)?;
-        let more = self.more_ands(lexemes)?;
+        let (first, more) = beside(first, self.more_ands(lexemes))?;
         Ok(all_of(self.alloc, first, more)?)
     }
 
@@ -325,12 +326,13 @@ impl<F: Fn(Global, &mut Lexemes<'_>, usize, Nested) -> Result<Found, ReadFault>>
         requires { Nests self.now.depth (F.pre self.now.nested) (F.post self.now.nested) }
         ensures { Gives (closed_from first lexemes.old) result lexemes.new }
     {
-        let ands = self.nested_ands(lexemes)?;
-        let ors = self.nested_ors(lexemes)?;
-        lexemes.want_sign(Sign::Close)?;
+        let (first, ands) = beside(first, self.nested_ands(lexemes))?;
         let first = all_of(self.alloc, first, ands)?;
+        let (first, ors) = beside(first, self.nested_ors(lexemes))?;
         let test = any_of(self.alloc, first, ors)?;
-        Ok(Test::Parens(Boxed::new(self.alloc, test)?))
+        let inner = Boxed::new(self.alloc, test)?;
+        lexemes.want_sign(Sign::Close)?;
+        Ok(Test::Parens(inner))
     }
 
     /// What follows a test, in so many parentheses.
@@ -394,7 +396,7 @@ impl<F: Fn(Global, &mut Lexemes<'_>, usize, Nested) -> Result<Found, ReadFault>>
         lexemes.want_word(Reserved::In)?;
         lexemes.want_sign(Sign::Open)?;
         let test = self.in_list(lexemes, left, negated)?;
-        lexemes.want_sign(Sign::Close)?;
+        let (test, ()) = beside(test, lexemes.want_sign(Sign::Close))?;
         Ok(test)
     }
 

@@ -3,18 +3,16 @@
 //! answer has as many rows as it must, or without a word.
 #![tactic(auto)]
 
-use binder::bind;
-use bound_tree::{Bound, BoundQuery, BoundWrite, Image, SystemValues};
+use bound_tree::{BoundQuery, BoundWrite, Image, SystemValues};
 use query_eval::answer_rows;
 use session_vars::Vars;
-use sqlite_items::Items;
 use std::alloc::{AllocError, Global};
 use std::env;
 use std::process::ExitCode;
-use stmt_parser::{ParseFault, parse_batch, parse_definition};
-use tsql_tree::{Batch, Definition};
+use tests_lines::{BoundVisitor, StatementVisitor, Tables, put_fault, visit_bound, visit_text};
+use tsql_tree::{Definition, Statement};
 use typed_nodes::BindFault;
-use value_types::{Memory, Row, Value, units_of_str};
+use value_types::{Memory, Row, Value};
 
 /// How many rows `t` has.
 const ROWS: i64 = 100_000;
@@ -43,8 +41,8 @@ struct Work {
 /// What a query is answered on, how many rows its answer has, and how often it is answered.
 #[derive(Clone, Copy)]
 struct Given<'a> {
+    tables: &'a [Definition],
     images: &'a [Image],
-    vars: &'a Vars,
     system: &'a SystemValues,
     wanted: usize,
     passes: u32,
@@ -109,44 +107,33 @@ fn measure(alloc: Global, name: &str, passes: &str) -> bool {
 
 /// Makes the rows, and reads, binds and answers the query.
 fn is_done(alloc: Global, work: Work, passes: u32) -> Result<bool, Memory> {
-    let text = units_of_str(alloc, work.text)?;
+    let tables = tables_of(alloc)?;
     let images = images_of(alloc, work.is_join)?;
     let system = system_of(alloc)?;
-    let vars = Vars::new(alloc);
-    let given = Given {
+    let mut given = Given {
+        tables: tables.as_slice(),
         images: images.as_slice(),
-        vars: &vars,
         system: &system,
         wanted: work.wanted,
         passes,
     };
-    let definitions = definitions_of(alloc)?;
-    Ok(is_whole_batch(
-        alloc,
-        definitions.as_slice(),
-        &given,
-        parse_batch(alloc, &text),
-    ))
+    is_answered(alloc, work.text, &mut given)
+}
+
+/// Whether nothing is said of the query of a text, which is so where it is answered as it must.
+fn is_answered(alloc: Global, text: &str, given: &mut Given<'_>) -> Result<bool, Memory> {
+    let mut said = String::new(alloc);
+    visit_text(alloc, &mut said, text, given)?;
+    Ok(said.is_empty())
 }
 
 /// What the tables of the texts are.
-fn definitions_of(alloc: Global) -> Result<Vec<Definition>, Memory> {
-    let mut definitions = Vec::new(alloc);
+fn tables_of(alloc: Global) -> Result<Tables, Memory> {
+    let mut tables = Tables::new(alloc);
     for text in TABLES {
-        if let Some(definition) = defined(alloc, text)? {
-            definitions.push(definition)?;
-        }
+        tables.define(alloc, text)?;
     }
-    Ok(definitions)
-}
-
-/// What a text defines.
-fn defined(alloc: Global, text: &str) -> Result<Option<Definition>, Memory> {
-    match parse_definition(alloc, &units_of_str(alloc, text)?) {
-        Ok(definition) => Ok(Some(definition)),
-        Err(ParseFault::Memory) => Err(Memory),
-        Err(ParseFault::Refused { .. }) => Ok(None),
-    }
+    Ok(tables)
 }
 
 /// The rows that a query reads, for each of its references.
@@ -189,65 +176,60 @@ fn joined_image(alloc: Global, factor: i64) -> Result<Image, AllocError> {
     Ok(Image::from(rows))
 }
 
-fn is_whole_batch(
-    alloc: Global,
-    definitions: &[Definition],
-    given: &Given<'_>,
-    read: Result<Batch, ParseFault>,
-) -> bool {
-    is_batch(alloc, definitions, given, &read)
-}
-
-/// Whether what was read is one query, which is answered as it must.
-fn is_batch(
-    alloc: Global,
-    definitions: &[Definition],
-    given: &Given<'_>,
-    read: &Result<Batch, ParseFault>,
-) -> bool {
-    let Ok(Batch::Body(statements)) = read else {
-        return false;
-    };
-    match statements.as_slice() {
-        [statement] => is_bound(
-            alloc,
-            given,
-            bind(alloc, statement, definitions, given.vars),
-        ),
-        _ => false,
+impl StatementVisitor for Given<'_> {
+    fn visit(
+        &mut self,
+        alloc: Global,
+        given: &mut String,
+        statements: &[Statement],
+        vars: &Vars,
+    ) -> Result<(), Memory> {
+        match statements {
+            [statement] => visit_bound(alloc, given, statement, self.tables, vars, &*self),
+            _ => Ok(given.push_str("not one statement")?),
+        }
     }
 }
 
-/// Whether what a statement is bound to is a query, which is answered as it must.
-fn is_bound(alloc: Global, given: &Given<'_>, bound: Result<Bound, BindFault>) -> bool {
-    match bound {
-        Ok(Bound::Query(query)) => is_whole_query(alloc, given, query),
-        Ok(Bound::Assign(query, places)) => is_assigned(query, places),
-        Ok(Bound::Write(write)) => is_write(write),
-        Ok(Bound::Plain) => false,
-        Err(fault) => is_refused(fault),
+impl BoundVisitor for Given<'_> {
+    fn visit_query(
+        &self,
+        alloc: Global,
+        given: &mut String,
+        query: &BoundQuery,
+        _places: Option<&[u16]>,
+        vars: &Vars,
+    ) -> Result<(), Memory> {
+        for _ in 0..self.passes {
+            if count(alloc, self, query, vars) != Some(self.wanted) {
+                return Ok(given.push_str("another answer")?);
+            }
+        }
+        Ok(())
     }
-}
 
-fn is_assigned(_query: BoundQuery, _places: Items<u16>) -> bool {
-    false
-}
+    fn visit_write(
+        &self,
+        _alloc: Global,
+        given: &mut String,
+        _write: &BoundWrite,
+        _vars: &Vars,
+    ) -> Result<(), Memory> {
+        Ok(given.push_str("a write")?)
+    }
 
-fn is_write(_write: BoundWrite) -> bool {
-    false
-}
+    fn visit_plain(&self, given: &mut String) -> Result<(), Memory> {
+        Ok(given.push_str("no query")?)
+    }
 
-fn is_refused(_fault: BindFault) -> bool {
-    false
-}
-
-fn is_whole_query(alloc: Global, given: &Given<'_>, query: BoundQuery) -> bool {
-    (0..given.passes).all(|_| count(alloc, given, &query) == Some(given.wanted))
+    fn visit_fault(&self, given: &mut String, fault: &BindFault) -> Result<(), Memory> {
+        put_fault(given, fault)
+    }
 }
 
 /// How many rows are answered; none where the query fails.
-fn count(alloc: Global, given: &Given<'_>, query: &BoundQuery) -> Option<usize> {
-    match answer_rows(alloc, query, given.images, given.vars, given.system) {
+fn count(alloc: Global, given: &Given<'_>, query: &BoundQuery, vars: &Vars) -> Option<usize> {
+    match answer_rows(alloc, query, given.images, vars, given.system) {
         Ok(rows) => Some(rows.len()),
         Err(_) => None,
     }

@@ -5,6 +5,7 @@ ghost use Rattle.clause_binder.specs.Answers.{GivesItemsOn, GivesOn, SettlesOn};
 ghost use Rattle.clause_binder.specs.Progress as part;
 ghost use Rattle.clause_binder.specs.Bind as spec;
 
+use crate::and_next::and_next;
 use crate::binder::Binder;
 use bound_tree::InfixOp;
 use clause_binder::{
@@ -74,12 +75,12 @@ impl<'t, 'd> Binder<'t, 'd> {
             }
             Expr::IsNull(a, b) => {
                 let a = self.bind_expr(a.get(), at, done)?;
-                let b = self.bind_expr(b.get(), at, done)?;
+                let (a, b) = and_next(a, self.bind_expr(b.get(), at, done))?;
                 is_null_expr(self.alloc, a, b)
             }
             Expr::NullIf(a, b) => {
                 let a = self.bind_expr(a.get(), at, done)?;
-                let b = self.bind_expr(b.get(), at, done)?;
+                let (a, b) = and_next(a, self.bind_expr(b.get(), at, done))?;
                 null_if_expr(self.alloc, a, b)
             }
             Expr::Coalesce(items) => {
@@ -211,7 +212,7 @@ impl<'t, 'd> Binder<'t, 'd> {
     ) -> Result<TypedExpr, BindFault>
         ensures { GivesOn result (spec.joined_to before (record { op = op; read = (spec.expr_of self.now.definitions.now self.now.vars.now operand.now).read }) at.now done.old) done.new }
     {
-        let a = self.bind_expr(operand, at, done)?;
+        let (before, a) = and_next(before, self.bind_expr(operand, at, done))?;
         let joined = infix_expr(self.alloc, op, before, a)?;
         Ok(settled(at.groups, joined))
     }

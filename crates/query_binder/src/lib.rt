@@ -8,6 +8,7 @@
 //! Nothing is asked of a caller. Only tests show that want of memory is not answered where there is memory.
 #![tactic(auto)]
 
+mod and_next;
 mod binder;
 mod expr;
 mod inside;

@@ -7,6 +7,7 @@ ghost use Rattle.clause_binder.specs.Progress as part;
 ghost use Rattle.clause_binder.specs.Clauses as clause;
 ghost use Rattle.clause_binder.specs.Bind as spec;
 
+use crate::and_next::and_next;
 use crate::binder::Binder;
 use bound_tree::{BoundExpr, BoundOrder, BoundTest, JoinKind, OrderKey};
 use clause_binder::{
@@ -56,7 +57,8 @@ impl<'t, 'd> Binder<'t, 'd> {
         done.note_beyond(are_beyond(sources.as_slice()));
         let front = self.bind_front(select, grouped, sources.as_slice(), &mut done)?;
         let at = class_context(grouped, sources.as_slice(), front.groups.as_slice());
-        let back = self.bind_back(select, &at, done)?;
+        let back = self.bind_back(select, &at, done);
+        let (front, back) = and_next(front, back)?;
         Ok(self.query_from(select, grouped, refs, front, back))
     }
 
@@ -94,7 +96,8 @@ impl<'t, 'd> Binder<'t, 'd> {
         ensures { GivesOn result (clause.grouped_of (spec.select_read self.now.definitions.now self.now.vars.now select.now) grouped sources.now filter done.old) done.new }
     {
         let plain = Context::plain(&*sources);
-        let groups = self.bind_groups(select.groups.as_slice(), &plain, done)?;
+        let groups = self.bind_groups(select.groups.as_slice(), &plain, done);
+        let (filter, groups) = and_next(filter, groups)?;
         match &select.having {
             None => Ok(FrontClauses {
                 filter,
@@ -103,7 +106,8 @@ impl<'t, 'd> Binder<'t, 'd> {
             }),
             Some(having) => {
                 let at = class_context(grouped, &*sources, groups.as_slice());
-                let having = self.bind_having(having.get(), &at, done)?;
+                let having = self.bind_having(having.get(), &at, done);
+                let (filter, having) = and_next(filter, having)?;
                 Ok(FrontClauses {
                     filter,
                     groups,
@@ -297,7 +301,7 @@ impl<'t, 'd> Binder<'t, 'd> {
             Item::AllOf(name) => star_items(self.alloc, Some(name), before, at, done),
             Item::Assign(name, a) => {
                 let before = assigned_onto(self.alloc, self.vars, name, before, done)?;
-                let a = self.bind_expr(a, at, done)?;
+                let (before, a) = and_next(before, self.bind_expr(a, at, done))?;
                 value_item(
                     self.alloc,
                     Units::new(self.alloc),
@@ -312,7 +316,7 @@ impl<'t, 'd> Binder<'t, 'd> {
                 done.note_beyond(is_long_alias(alias));
                 let name = name_or(self.alloc, alias, self.called(of))?;
                 let alias = copied(self.alloc, alias)?;
-                let a = self.bind_expr(of, at, done)?;
+                let (before, a) = and_next(before, self.bind_expr(of, at, done))?;
                 value_item(self.alloc, name, alias, before, a, at, done)
             }
         }

@@ -2,11 +2,12 @@
 
 ghost use Rattle.std.specs.Prelude.{map};
 ghost use Rattle.typed_nodes.specs.Tests as tests;
-ghost use Rattle.clause_binder.specs.Answers.{GivesOn};
+ghost use Rattle.clause_binder.specs.Answers.{GivesItemsOn, GivesOn};
 ghost use Rattle.clause_binder.specs.Operands.{in_query};
 ghost use Rattle.clause_binder.specs.Progress as part;
 ghost use Rattle.clause_binder.specs.Bind as spec;
 
+use crate::and_next::and_next;
 use crate::binder::Binder;
 use bound_tree::CompareOp;
 use clause_binder::{Context, Progress, compare_op, exists_from, in_query_from, test_left_out};
@@ -63,24 +64,33 @@ impl<'t, 'd> Binder<'t, 'd> {
                 a.negated_where(self.alloc, *count % 2 == 1)
             }
             Test::And(first, rest) => {
-                let rest = rest.as_slice();
                 let first = self.bind_test(first.get(), at, done)?;
-                let mut bound = Vec::new(self.alloc);
-                for test in rest {
-                    bound.push(self.bind_test(test, at, done)?)?;
-                }
-                all_joined(self.alloc, Junction::And, first, bound)
+                let (first, rest) = and_next(first, self.bind_tests(rest.as_slice(), at, done))?;
+                all_joined(self.alloc, Junction::And, first, rest)
             }
             Test::Or(first, rest) => {
-                let rest = rest.as_slice();
                 let first = self.bind_test(first.get(), at, done)?;
-                let mut bound = Vec::new(self.alloc);
-                for test in rest {
-                    bound.push(self.bind_test(test, at, done)?)?;
-                }
-                all_joined(self.alloc, Junction::Or, first, bound)
+                let (first, rest) = and_next(first, self.bind_tests(rest.as_slice(), at, done))?;
+                all_joined(self.alloc, Junction::Or, first, rest)
             }
         }
+    }
+
+    /// Tests one after another.
+    #[cycle(bind)]
+    fn bind_tests(
+        &self,
+        tests: &'d [Test],
+        at: &Context<'_, 'd>,
+        done: &mut Progress,
+    ) -> Result<Vec<TypedTest>, BindFault>
+        ensures { GivesItemsOn result (part.each (map part.bind_of (map (spec.test_of self.now.definitions.now self.now.vars.now) tests.now)) at.now done.old) done.new }
+    {
+        let mut bound = Vec::new(self.alloc);
+        for test in tests {
+            bound.push(self.bind_test(test, at, done)?)?;
+        }
+        Ok(bound)
     }
 
     /// BETWEEN of an operand and a lower limit that are bound.
@@ -96,7 +106,7 @@ impl<'t, 'd> Binder<'t, 'd> {
     ) -> Result<TypedTest, BindFault>
         ensures { GivesOn result (part.and_then (spec.expr_of self.now.definitions.now self.now.vars.now high.now).read.bind (λ z. spec.tested negated (tests.between_test a low z)) at.now done.old) done.new }
     {
-        let high = self.bind_expr(high, at, done)?;
+        let (a, (low, high)) = and_next(a, and_next(low, self.bind_expr(high, at, done)))?;
         let test = between_test(self.alloc, a, low, high)?;
         test.negated_where(self.alloc, negated)
     }
@@ -114,10 +124,11 @@ impl<'t, 'd> Binder<'t, 'd> {
         ensures { GivesOn result (part.and_then (in_query (spec.query_of self.now.definitions.now self.now.vars.now select.now) a) (spec.tested negated) at.now done.old) done.new }
     {
         if at.row_alone {
+            drop(a);
             let test = test_left_out(self.alloc)?;
             return test.negated_where(self.alloc, negated);
         }
-        let select = self.bind_select(select)?;
+        let (a, select) = and_next(a, self.bind_select(select))?;
         let test = in_query_from(self.alloc, a, select, done)?;
         test.negated_where(self.alloc, negated)
     }
@@ -134,7 +145,7 @@ impl<'t, 'd> Binder<'t, 'd> {
     ) -> Result<TypedTest, BindFault>
         ensures { GivesOn result (part.and_then (part.each (map part.bind_of (map spec.read_of (map (spec.expr_of self.now.definitions.now self.now.vars.now) items.now)))) (λ xs. spec.tested negated (tests.in_list_test a xs)) at.now done.old) done.new }
     {
-        let items = self.bind_each(items, at, done)?;
+        let (a, items) = and_next(a, self.bind_each(items, at, done))?;
         let test = in_list_test(self.alloc, a, items)?;
         test.negated_where(self.alloc, negated)
     }
@@ -151,7 +162,7 @@ impl<'t, 'd> Binder<'t, 'd> {
     ) -> Result<TypedTest, BindFault>
         ensures { GivesOn result (part.and_then (spec.expr_of self.now.definitions.now self.now.vars.now b.now).read.bind (λ y. part.pure (tests.compare_test op a y)) at.now done.old) done.new }
     {
-        let b = self.bind_expr(b, at, done)?;
+        let (a, b) = and_next(a, self.bind_expr(b, at, done))?;
         compare_test(self.alloc, op, a, b)
     }
 }

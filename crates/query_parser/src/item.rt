@@ -7,7 +7,7 @@ ghost use Rattle.query_parser.specs.Parts.{items_from, assigns_from, assign_from
 ghost use Rattle.lexeme_reader.specs.Reading.{read, applied, Gives};
 
 use crate::select::SelectReader;
-use expr_reader::{Found, Nested};
+use expr_reader::{Found, Nested, beside};
 use lexeme_reader::{Lexemes, ReadFault};
 use sqlite_items::{Boxed, Items};
 use std::alloc::Global;
@@ -242,7 +242,7 @@ impl<F: Fn(Global, &mut Lexemes<'_>, usize, Nested) -> Result<Found, ReadFault>>
         }
         if lexemes.accept_sign(Sign::Open) {
             let first = self.reader.enclosed(lexemes)?;
-            lexemes.want_sign(Sign::Close)?;
+            let (first, ()) = beside(first, lexemes.want_sign(Sign::Close))?;
             return self.after_item_operand(lexemes, first);
         }
         let first = self.reader.signed(lexemes)?;
@@ -260,7 +260,7 @@ impl<F: Fn(Global, &mut Lexemes<'_>, usize, Nested) -> Result<Found, ReadFault>>
         ensures { Gives (applied first (read r.AfterItemOperand lexemes.old)) result lexemes.new }
     {
         let value = self.reader.chain(lexemes, first)?;
-        let alias = alias(self.reader.alloc, lexemes)?;
+        let (value, alias) = beside(value, alias(self.reader.alloc, lexemes))?;
         Ok(Item::Value(value, alias))
     }
 }

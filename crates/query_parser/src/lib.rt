@@ -20,7 +20,7 @@ mod run;
 mod select;
 mod source;
 
-pub use expr_reader::sql_type;
+pub use expr_reader::{beside, sql_type};
 pub use fault::ParseFault;
 pub use knot::{read_expr, read_exprs, read_filter, read_select, read_test};
 pub use lexeme_reader::{Lexemes, ReadFault, number_of, units_of};

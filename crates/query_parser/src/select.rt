@@ -5,7 +5,7 @@ ghost use Rattle.tsql_grammar.specs.declared.rule.Rule.TheVariants as r;
 ghost use Rattle.expr_reader.specs.Nests.{Nests};
 ghost use Rattle.lexeme_reader.specs.Reading.{read, Gives};
 
-use expr_reader::{Found, Nested, Reader, distinct};
+use expr_reader::{Found, Nested, Reader, beside, distinct};
 use lexeme_reader::{Lexemes, ReadFault};
 use sqlite_items::{Boxed, Items};
 use std::alloc::Global;
@@ -29,12 +29,12 @@ impl<F: Fn(Global, &mut Lexemes<'_>, usize, Nested) -> Result<Found, ReadFault>>
     {
         let distinct = distinct(lexemes)?;
         let top = top(lexemes)?;
-        let items = self.items(lexemes)?;
-        let from = self.from(lexemes)?;
-        let filter = self.filter(lexemes)?;
-        let groups = self.group_by(lexemes)?;
-        let having = self.having(lexemes)?;
-        let order = self.order_by(lexemes)?;
+        let read = beside(self.items(lexemes)?, self.from(lexemes))?;
+        let read = beside(read, self.filter(lexemes))?;
+        let read = beside(read, self.group_by(lexemes))?;
+        let read = beside(read, self.having(lexemes))?;
+        let read = beside(read, self.order_by(lexemes))?;
+        let (((((items, from), filter), groups), having), order) = read;
         Ok(Select {
             distinct,
             top,
@@ -109,7 +109,7 @@ impl<F: Fn(Global, &mut Lexemes<'_>, usize, Nested) -> Result<Found, ReadFault>>
         ensures { Gives (read r.OrderItem lexemes.old) result lexemes.new }
     {
         let expr = self.reader.expr(lexemes)?;
-        let descending = direction(lexemes)?;
+        let (expr, descending) = beside(expr, direction(lexemes))?;
         Ok(OrderItem { expr, descending })
     }
 

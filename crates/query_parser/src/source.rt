@@ -8,7 +8,7 @@ ghost use Rattle.lexeme_reader.specs.Reading.{read, applied, Gives};
 
 use crate::item::alias;
 use crate::select::SelectReader;
-use expr_reader::{Found, Nested};
+use expr_reader::{Found, Nested, beside};
 use lexeme_reader::{Lexemes, ReadFault};
 use sqlite_items::Items;
 use std::alloc::Global;
@@ -28,7 +28,7 @@ impl<F: Fn(Global, &mut Lexemes<'_>, usize, Nested) -> Result<Found, ReadFault>>
             return Ok(None);
         }
         let first = table_ref(self.reader.alloc, lexemes)?;
-        let joins = self.joins(lexemes)?;
+        let (first, joins) = beside(first, self.joins(lexemes))?;
         Ok(Some(FromClause { first, joins }))
     }
 

@@ -32,9 +32,10 @@ impl<
         ensures { Gives (if_form self.now.text.now around lexemes.old) result lexemes.new }
     {
         let test = read_test(self.alloc, lexemes)?;
+        let test = Boxed::new(self.alloc, test)?;
         let does = self.inner_one(lexemes, around)?;
         let other = self.else_form(lexemes, around)?;
-        Ok(Form::If(Boxed::new(self.alloc, test)?, does, other))
+        Ok(Form::If(test, does, other))
     }
 
     /// ELSE and its statement, if there are any.
@@ -69,8 +70,9 @@ impl<
         ensures { Gives (while_form self.now.text.now around lexemes.old) result lexemes.new }
     {
         let test = read_test(self.alloc, lexemes)?;
+        let test = Boxed::new(self.alloc, test)?;
         let does = self.inner_one(lexemes, within_while(around))?;
-        Ok(Form::While(Boxed::new(self.alloc, test)?, does))
+        Ok(Form::While(test, does))
     }
 
     /// What follows a BEGIN: a transaction, a TRY or a block.

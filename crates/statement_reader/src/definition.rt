@@ -116,13 +116,13 @@ impl<
         ensures { Gives (first_created self.now.text.now line start ends lexemes.old) result lexemes.new }
     {
         if lexemes.sees_any(&[Class::One(Kind::Reserved(Reserved::Procedure))]) {
-            let procedure = self.procedure(lexemes)?;
             let part = slice(self.alloc, self.text, start, ends)?;
+            let procedure = self.procedure(lexemes)?;
             return Ok(Batch::Definition(line, procedure, part));
         }
         if lexemes.sees_any(&[Class::One(Kind::Reserved(Reserved::Trigger))]) {
-            let trigger = self.trigger(lexemes)?;
             let part = slice(self.alloc, self.text, start, ends)?;
+            let trigger = self.trigger(lexemes)?;
             return Ok(Batch::Definition(line, trigger, part));
         }
         let first = create_table(self.alloc, self.text, lexemes, line, start)?;

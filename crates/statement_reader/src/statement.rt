@@ -154,7 +154,8 @@ pub(crate) fn create_table(
     ensures { Gives (create_table_from text.now line start lexemes.old) result lexemes.new }
 {
     let (tree, ends) = table(alloc, lexemes)?;
+    let tree = Boxed::new(alloc, tree)?;
     let part = slice(alloc, text, start, ends)?;
-    let form = Form::CreateTable(Boxed::new(alloc, tree)?, part);
+    let form = Form::CreateTable(tree, part);
     Ok(Statement { line, form })
 }

@@ -19,10 +19,10 @@ use Rattle.table_reader.specs.declared.draft.TableDraft.{TableDraft}
 abbrev pub draft_of : TableDraft → Draft
 draft_of d = record { table = d.table; uniques = d.uniques; checks = d.checks; foreigns = d.foreigns }
 
--- The reader gave the draft that is read; the rest as `Gives` says it.
-abbrev pub GivesDraft : Outcome Draft → Result TableDraft ReadFault → List Terminal → Type 0
-GivesDraft outcome (Ok d) rest = outcome ≡ Some (draft_of d, rest)
-GivesDraft outcome (Err e) rest = e ≡ Refused → outcome ≡ None
+-- The reader left the draft that is read; the rest as `Gives` says it.
+abbrev pub GivesDraft : Outcome Draft → Result (Unit {0}) ReadFault → TableDraft → List Terminal → Type 0
+GivesDraft outcome (Ok a) draft rest = outcome ≡ Some (draft_of draft, rest)
+GivesDraft outcome (Err e) draft rest = e ≡ Refused → outcome ≡ None
 
 -- what a constraint, of a name or of none, adds to a draft
 abbrev pub added_by : Constraint → Option (List ℕ) → Draft → Draft

@@ -7,7 +7,7 @@ ghost use Rattle.table_reader.specs.Drafts.{draft_of, GivesDraft, GivesConstrain
 
 use crate::draft::{Constraint, TableDraft};
 use lexeme_reader::{Lexemes, ReadFault};
-use query_parser::{object, read_test};
+use query_parser::{beside, object, read_test};
 use sqlite_items::Items;
 use std::alloc::Global;
 use tsql_grammar::{Class, Kind, Reserved};
@@ -28,13 +28,12 @@ const BEGINS_CONSTRAINT: [Class; 4] = [
 pub(crate) fn column(
     alloc: Global,
     lexemes: &mut Lexemes<'_>,
-    draft: TableDraft,
+    draft: &mut TableDraft,
     name: Units,
     kind: SqlType,
-) -> Result<TableDraft, ReadFault>
-    ensures { GivesDraft (column_from name kind (draft_of draft) lexemes.old) result lexemes.new }
+) -> Result<(), ReadFault>
+    ensures { GivesDraft (column_from name kind (draft_of draft.old) lexemes.old) result draft.new lexemes.new }
 {
-    let mut draft = draft;
     let mut required = false;
     for _turn in 0..u64::MAX {
         if lexemes.accept_word(Reserved::Null) {
@@ -48,7 +47,7 @@ pub(crate) fn column(
         if lexemes.accept_word(Reserved::Constraint) {
             let given = lexemes.want_units(alloc, Class::Name)?;
             let found = constraint(alloc, lexemes, &name)?;
-            draft = draft.add(alloc, found, Some(given))?;
+            draft.add(alloc, found, Some(given))?;
             continue;
         }
         if !lexemes.sees_any(&BEGINS_CONSTRAINT) {
@@ -57,10 +56,11 @@ pub(crate) fn column(
                 kind,
                 required,
             };
-            return Ok(draft.add_column(column)?);
+            draft.add_column(column)?;
+            return Ok(());
         }
         let found = constraint(alloc, lexemes, &name)?;
-        draft = draft.add(alloc, found, None)?;
+        draft.add(alloc, found, None)?;
     }
     Err(ReadFault::NoRoom)
 }
@@ -86,7 +86,7 @@ fn constraint(
     if lexemes.accept_word(Reserved::Check) {
         lexemes.want_sign(Sign::Open)?;
         let test = read_test(alloc, lexemes)?;
-        lexemes.want_sign(Sign::Close)?;
+        let (test, ()) = beside(test, lexemes.want_sign(Sign::Close))?;
         return Ok(Constraint::Check(test));
     }
     lexemes.want_word(Reserved::References)?;

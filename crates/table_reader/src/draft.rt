@@ -1,10 +1,11 @@
 //! A table while its elements are read.
 
-ghost use Rattle.std.specs.Prelude.{◌≡◌, ◌<◌, ◌++◌, codes, decimal, suc, All, IfOk};
+ghost use Rattle.std.specs.Prelude.{◌≡◌, ◌<◌, ◌++◌, codes, decimal, suc, All, IfOk, OnOk};
 ghost use Rattle.tsql_grammar.specs.Trees as trees;
 ghost use Rattle.table_reader.specs.Drafts.{draft_of, added_by};
 
 use itoa::Buffer;
+use query_parser::beside;
 use sqlite_items::Items;
 use std::alloc::Global;
 use tsql_tree::{CheckTree, ColumnTree, ForeignTree, KeyTree, TableTree, Test};
@@ -56,23 +57,22 @@ impl TableDraft {
         }
     }
 
-    /// The draft with one more column.
-    pub(crate) fn add_column(self, column: ColumnTree) -> Result<TableDraft, Memory>
-        ensures { IfOk result (λ d. draft_of d ≡ trees.add_column column (draft_of self)) }
+    /// Adds a column.
+    pub(crate) fn add_column(&mut self, column: ColumnTree) -> Result<(), Memory>
+        ensures { OnOk result (draft_of self.new ≡ trees.add_column column (draft_of self.old)) }
     {
-        let mut draft = self;
-        draft.table.columns.push(column)?;
-        Ok(draft)
+        self.table.columns.push(column)?;
+        Ok(())
     }
 
-    /// The draft with one more constraint, of this name or of none.
+    /// Adds a constraint, of this name or of none.
     pub(crate) fn add(
-        self,
+        &mut self,
         alloc: Global,
         constraint: Constraint,
         name: Option<Units>,
-    ) -> Result<TableDraft, Memory>
-        ensures { IfOk result (λ d. draft_of d ≡ added_by constraint name (draft_of self)) }
+    ) -> Result<(), Memory>
+        ensures { OnOk result (draft_of self.new ≡ added_by constraint name (draft_of self.old)) }
     {
         match constraint {
             Constraint::Key(columns) => self.add_key(alloc, columns, name),
@@ -84,87 +84,90 @@ impl TableDraft {
         }
     }
 
-    /// The draft with one more PRIMARY KEY.
+    /// Adds a PRIMARY KEY.
     fn add_key(
-        self,
+        &mut self,
         alloc: Global,
         columns: Items<Units>,
         name: Option<Units>,
-    ) -> Result<TableDraft, Memory>
-        ensures { IfOk result (λ d. draft_of d ≡ trees.add_key columns name (draft_of self)) }
+    ) -> Result<(), Memory>
+        ensures { OnOk result (draft_of self.new ≡ trees.add_key columns name (draft_of self.old)) }
     {
-        let mut draft = self;
         let name = match name {
             Some(name) => name,
-            None => key_name(alloc, &draft.table.name)?,
+            None => key_name(alloc, &self.table.name)?,
         };
-        draft.table.key.push(KeyTree { name, columns })?;
-        Ok(draft)
+        self.table.key.push(KeyTree { name, columns })?;
+        Ok(())
     }
 
-    /// The draft with one more UNIQUE.
+    /// Adds a UNIQUE.
     fn add_unique(
-        self,
+        &mut self,
         alloc: Global,
         columns: Items<Units>,
         name: Option<Units>,
-    ) -> Result<TableDraft, Memory>
-        ensures { IfOk result (λ d. draft_of d ≡ trees.add_unique columns name (draft_of self)) }
+    ) -> Result<(), Memory>
+        ensures { OnOk result (draft_of self.new ≡ trees.add_unique columns name (draft_of self.old)) }
     {
-        let mut draft = self;
-        let name = match name {
-            Some(name) => name,
-            None => {
-                draft.uniques = one_more(draft.uniques)?;
-                given_name(alloc, b"UQ_", &draft.table.name, draft.uniques)?
-            }
-        };
-        draft.table.uniques.push(KeyTree { name, columns })?;
-        Ok(draft)
+        let (name, count) = named(alloc, name, b"UQ_", &self.table.name, self.uniques)?;
+        self.uniques = count;
+        self.table.uniques.push(KeyTree { name, columns })?;
+        Ok(())
     }
 
-    /// The draft with one more CHECK.
-    fn add_check(self, alloc: Global, test: Test, name: Option<Units>) -> Result<TableDraft, Memory>
-        ensures { IfOk result (λ d. draft_of d ≡ trees.add_check test name (draft_of self)) }
+    /// Adds a CHECK.
+    fn add_check(&mut self, alloc: Global, test: Test, name: Option<Units>) -> Result<(), Memory>
+        ensures { OnOk result (draft_of self.new ≡ trees.add_check test name (draft_of self.old)) }
     {
-        let mut draft = self;
-        let name = match name {
-            Some(name) => name,
-            None => {
-                draft.checks = one_more(draft.checks)?;
-                given_name(alloc, b"CK_", &draft.table.name, draft.checks)?
-            }
-        };
-        draft.table.checks.push(CheckTree { name, test })?;
-        Ok(draft)
+        let named = named(alloc, name, b"CK_", &self.table.name, self.checks);
+        let (test, (name, count)) = beside(test, named)?;
+        self.checks = count;
+        self.table.checks.push(CheckTree { name, test })?;
+        Ok(())
     }
 
-    /// The draft with one more FOREIGN KEY or REFERENCES.
+    /// Adds a FOREIGN KEY or REFERENCES.
     fn add_foreign(
-        self,
+        &mut self,
         alloc: Global,
         columns: Items<Units>,
         parent: Units,
         parent_columns: Items<Units>,
         name: Option<Units>,
-    ) -> Result<TableDraft, Memory>
-        ensures { IfOk result (λ d. draft_of d ≡ trees.add_foreign columns parent parent_columns name (draft_of self)) }
+    ) -> Result<(), Memory>
+        ensures { OnOk result (draft_of self.new ≡ trees.add_foreign columns parent parent_columns name (draft_of self.old)) }
     {
-        let mut draft = self;
-        let name = match name {
-            Some(name) => name,
-            None => {
-                draft.foreigns = one_more(draft.foreigns)?;
-                given_name(alloc, b"FK_", &draft.table.name, draft.foreigns)?
-            }
-        };
-        draft.table.foreigns.push(ForeignTree {
+        let (name, count) = named(alloc, name, b"FK_", &self.table.name, self.foreigns)?;
+        self.foreigns = count;
+        self.table.foreigns.push(ForeignTree {
             name,
             columns,
             parent,
             parent_columns,
         })?;
-        Ok(draft)
+        Ok(())
+    }
+}
+
+/// The name of a constraint, and how many had none with it: the written name, or one that is given.
+fn named(
+    alloc: Global,
+    name: Option<Units>,
+    prefix: &[u8],
+    table: &Units,
+    count: usize,
+) -> Result<(Units, usize), Memory>
+    requires { All (λ byte. byte < 128) prefix.now }
+    ensures called { IfOk result (λ it. it.0 ≡ trees.named name (trees.given_name prefix.now table.now count)) }
+    ensures counted { IfOk result (λ it. it.1 ≡ trees.counted name count) }
+{
+    match name {
+        Some(name) => Ok((name, count)),
+        None => {
+            let count = one_more(count)?;
+            Ok((given_name(alloc, prefix, table, count)?, count))
+        }
     }
 }
 

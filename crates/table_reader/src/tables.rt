@@ -8,7 +8,7 @@ ghost use Rattle.table_reader.specs.Drafts.{draft_of, GivesDraft, GivesConstrain
 use crate::column::column;
 use crate::draft::{Constraint, TableDraft};
 use lexeme_reader::{Lexemes, ReadFault};
-use query_parser::{object, read_test, sql_type};
+use query_parser::{beside, object, read_test, sql_type};
 use sqlite_items::Items;
 use statement_parts::names;
 use std::alloc::Global;
@@ -25,8 +25,9 @@ pub fn table(alloc: Global, lexemes: &mut Lexemes<'_>) -> Result<(TableTree, u32
     lexemes.want_word(Reserved::Table)?;
     let name = object(alloc, lexemes)?;
     lexemes.want_sign(Sign::Open)?;
-    let draft = element(alloc, lexemes, TableDraft::new(alloc, name))?;
-    let draft = more_elements(alloc, lexemes, draft)?;
+    let mut draft = TableDraft::new(alloc, name);
+    element(alloc, lexemes, &mut draft)?;
+    more_elements(alloc, lexemes, &mut draft)?;
     match lexemes.take(Class::One(Kind::Sign(Sign::Close))) {
         Some(last) => Ok((draft.table, last.end)),
         None => Err(ReadFault::Refused),
@@ -38,16 +39,15 @@ pub fn table(alloc: Global, lexemes: &mut Lexemes<'_>) -> Result<(TableTree, u32
 fn more_elements(
     alloc: Global,
     lexemes: &mut Lexemes<'_>,
-    draft: TableDraft,
-) -> Result<TableDraft, ReadFault>
-    ensures { GivesDraft (applied (draft_of draft) (read r.MoreElements lexemes.old)) result lexemes.new }
+    draft: &mut TableDraft,
+) -> Result<(), ReadFault>
+    ensures { GivesDraft (applied (draft_of draft.old) (read r.MoreElements lexemes.old)) result draft.new lexemes.new }
 {
-    let mut draft = draft;
     for _turn in 0..u64::MAX {
         if !lexemes.accept_sign(Sign::Comma) {
-            return Ok(draft);
+            return Ok(());
         }
-        draft = element(alloc, lexemes, draft)?;
+        element(alloc, lexemes, draft)?;
     }
     Err(ReadFault::NoRoom)
 }
@@ -57,9 +57,9 @@ fn more_elements(
 fn element(
     alloc: Global,
     lexemes: &mut Lexemes<'_>,
-    draft: TableDraft,
-) -> Result<TableDraft, ReadFault>
-    ensures { GivesDraft (applied (draft_of draft) (read r.Element lexemes.old)) result lexemes.new }
+    draft: &mut TableDraft,
+) -> Result<(), ReadFault>
+    ensures { GivesDraft (applied (draft_of draft.old) (read r.Element lexemes.old)) result draft.new lexemes.new }
 {
     if let Some(name) = lexemes.take_units(alloc, Class::Name)? {
         let kind = sql_type(lexemes)?;
@@ -68,10 +68,12 @@ fn element(
     if lexemes.accept_word(Reserved::Constraint) {
         let name = lexemes.want_units(alloc, Class::Name)?;
         let found = constraint(alloc, lexemes)?;
-        return Ok(draft.add(alloc, found, Some(name))?);
+        draft.add(alloc, found, Some(name))?;
+        return Ok(());
     }
     let found = constraint(alloc, lexemes)?;
-    Ok(draft.add(alloc, found, None)?)
+    draft.add(alloc, found, None)?;
+    Ok(())
 }
 
 /// A constraint of the table.
@@ -91,7 +93,7 @@ fn constraint(alloc: Global, lexemes: &mut Lexemes<'_>) -> Result<Constraint, Re
     if lexemes.accept_word(Reserved::Check) {
         lexemes.want_sign(Sign::Open)?;
         let test = read_test(alloc, lexemes)?;
-        lexemes.want_sign(Sign::Close)?;
+        let (test, ()) = beside(test, lexemes.want_sign(Sign::Close))?;
         return Ok(Constraint::Check(test));
     }
     lexemes.want_word(Reserved::Foreign)?;

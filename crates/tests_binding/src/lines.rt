@@ -1,14 +1,16 @@
 //! Lines of a file: a table that is defined from there on, or a question about a statement and its answer.
 
-use crate::queries::{put_whole_assignment, put_whole_query, put_whole_write};
+use crate::queries::{put_assignment, put_query, put_write};
 use crate::trees::put_test;
-use binder::{bind, bind_checks, names_of};
-use bound_tree::{Bound, BoundTest};
+use binder::{bind_checks, names_of};
+use bound_tree::{BoundQuery, BoundTest, BoundWrite};
 use session_vars::Vars;
 use std::alloc::{AllocError, Global};
-use stmt_parser::{ParseFault, parse_batch};
-use tests_lines::{Difference, Trial, declared, defined, differing, put_fault, put_units, text_of};
-use tsql_tree::{Batch, Definition, Form, Statement};
+use tests_lines::{
+    BoundVisitor, Difference, StatementVisitor, Tables, Trial, differing, put_fault, put_units,
+    visit_bound, visit_text,
+};
+use tsql_tree::{Definition, Form, Statement};
 use typed_nodes::BindFault;
 use value_types::{Memory, Units};
 
@@ -23,49 +25,45 @@ enum Question {
     Checks,
 }
 
-/// The tables that the lines before have defined.
+/// Nothing is kept from one line to the next but the tables.
 #[derive(Drop)]
-pub(crate) struct Tables {
-    definitions: Vec<Definition>,
-}
+pub(crate) struct Questions;
 
-impl Trial for Tables {
-    fn begin(alloc: Global) -> Tables {
-        Tables {
-            definitions: Vec::new(alloc),
-        }
+impl Trial for Questions {
+    fn begin(_alloc: Global) -> Questions {
+        Questions
     }
 
-    fn try_line(&mut self, alloc: Global, line: &str) -> Result<Option<Difference>, Memory> {
+    fn try_line(
+        &mut self,
+        alloc: Global,
+        tables: &mut Tables,
+        line: &str,
+    ) -> Result<Option<Difference>, Memory> {
         match line.strip_prefix("table ") {
-            Some(text) => self.define(alloc, text),
-            None => difference_of(alloc, self.definitions.as_slice(), line),
+            Some(text) => define(alloc, tables, text),
+            None => difference_of(alloc, tables.as_slice(), line),
         }
     }
 }
 
-impl Tables {
-    /// Adds a table.
-    fn define(&mut self, alloc: Global, text: &str) -> Result<Option<Difference>, Memory> {
-        match defined(alloc, text)? {
-            Some(definition) => {
-                self.definitions.push(definition)?;
-                Ok(None)
-            }
-            None => Ok(Some(differing(alloc, "a definition", text)?)),
-        }
+/// Adds a table.
+fn define(alloc: Global, tables: &mut Tables, text: &str) -> Result<Option<Difference>, Memory> {
+    if tables.define(alloc, text)? {
+        return Ok(None);
     }
+    Ok(Some(differing(alloc, "a definition", text)?))
 }
 
 /// Answers a question.
 fn difference_of(
     alloc: Global,
-    definitions: &[Definition],
+    tables: &[Definition],
     line: &str,
 ) -> Result<Option<Difference>, Memory> {
-    let (question, line) = asked(line);
+    let (question, line) = question_of(line);
     let (text, wanted) = line.split_once(" => ").unwrap_or((line, "no answer"));
-    let given = answer(alloc, question, definitions, text)?;
+    let given = answer(alloc, question, tables, text)?;
     if given.as_str() == wanted || (wanted == "ok" && !is_refusal(given.as_str())) {
         return Ok(None);
     }
@@ -78,7 +76,7 @@ fn is_refusal(answer: &str) -> bool {
 }
 
 /// The question that a line asks, and the rest of it.
-fn asked(line: &str) -> (Question, &str) {
+fn question_of(line: &str) -> (Question, &str) {
     if let Some(rest) = line.strip_prefix("names ") {
         return (Question::Names, rest);
     }
@@ -92,54 +90,36 @@ fn asked(line: &str) -> (Question, &str) {
 fn answer(
     alloc: Global,
     question: Question,
-    definitions: &[Definition],
+    tables: &[Definition],
     text: &str,
 ) -> Result<String, Memory> {
     let mut given = String::new(alloc);
-    let text = text_of(alloc, text)?;
-    let read = parse_batch(alloc, &text);
-    put_whole(alloc, &mut given, question, read, definitions)?;
+    let mut asked = Asked { question, tables };
+    visit_text(alloc, &mut given, text, &mut asked)?;
     Ok(given)
 }
 
-fn put_whole(
-    alloc: Global,
-    given: &mut String,
+/// What is asked of the last statement of a text, over these tables.
+#[derive(Clone, Copy)]
+struct Asked<'a> {
     question: Question,
-    read: Result<Batch, ParseFault>,
-    definitions: &[Definition],
-) -> Result<(), Memory> {
-    put_read(alloc, given, question, &read, definitions)
+    tables: &'a [Definition],
 }
 
-fn put_read(
-    alloc: Global,
-    given: &mut String,
-    question: Question,
-    read: &Result<Batch, ParseFault>,
-    definitions: &[Definition],
-) -> Result<(), Memory> {
-    match read {
-        Ok(Batch::Body(statements)) => {
-            put_last(alloc, given, question, statements.as_slice(), definitions)
+impl StatementVisitor for Asked<'_> {
+    fn visit(
+        &mut self,
+        alloc: Global,
+        given: &mut String,
+        statements: &[Statement],
+        vars: &Vars,
+    ) -> Result<(), Memory> {
+        match statements.last() {
+            Some(statement) => {
+                put_answer(alloc, given, self.question, statement, self.tables, vars)
+            }
+            None => Ok(given.push_str("no statement")?),
         }
-        Ok(Batch::Definition(_, _, _)) => Ok(given.push_str("a definition")?),
-        Err(ParseFault::Memory) => Err(Memory),
-        Err(ParseFault::Refused { .. }) => Ok(given.push_str("does not read")?),
-    }
-}
-
-fn put_last(
-    alloc: Global,
-    given: &mut String,
-    question: Question,
-    statements: &[Statement],
-    definitions: &[Definition],
-) -> Result<(), Memory> {
-    let vars = declared(alloc, statements)?;
-    match statements.last() {
-        Some(statement) => put_answer(alloc, given, question, statement, definitions, &vars),
-        None => Ok(given.push_str("no statement")?),
     }
 }
 
@@ -148,11 +128,11 @@ fn put_answer(
     given: &mut String,
     question: Question,
     statement: &Statement,
-    definitions: &[Definition],
+    tables: &[Definition],
     vars: &Vars,
 ) -> Result<(), Memory> {
     match question {
-        Question::Bound => put_outcome(given, bind(alloc, statement, definitions, vars)),
+        Question::Bound => visit_bound(alloc, given, statement, tables, vars, &Spelled),
         Question::Names => {
             let names = names_of(alloc, statement)?;
             Ok(put_names(given, names.as_slice())?)
@@ -161,18 +141,41 @@ fn put_answer(
     }
 }
 
-fn put_outcome(given: &mut String, outcome: Result<Bound, BindFault>) -> Result<(), Memory> {
-    match outcome {
-        Ok(Bound::Query(query)) => Ok(put_whole_query(given, query)?),
-        Ok(Bound::Assign(query, places)) => Ok(put_whole_assignment(given, query, places)?),
-        Ok(Bound::Write(write)) => Ok(put_whole_write(given, write)?),
-        Ok(Bound::Plain) => Ok(given.push_str("plain")?),
-        Err(fault) => put_whole_fault(given, fault),
-    }
-}
+/// What a statement is bound to, in a line.
+struct Spelled;
 
-fn put_whole_fault(given: &mut String, fault: BindFault) -> Result<(), Memory> {
-    put_fault(given, &fault)
+impl BoundVisitor for Spelled {
+    fn visit_query(
+        &self,
+        _alloc: Global,
+        given: &mut String,
+        query: &BoundQuery,
+        places: Option<&[u16]>,
+        _vars: &Vars,
+    ) -> Result<(), Memory> {
+        match places {
+            None => Ok(put_query(given, query)?),
+            Some(places) => Ok(put_assignment(given, query, places)?),
+        }
+    }
+
+    fn visit_write(
+        &self,
+        _alloc: Global,
+        given: &mut String,
+        write: &BoundWrite,
+        _vars: &Vars,
+    ) -> Result<(), Memory> {
+        Ok(put_write(given, write)?)
+    }
+
+    fn visit_plain(&self, given: &mut String) -> Result<(), Memory> {
+        Ok(given.push_str("plain")?)
+    }
+
+    fn visit_fault(&self, given: &mut String, fault: &BindFault) -> Result<(), Memory> {
+        put_fault(given, fault)
+    }
 }
 
 fn put_checks(alloc: Global, given: &mut String, statement: &Statement) -> Result<(), Memory> {

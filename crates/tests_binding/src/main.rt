@@ -16,10 +16,10 @@ mod lines;
 mod queries;
 mod trees;
 
-use lines::Tables;
+use lines::Questions;
 use std::process::ExitCode;
 use tests_lines::try_files;
 
 fn main(rt: HostRuntime) -> ExitCode {
-    try_files::<Tables, HostRuntime>(&rt)
+    try_files::<Questions, HostRuntime>(&rt)
 }

@@ -158,7 +158,7 @@ fn put_clauses(line: &mut String, query: &BoundQuery) -> Result<(), AllocError> 
 
 /// Appends a query.
 #[cycle(print)]
-fn put_query(line: &mut String, query: &BoundQuery) -> Result<(), AllocError> {
+pub(crate) fn put_query(line: &mut String, query: &BoundQuery) -> Result<(), AllocError> {
     put_clauses(line, query)?;
     put_inner(line, query.inner.as_slice())
 }
@@ -246,11 +246,7 @@ fn put_delete(
 }
 
 /// Appends a write.
-pub(crate) fn put_whole_write(line: &mut String, write: BoundWrite) -> Result<(), AllocError> {
-    put_write(line, &write)
-}
-
-fn put_write(line: &mut String, write: &BoundWrite) -> Result<(), AllocError> {
+pub(crate) fn put_write(line: &mut String, write: &BoundWrite) -> Result<(), AllocError> {
     match write {
         BoundWrite::Insert {
             table,
@@ -271,21 +267,12 @@ fn put_write(line: &mut String, write: &BoundWrite) -> Result<(), AllocError> {
     }
 }
 
-/// Appends a query.
-pub(crate) fn put_whole_query(line: &mut String, query: BoundQuery) -> Result<(), AllocError> {
-    put_query(line, &query)
-}
-
 /// Appends a query whose items are assigned to the variables of these places.
-pub(crate) fn put_whole_assignment(
+pub(crate) fn put_assignment(
     line: &mut String,
-    query: BoundQuery,
-    places: Items<u16>,
+    query: &BoundQuery,
+    places: &[u16],
 ) -> Result<(), AllocError> {
-    put_assignment(line, &query, places.as_slice())
-}
-
-fn put_assignment(line: &mut String, query: &BoundQuery, places: &[u16]) -> Result<(), AllocError> {
     line.push_str("assign ")?;
     put_places(line, places)?;
     line.push(' ')?;

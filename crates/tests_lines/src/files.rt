@@ -1,5 +1,6 @@
 //! Files of lines that are tried one after another.
 
+use crate::tables::Tables;
 use std::alloc::{AllocError, Global};
 use std::env::{self, Env};
 use std::process::ExitCode;
@@ -27,8 +28,13 @@ pub trait Trial: Drop {
     /// What a file's first line is tried on.
     fn begin(alloc: Global) -> Self;
 
-    /// Tries a line.
-    fn try_line(&mut self, alloc: Global, line: &str) -> Result<Option<Difference>, Memory>;
+    /// Tries a line over the tables of the lines before, of which it may be one more.
+    fn try_line(
+        &mut self,
+        alloc: Global,
+        tables: &mut Tables,
+        line: &str,
+    ) -> Result<Option<Difference>, Memory>;
 }
 
 /// A difference.
@@ -62,10 +68,18 @@ fn try_all<T: Trial, R: Env + Files + Print + AllocGlobal>(rt: &R) -> io::Result
         status = status.max(try_file::<T, R>(rt, &name)?);
         is_named = true;
     }
-    if !is_named {
-        for name in fs::read_to_string(rt, "files")?.lines() {
-            status = status.max(try_file::<T, R>(rt, name)?);
-        }
+    if is_named {
+        Ok(status)
+    } else {
+        try_named::<T, R>(rt)
+    }
+}
+
+/// Tries the files that the file `files` names, and gives the highest of their statuses.
+fn try_named<T: Trial, R: Files + Print + AllocGlobal>(rt: &R) -> io::Result<u8> {
+    let mut status = 0;
+    for name in fs::read_to_string(rt, "files")?.lines() {
+        status = status.max(try_file::<T, R>(rt, name)?);
     }
     Ok(status)
 }
@@ -84,28 +98,50 @@ fn try_file<T: Trial, R: Files + Print + AllocGlobal>(rt: &R, name: &str) -> io:
 /// Tries the lines of a file.
 fn try_lines<T: Trial, R: Print + AllocGlobal>(rt: &R, name: &str, text: &str) -> io::Result<u8> {
     let mut trial = T::begin(rt.alloc());
+    let mut tables = Tables::new(rt.alloc());
+    try_each(rt, name, text, &mut trial, &mut tables)
+}
+
+/// Tries lines up to one for which memory is wanting.
+fn try_each<T: Trial, R: Print + AllocGlobal>(
+    rt: &R,
+    name: &str,
+    text: &str,
+    trial: &mut T,
+    tables: &mut Tables,
+) -> io::Result<u8> {
     let mut status = 0;
     let mut count = 0u32;
     for (place, line) in text.lines().enumerate() {
-        if line.is_empty() || line.starts_with('#') {
-            continue;
-        }
-        match trial.try_line(rt.alloc(), line) {
-            Ok(None) => count = count.saturating_add(1),
-            Ok(Some(Difference { wanted, given })) => {
-                let number = place.saturating_add(1);
-                println!(rt; "{name}:{number}: wanted {wanted}")?;
-                println!(rt; "{name}:{number}: given  {given}")?;
-                status = DIFFERS;
-            }
-            Err(Memory) => {
-                println!(rt; "{name}: memory was wanting")?;
-                return Ok(UNREAD);
-            }
+        if !line.is_empty() && !line.starts_with('#') && status != UNREAD {
+            let tried = trial.try_line(rt.alloc(), tables, line);
+            status = status.max(print_tried(rt, name, place.saturating_add(1), &tried)?);
+            count = count.saturating_add(1);
         }
     }
     if status == 0 {
         println!(rt; "{name}: {count} lines hold")?;
     }
     Ok(status)
+}
+
+/// Prints what came of a line, if it doesn't hold, and gives its status.
+fn print_tried<R: Print>(
+    rt: &R,
+    name: &str,
+    number: usize,
+    tried: &Result<Option<Difference>, Memory>,
+) -> io::Result<u8> {
+    match tried {
+        Ok(None) => Ok(0),
+        Ok(Some(Difference { wanted, given })) => {
+            println!(rt; "{name}:{number}: wanted {wanted}")?;
+            println!(rt; "{name}:{number}: given  {given}")?;
+            Ok(DIFFERS)
+        }
+        Err(Memory) => {
+            println!(rt; "{name}: memory was wanting")?;
+            Ok(UNREAD)
+        }
+    }
 }

@@ -1,30 +1,20 @@
-//! What the texts of lines define and declare, and why they are not bound.
+//! What the texts of lines declare, and why they are not bound.
 
 use crate::literals::{literal_of, set};
-use crate::texts::{put_units, text_of};
+use crate::texts::put_units;
 use session_vars::Vars;
 use std::alloc::Global;
 use std::fmt::Write;
-use stmt_parser::{ParseFault, parse_definition};
-use tsql_tree::{Declaration, Definition, Form, Statement};
+use tsql_tree::{Declaration, Form, Statement};
 use typed_nodes::BindFault;
 use value_types::Memory;
 
 /// The most variables that are declared.
 const MOST_VARIABLES: u16 = 65_535;
 
-/// What a text defines, if it reads as a definition.
-pub fn defined(alloc: Global, text: &str) -> Result<Option<Definition>, Memory> {
-    match parse_definition(alloc, &text_of(alloc, text)?) {
-        Ok(definition) => Ok(Some(definition)),
-        Err(ParseFault::Memory) => Err(Memory),
-        Err(ParseFault::Refused { .. }) => Ok(None),
-    }
-}
-
 /// The variables that a batch declares, at its top or behind an IF there. One has the value of the literal that
 /// it is declared with, if that is an INT, a BIGINT or a text of its type, else NULL.
-pub fn declared(alloc: Global, statements: &[Statement]) -> Result<Vars, Memory> {
+pub(crate) fn declared(alloc: Global, statements: &[Statement]) -> Result<Vars, Memory> {
     let mut vars = Vars::new(alloc);
     for statement in statements {
         match &statement.form {

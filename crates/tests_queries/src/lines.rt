@@ -1,17 +1,17 @@
 //! A query of a line, and what it answers.
 
 use crate::answers::put_answer;
-use crate::tables::Tables;
+use crate::stores::Stores;
 use crate::writes::put_plan_of;
-use binder::bind;
-use bound_tree::{Bound, BoundQuery, BoundWrite, Image, SystemValues};
+use bound_tree::{BoundQuery, BoundWrite, Image, SystemValues};
 use query_eval::answer;
 use session_vars::Vars;
-use sqlite_items::Items;
 use std::alloc::{AllocError, Global};
-use stmt_parser::{ParseFault, parse_batch};
-use tests_lines::{Difference, declared, differing, expanded, put_fault, text_of};
-use tsql_tree::{Batch, Statement};
+use tests_lines::{
+    BoundVisitor, Difference, StatementVisitor, differing, expanded, put_fault, visit_bound,
+    visit_text,
+};
+use tsql_tree::{Definition, Statement};
 use typed_nodes::BindFault;
 use value_types::{Memory, Value};
 
@@ -24,15 +24,30 @@ pub(crate) enum Style {
     Columns,
 }
 
+/// What the last statement of a text is answered on, and how the answer is written.
+#[derive(Clone, Copy)]
+pub(crate) struct Asked<'a> {
+    pub(crate) tables: &'a [Definition],
+    pub(crate) stores: &'a Stores,
+    pub(crate) style: Style,
+}
+
 /// Compares what is wanted of a text with what its last statement answers.
 pub(crate) fn difference_of(
     alloc: Global,
-    tables: &Tables,
+    tables: &[Definition],
+    stores: &Stores,
     text: &str,
     wanted: &str,
 ) -> Result<Option<Difference>, Memory> {
     let wanted = expanded(alloc, wanted)?;
-    let given = given_by(alloc, tables, text, style_of(wanted.as_str()))?;
+    let style = style_of(wanted.as_str());
+    let mut asked = Asked {
+        tables,
+        stores,
+        style,
+    };
+    let given = given_by(alloc, &mut asked, text)?;
     if given.as_str() == wanted.as_str() {
         return Ok(None);
     }
@@ -48,126 +63,73 @@ fn style_of(wanted: &str) -> Style {
     }
 }
 
-fn given_by(alloc: Global, tables: &Tables, text: &str, style: Style) -> Result<String, Memory> {
+fn given_by(alloc: Global, asked: &mut Asked<'_>, text: &str) -> Result<String, Memory> {
     let mut given = String::new(alloc);
-    let text = text_of(alloc, text)?;
-    put_whole(alloc, &mut given, tables, parse_batch(alloc, &text), style)?;
+    visit_text(alloc, &mut given, text, asked)?;
     Ok(given)
 }
 
-fn put_whole(
-    alloc: Global,
-    given: &mut String,
-    tables: &Tables,
-    read: Result<Batch, ParseFault>,
-    style: Style,
-) -> Result<(), Memory> {
-    put_read(alloc, given, tables, &read, style)
-}
-
-fn put_read(
-    alloc: Global,
-    given: &mut String,
-    tables: &Tables,
-    read: &Result<Batch, ParseFault>,
-    style: Style,
-) -> Result<(), Memory> {
-    match read {
-        Ok(Batch::Body(statements)) => {
-            put_last(alloc, given, tables, statements.as_slice(), style)
+impl StatementVisitor for Asked<'_> {
+    fn visit(
+        &mut self,
+        alloc: Global,
+        given: &mut String,
+        statements: &[Statement],
+        vars: &Vars,
+    ) -> Result<(), Memory> {
+        match statements.last() {
+            Some(statement) => visit_bound(alloc, given, statement, self.tables, vars, &*self),
+            None => Ok(given.push_str("no statement")?),
         }
-        Ok(Batch::Definition(_, _, _)) => Ok(given.push_str("a definition")?),
-        Err(ParseFault::Memory) => Err(Memory),
-        Err(ParseFault::Refused { .. }) => Ok(given.push_str("does not read")?),
     }
 }
 
-fn put_last(
-    alloc: Global,
-    given: &mut String,
-    tables: &Tables,
-    statements: &[Statement],
-    style: Style,
-) -> Result<(), Memory> {
-    let vars = declared(alloc, statements)?;
-    let Some(statement) = statements.last() else {
-        return Ok(given.push_str("no statement")?);
-    };
-    let bound = bind(alloc, statement, tables.definitions(), &vars);
-    put_bound(alloc, given, tables, bound, &vars, style)
-}
-
-fn put_bound(
-    alloc: Global,
-    given: &mut String,
-    tables: &Tables,
-    bound: Result<Bound, BindFault>,
-    vars: &Vars,
-    style: Style,
-) -> Result<(), Memory> {
-    match bound {
-        Ok(Bound::Query(query)) => put_query(alloc, given, tables, query, vars, style),
-        Ok(Bound::Assign(query, places)) => {
-            put_assigned(alloc, given, tables, query, places, vars)
-        }
-        Ok(Bound::Write(write)) => put_write(alloc, given, tables, write, vars),
-        Ok(Bound::Plain) => Ok(given.push_str("no query")?),
-        Err(fault) => put_whole_refusal(given, fault),
+impl BoundVisitor for Asked<'_> {
+    fn visit_query(
+        &self,
+        alloc: Global,
+        given: &mut String,
+        query: &BoundQuery,
+        places: Option<&[u16]>,
+        vars: &Vars,
+    ) -> Result<(), Memory> {
+        let style = match places {
+            None => self.style,
+            Some(_) => Style::Rows,
+        };
+        put_answer_to(alloc, given, self.stores, query, vars, style)
     }
-}
 
-/// Appends the rows that are assigned.
-fn put_assigned(
-    alloc: Global,
-    given: &mut String,
-    tables: &Tables,
-    query: BoundQuery,
-    _places: Items<u16>,
-    vars: &Vars,
-) -> Result<(), Memory> {
-    put_query(alloc, given, tables, query, vars, Style::Rows)
-}
+    fn visit_write(
+        &self,
+        alloc: Global,
+        given: &mut String,
+        write: &BoundWrite,
+        vars: &Vars,
+    ) -> Result<(), Memory> {
+        put_plan_of(alloc, given, self.tables, self.stores, write, vars)
+    }
 
-fn put_write(
-    alloc: Global,
-    given: &mut String,
-    tables: &Tables,
-    write: BoundWrite,
-    vars: &Vars,
-) -> Result<(), Memory> {
-    put_plan_of(alloc, given, tables, &write, vars)
-}
+    fn visit_plain(&self, given: &mut String) -> Result<(), Memory> {
+        Ok(given.push_str("no query")?)
+    }
 
-fn put_whole_refusal(given: &mut String, fault: BindFault) -> Result<(), Memory> {
-    put_refusal(given, &fault)
-}
-
-fn put_refusal(given: &mut String, fault: &BindFault) -> Result<(), Memory> {
-    given.push_str("refused ")?;
-    put_fault(given, fault)
-}
-
-fn put_query(
-    alloc: Global,
-    given: &mut String,
-    tables: &Tables,
-    query: BoundQuery,
-    vars: &Vars,
-    style: Style,
-) -> Result<(), Memory> {
-    put_answer_to(alloc, given, tables, &query, vars, style)
+    fn visit_fault(&self, given: &mut String, fault: &BindFault) -> Result<(), Memory> {
+        given.push_str("refused ")?;
+        put_fault(given, fault)
+    }
 }
 
 fn put_answer_to(
     alloc: Global,
     given: &mut String,
-    tables: &Tables,
+    stores: &Stores,
     query: &BoundQuery,
     vars: &Vars,
     style: Style,
 ) -> Result<(), Memory> {
     let mut images: Vec<Image> = Vec::new(alloc);
-    tables.put_images(alloc, query, &mut images)?;
+    stores.put_images(alloc, query, &mut images)?;
     let system = system_of(alloc)?;
     let answered = answer(alloc, query, images.as_slice(), vars, &system);
     put_answer(given, &answered, style)

@@ -11,13 +11,13 @@
 
 mod answers;
 mod lines;
-mod tables;
+mod stores;
 mod writes;
 
 use std::process::ExitCode;
-use tables::Tables;
+use stores::Stores;
 use tests_lines::try_files;
 
 fn main(rt: HostRuntime) -> ExitCode {
-    try_files::<Tables, HostRuntime>(&rt)
+    try_files::<Stores, HostRuntime>(&rt)
 }

@@ -2,7 +2,7 @@
 
 use crate::answers::put_row;
 use crate::lines::system_of;
-use crate::tables::Tables;
+use crate::stores::{Stores, shape_of};
 use binder::bind_checks;
 use bound_tree::{BoundRows, BoundTest, BoundWrite, Image, SystemValues};
 use dml_exec::plan_write;
@@ -12,7 +12,7 @@ use std::alloc::{AllocError, Global};
 use std::fmt::Write;
 use step_model::{Deed, Planned};
 use tests_lines::put_units;
-use tsql_tree::TableTree;
+use tsql_tree::{Definition, TableTree};
 use typed_nodes::BindFault;
 use value_types::{Memory, TableName};
 
@@ -20,14 +20,15 @@ use value_types::{Memory, TableName};
 pub(crate) fn put_plan_of(
     alloc: Global,
     given: &mut String,
-    tables: &Tables,
+    tables: &[Definition],
+    stores: &Stores,
     write: &BoundWrite,
     vars: &Vars,
 ) -> Result<(), Memory> {
     let mut images: Vec<Image> = Vec::new(alloc);
-    put_images(alloc, tables, write, &mut images)?;
+    put_images(alloc, stores, write, &mut images)?;
     let system = system_of(alloc)?;
-    match tables.shape_of(&table_of(write).object) {
+    match shape_of(tables, &table_of(write).object) {
         Some(shape) => { put_checked(alloc, given, shape, write, images.as_slice(), vars, &system) }
         None => Ok(given.push_str("no table")?),
     }
@@ -74,24 +75,24 @@ fn put_bound(
 /// The images of a write: those of its inner queries, and then that of its target.
 fn put_images(
     alloc: Global,
-    tables: &Tables,
+    stores: &Stores,
     write: &BoundWrite,
     images: &mut Vec<Image>,
 ) -> Result<(), Memory> {
     match write {
         BoundWrite::Insert { rows, .. } => match rows {
             BoundRows::Values(_, inner) => {
-                tables.put_inner_images(alloc, inner.as_slice(), images)
+                stores.put_inner_images(alloc, inner.as_slice(), images)
             }
-            BoundRows::Query(query) => tables.put_images(alloc, query, images),
+            BoundRows::Query(query) => stores.put_images(alloc, query, images),
         },
         BoundWrite::Update { table, inner, .. } => {
-            tables.put_inner_images(alloc, inner.as_slice(), images)?;
-            Ok(images.push(tables.image_of(alloc, &table.object)?)?)
+            stores.put_inner_images(alloc, inner.as_slice(), images)?;
+            Ok(images.push(stores.image_of(alloc, &table.object)?)?)
         }
         BoundWrite::Delete { table, inner, .. } => {
-            tables.put_inner_images(alloc, inner.as_slice(), images)?;
-            Ok(images.push(tables.image_of(alloc, &table.object)?)?)
+            stores.put_inner_images(alloc, inner.as_slice(), images)?;
+            Ok(images.push(stores.image_of(alloc, &table.object)?)?)
         }
     }
 }

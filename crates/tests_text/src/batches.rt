@@ -4,7 +4,7 @@ use crate::units::put_units;
 use query_parser::ParseFault;
 use std::alloc::{AllocError, Global};
 use std::fmt::Write;
-use stmt_parser::{parse_batch, parse_definition};
+use tests_lines::{batch_fault, definition_fault};
 use value_types::{Memory, Units};
 
 /// As what a text is read.
@@ -42,8 +42,8 @@ pub(crate) fn put_said(
 /// The fault of a text, if it has one.
 fn fault_of(alloc: Global, call: Call, text: &Units) -> Option<ParseFault> {
     match call {
-        Call::Batch => parse_batch(alloc, text).err(),
-        Call::Definition => parse_definition(alloc, text).err(),
+        Call::Batch => batch_fault(alloc, text),
+        Call::Definition => definition_fault(alloc, text),
     }
 }
 

@@ -5,7 +5,7 @@ use crate::lexemes::{put_count, put_lexemes, put_verdict};
 use crate::trees::{put_parsed_expr, put_parsed_select, put_parsed_test};
 use crate::units::units_of;
 use std::alloc::Global;
-use tests_lines::{Difference, Trial, differing, expanded};
+use tests_lines::{Difference, Tables, Trial, differing, expanded};
 use value_types::{Memory, Units};
 
 /// Nothing is kept from one line to the next.
@@ -17,7 +17,12 @@ impl Trial for Texts {
         Texts
     }
 
-    fn try_line(&mut self, alloc: Global, line: &str) -> Result<Option<Difference>, Memory> {
+    fn try_line(
+        &mut self,
+        alloc: Global,
+        _tables: &mut Tables,
+        line: &str,
+    ) -> Result<Option<Difference>, Memory> {
         let (asked, wanted) = line.split_once(" => ").unwrap_or((line, "no answer"));
         let wanted = expanded(alloc, wanted)?;
         let given = answer_to(alloc, asked)?;

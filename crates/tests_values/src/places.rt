@@ -28,18 +28,22 @@ fn system_of(alloc: Global) -> Result<SystemValues, AllocError> {
 }
 
 /// Whether a place is read as NULL where there is a row of two cells and no variable.
-fn is_null(alloc: Global, place: BoundExpr) -> Result<bool, Memory> {
+fn is_null(alloc: Global, place: &BoundExpr) -> Result<bool, Memory> {
     let row = Row::from(vec![in alloc; Value::Whole(5), Value::Bit(true)]?);
-    let vars = Vars::new(alloc);
     let system = system_of(alloc)?;
+    Ok(is_null_in(alloc, place, &row, &system))
+}
+
+fn is_null_in(alloc: Global, place: &BoundExpr, row: &Row, system: &SystemValues) -> bool {
+    let vars = Vars::new(alloc);
     let inner: Vec<Table> = Vec::new(alloc);
     let scope = Scope {
-        row: &row,
+        row,
         vars: &vars,
-        system: &system,
+        system,
         inner: &inner,
     };
-    Ok(matches!(eval(alloc, &place, &scope), Ok(Value::Null)))
+    matches!(eval(alloc, place, &scope), Ok(Value::Null))
 }
 
 /// Whether the number of rows is the third value.
@@ -54,8 +58,8 @@ fn is_third(alloc: Global) -> Result<bool, Memory> {
 
 #[test]
 fn what_is_not_there_is_null(rt: HostRuntime) -> Result<(), Fail> {
-    assert!(rt; is_null(rt.alloc(), BoundExpr::Cell(2))?);
-    assert!(rt; is_null(rt.alloc(), BoundExpr::Variable(1))?);
+    assert!(rt; is_null(rt.alloc(), &BoundExpr::Cell(2))?);
+    assert!(rt; is_null(rt.alloc(), &BoundExpr::Variable(1))?);
     assert!(rt; is_third(rt.alloc())?);
     Ok(())
 }

@@ -25,16 +25,31 @@ fn place_of(alloc: Global, vars: &Vars, name: &str) -> Result<Option<u16>, VarFa
     Ok(vars.find(&units_of_str(alloc, name)?))
 }
 
+/// Whether `@a` is the only variable, and found by this name alone.
+fn is_only(alloc: Global, vars: &Vars) -> Result<bool, VarFault> {
+    let is_found = place_of(alloc, vars, "@a")? == Some(0);
+    let is_other = place_of(alloc, vars, "@A")? != None;
+    Ok(vars.count() == 1 && is_found && !is_other)
+}
+
+/// Whether `@a` can't be declared again.
+fn is_refused(alloc: Global, vars: &mut Vars) -> Result<bool, VarFault>
+    requires { length vars.old < 100 }
+{
+    let name = units_of_str(alloc, "@a")?;
+    Ok(matches!(
+        vars.declare(alloc, name, SqlType::Bit),
+        Err(VarFault::Present)
+    ))
+}
+
 #[test]
 fn a_variable_is_found_by_its_name(rt: HostRuntime) -> Result<(), Fail> {
     assert!(rt; Vars::new(rt.alloc()).count() == 0);
     let mut vars = one_variable(rt.alloc())?;
     assert!(rt; vars.count() == 1);
-    let again = vars.declare(rt.alloc(), units_of_str(rt.alloc(), "@a")?, SqlType::Bit);
-    assert!(rt; matches!(again, Err(VarFault::Present)));
-    assert!(rt; vars.count() == 1);
-    assert!(rt; place_of(rt.alloc(), &vars, "@a")? == Some(0));
-    assert!(rt; place_of(rt.alloc(), &vars, "@A")? == None);
+    assert!(rt; is_refused(rt.alloc(), &mut vars)?);
+    assert!(rt; is_only(rt.alloc(), &vars)?);
     Ok(())
 }
 

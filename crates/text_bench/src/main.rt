@@ -7,7 +7,8 @@ use sqlite_syntax::parse;
 use std::alloc::{AllocError, Global};
 use std::env;
 use std::process::ExitCode;
-use stmt_parser::{ParseFault, parse_batch};
+use stmt_parser::ParseFault;
+use tests_lines::batch_fault;
 use tsql_grammar::Rule;
 use tsql_lexer::lexing_of;
 use tsql_recognizer::{Verdict, recognize};
@@ -107,7 +108,17 @@ fn measure(alloc: Global, text: &str, work: &str, passes: &str) -> bool {
     let Ok(bytes) = bytes_of(alloc, &shape) else {
         return false;
     };
-    (0..passes).all(|_| is_done(alloc, &shape, work, &bytes))
+    is_done_often(alloc, &shape, work, &bytes, passes)
+}
+
+/// Whether the work on the text of these bytes went as it must, so many times.
+fn is_done_often(alloc: Global, shape: &Shape, work: Work, bytes: &[u8], passes: u32) -> bool {
+    for _ in 0..passes {
+        if !is_done(alloc, shape, work, bytes) {
+            return false;
+        }
+    }
+    true
 }
 
 fn work_of(word: &str) -> Option<Work> {
@@ -268,11 +279,11 @@ fn read_end(alloc: Global, units: &Units) -> Option<End> {
 
 /// What becomes of a text that is parsed.
 fn parsed_end(alloc: Global, units: &Units) -> Option<End> {
-    match parse_batch(alloc, units) {
-        Ok(_) => Some(End::Tree),
-        Err(ParseFault::Refused { number: 102, .. }) => Some(End::Unread),
-        Err(ParseFault::Refused { .. }) => Some(End::Wrong),
-        Err(ParseFault::Memory) => None,
+    match batch_fault(alloc, units) {
+        None => Some(End::Tree),
+        Some(ParseFault::Refused { number: 102, .. }) => Some(End::Unread),
+        Some(ParseFault::Refused { .. }) => Some(End::Wrong),
+        Some(ParseFault::Memory) => None,
     }
 }
 

@@ -1,13 +1,15 @@
 //! Expressions and their types.
 
-ghost use Rattle.std.specs.Prelude.{◌≡◌, Ok, [], length};
+ghost use Rattle.std.specs.Prelude.{◌≡◌, Ok, [], length, map};
 ghost use Rattle.convert_rules.specs.Conversion.{is_text};
+ghost use Rattle.bound_tree.specs.declared.expr.BoundExpr.TheVariants.{Coalesce};
 ghost use Rattle.typed_nodes.specs.declared.fault.BindFault.TheVariants.{Number};
 ghost use Rattle.typed_nodes.specs.Facts.{no_facts};
 ghost use Rattle.typed_nodes.specs.Refusals.{Gives, operand_not_allowed};
 ghost use Rattle.typed_nodes.specs.Nodes as spec;
 
 use crate::BindFault;
+use crate::and_next::and_next;
 use crate::facts::{Facts, MAX_DEPTH, highest_of, or_int};
 use crate::test::TypedTest;
 use bound_tree::{BoundArm, BoundExpr, BoundSide, InfixOp};
@@ -107,11 +109,10 @@ impl TypedExpr {
         ensures { Gives result (spec.negative_expr self) }
     {
         let a = as_number(alloc, self)?;
-        match negative_kind(or_int(a.facts.kind)) {
-            Some(kind) => {
-                let expr = BoundExpr::Negate(kind, Boxed::new(alloc, a.expr)?);
-                Ok(TypedExpr::node(a.facts, kind, expr))
-            }
+        let parts = a.facts;
+        let expr = Boxed::new(alloc, a.expr)?;
+        match negative_kind(or_int(parts.kind)) {
+            Some(kind) => Ok(TypedExpr::node(parts, kind, BoundExpr::Negate(kind, expr))),
             None => Err(not_allowed(alloc)),
         }
     }
@@ -126,13 +127,25 @@ pub fn infix_expr(
 ) -> Result<TypedExpr, BindFault>
     ensures { Gives result (spec.infix_expr op a b) }
 {
-    let a = as_number(alloc, a)?;
-    let b = as_number(alloc, b)?;
+    let (b, a) = and_next(b, as_number(alloc, a))?;
+    let (a, b) = and_next(a, as_number(alloc, b))?;
+    infix_of_numbers(alloc, op, a, b)
+}
+
+/// Arithmetic on what is no bit, or two texts joined.
+fn infix_of_numbers(
+    alloc: Global,
+    op: InfixOp,
+    a: TypedExpr,
+    b: TypedExpr,
+) -> Result<TypedExpr, BindFault>
+    ensures { Gives result (spec.infix_of_numbers op a b) }
+{
     let parts = a.facts.beside(b.facts);
     let to = or_int(highest_of(a.facts.kind, b.facts.kind));
-    let kind = infix_kind(alloc, op, to, a.facts.kind, b.facts.kind)?;
-    let a = Boxed::new(alloc, converted(alloc, to, a)?)?;
-    let b = Boxed::new(alloc, converted(alloc, to, b)?)?;
+    let kind = infix_kind(alloc, op, to, a.facts.kind, b.facts.kind);
+    let (a, b) = boxed_pair(alloc, to, a, b)?;
+    let kind = kind?;
     Ok(TypedExpr::node(parts, kind, BoundExpr::Infix(op, kind, a, b)))
 }
 
@@ -163,9 +176,9 @@ pub fn is_null_expr(alloc: Global, a: TypedExpr, b: TypedExpr) -> Result<TypedEx
     let parts = a.facts.beside(b.facts);
     let to = is_null_kind(a.facts.kind, b.facts.kind);
     let mut items = Vec::new(alloc);
-    items.push(converted(alloc, to, a)?)?;
-    items.push(converted(alloc, to, b)?)?;
-    Ok(TypedExpr::node(parts, to, BoundExpr::Coalesce(Items::from_vec(items))))
+    let (b, _) = and_next(b, items.push(a))?;
+    items.push(b)?;
+    first_of_items(alloc, parts, to, items)
 }
 
 /// NULLIF.
@@ -174,7 +187,8 @@ pub fn null_if_expr(alloc: Global, a: TypedExpr, b: TypedExpr) -> Result<TypedEx
 {
     let parts = a.facts.beside(b.facts);
     let kind = is_null_kind(a.facts.kind, b.facts.kind);
-    let side = Boxed::new(alloc, side_of(alloc, a.facts.kind, b)?)?;
+    let first = a.facts.kind;
+    let (a, side) = and_next(a, boxed_side(alloc, first, b))?;
     let expr = BoundExpr::NullIf(kind, Boxed::new(alloc, a.expr)?, side);
     Ok(TypedExpr::node(parts, kind, expr))
 }
@@ -184,7 +198,18 @@ pub fn coalesce_expr(alloc: Global, items: Vec<TypedExpr>) -> Result<TypedExpr, 
     ensures { Gives result (Ok (spec.coalesce_expr items.items)) }
 {
     let parts = facts_onto(Facts::none(), items.as_slice());
-    let to = or_int(parts.kind);
+    first_of_items(alloc, parts, or_int(parts.kind), items)
+}
+
+/// The first of these that isn't NULL, as one of a type.
+fn first_of_items(
+    alloc: Global,
+    parts: Facts,
+    to: SqlType,
+    items: Vec<TypedExpr>,
+) -> Result<TypedExpr, BindFault>
+    ensures { Gives result (Ok (spec.node parts to (Coalesce (map (spec.converted to) items.items)))) }
+{
     let mut done = Vec::new(alloc);
     for item in items {
         done.push(converted(alloc, to, item)?)?;
@@ -202,12 +227,9 @@ pub fn case_expr(
 {
     let parts = arms_facts(arms.as_slice()).beside(other.facts);
     let to = or_int(parts.kind);
-    let mut done = Vec::new(alloc);
-    for arm in arms {
-        done.push(arm_to(alloc, to, arm)?)?;
-    }
     let other = Boxed::new(alloc, converted(alloc, to, other)?)?;
-    Ok(TypedExpr::node(parts, to, BoundExpr::Case(Items::from_vec(done), other)))
+    let arms = arms_to(alloc, to, arms)?;
+    Ok(TypedExpr::node(parts, to, BoundExpr::Case(arms, other)))
 }
 
 /// An operand as one of a type.
@@ -223,6 +245,56 @@ pub(crate) fn converted(alloc: Global, to: SqlType, a: TypedExpr) -> Result<Boun
             Ok(BoundExpr::Convert(from, to, Boxed::new(alloc, a.expr)?))
         }
     }
+}
+
+/// An operand in a box, which was of the first type, as one of the second.
+fn boxed_as(
+    alloc: Global,
+    from: Option<SqlType>,
+    to: SqlType,
+    a: Boxed<BoundExpr>,
+) -> Result<Boxed<BoundExpr>, BindFault>
+    ensures { Gives result (Ok (spec.converted_from from to a)) }
+{
+    match from {
+        None => Ok(a),
+        Some(from) => {
+            if is_within(from, to) {
+                return Ok(a);
+            }
+            Ok(Boxed::new(alloc, BoundExpr::Convert(from, to, a))?)
+        }
+    }
+}
+
+/// Two operands as those of a type, each in a box.
+pub(crate) fn boxed_pair(
+    alloc: Global,
+    to: SqlType,
+    a: TypedExpr,
+    b: TypedExpr,
+) -> Result<(Boxed<BoundExpr>, Boxed<BoundExpr>), BindFault>
+    ensures { Gives result (Ok (spec.converted to a, spec.converted to b)) }
+{
+    let of_a = a.facts.kind;
+    let of_b = b.facts.kind;
+    let (b, a) = and_next(b, Boxed::new(alloc, a.expr))?;
+    let b = Boxed::new(alloc, b.expr)?;
+    let a = boxed_as(alloc, of_a, to, a)?;
+    let b = boxed_as(alloc, of_b, to, b)?;
+    Ok((a, b))
+}
+
+/// The other side of a pair, in a box.
+pub(crate) fn boxed_side(
+    alloc: Global,
+    first: Option<SqlType>,
+    b: TypedExpr,
+) -> Result<Boxed<BoundSide>, BindFault>
+    ensures { Gives result (Ok (spec.side_of first b)) }
+{
+    let side = side_of(alloc, first, b)?;
+    Ok(Boxed::new(alloc, side)?)
 }
 
 /// The other side of a pair.
@@ -273,11 +345,22 @@ fn arms_facts(arms: &[TypedArm]) -> Facts
     done
 }
 
+/// The arms, which give what they give as one of a type.
+fn arms_to(alloc: Global, to: SqlType, arms: Vec<TypedArm>) -> Result<Items<BoundArm>, BindFault>
+    ensures { Gives result (Ok (map (spec.arm_to to) arms.items)) }
+{
+    let mut done = Vec::new(alloc);
+    for arm in arms {
+        done.push(arm_to(alloc, to, arm)?)?;
+    }
+    Ok(Items::from_vec(done))
+}
+
 fn arm_to(alloc: Global, to: SqlType, arm: TypedArm) -> Result<BoundArm, BindFault>
     ensures { Gives result (Ok (spec.arm_to to arm)) }
 {
     let TypedArm { test, gives } = arm;
-    let gives = converted(alloc, to, gives)?;
+    let (test, gives) = and_next(test, converted(alloc, to, gives))?;
     Ok(BoundArm {
         test: test.test,
         gives,

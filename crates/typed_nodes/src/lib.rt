@@ -7,6 +7,7 @@
 //! is much deeper. Only tests show that want of memory is not answered where there is memory.
 #![tactic(auto)]
 
+mod and_next;
 mod expr;
 mod facts;
 mod fault;

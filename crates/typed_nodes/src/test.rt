@@ -1,14 +1,17 @@
 //! Tests.
 
-ghost use Rattle.std.specs.Prelude.{Ok};
+ghost use Rattle.std.specs.Prelude.{Ok, map};
 ghost use Rattle.std.specs.Vec.Iter.{into_iter_items};
 ghost use Rattle.typed_nodes.specs.Refusals.{Gives, GivesItems};
+ghost use Rattle.bound_tree.specs.declared.expr.BoundTest.TheVariants.{IsNull};
+ghost use Rattle.typed_nodes.specs.Nodes as nodes;
 ghost use Rattle.typed_nodes.specs.Tests as spec;
 
 use crate::BindFault;
-use crate::expr::{TypedExpr, converted, facts_onto, pair_kind, side_kind, side_of};
+use crate::and_next::and_next;
+use crate::expr::{TypedExpr, boxed_pair, boxed_side, facts_onto, pair_kind, side_kind, side_of};
 use crate::facts::{Facts, MAX_DEPTH};
-use bound_tree::{BoundExpr, BoundTest, CompareOp};
+use bound_tree::{BoundExpr, BoundSide, BoundTest, CompareOp};
 use sqlite_items::{Boxed, Items};
 use std::alloc::Global;
 use std::vec::IntoIter;
@@ -41,6 +44,13 @@ impl TypedTest {
         if facts.depth <= MAX_DEPTH {
             return Ok(TypedTest { test, facts });
         }
+        TypedTest::of_null(alloc, facts)
+    }
+
+    /// What stands in the place of a test that is too deep.
+    fn of_null(alloc: Global, facts: Facts) -> Result<TypedTest, BindFault>
+        ensures { Gives result (Ok (record { test = IsNull nodes.null; facts = facts })) }
+    {
         let null = Boxed::new(alloc, BoundExpr::Constant(Value::Null))?;
         Ok(TypedTest {
             test: BoundTest::IsNull(null),
@@ -64,7 +74,7 @@ impl TypedTest {
         ensures { Gives result (Ok (spec.joined_test by self other)) }
     {
         let parts = self.facts.beside(other.facts);
-        let a = Boxed::new(alloc, self.test)?;
+        let (other, a) = and_next(other, Boxed::new(alloc, self.test))?;
         let b = Boxed::new(alloc, other.test)?;
         let test = match by {
             Junction::And => BoundTest::And(a, b),
@@ -85,8 +95,7 @@ pub fn compare_test(
 {
     let parts = a.facts.beside(b.facts);
     let pair = pair_kind(a.facts.kind, b.facts.kind);
-    let a = Boxed::new(alloc, converted(alloc, pair, a)?)?;
-    let b = Boxed::new(alloc, converted(alloc, pair, b)?)?;
+    let (a, b) = boxed_pair(alloc, pair, a, b)?;
     TypedTest::node(alloc, parts, BoundTest::Compare(op, a, b))
 }
 
@@ -110,10 +119,23 @@ pub fn between_test(
 {
     let parts = a.facts.beside(low.facts.beside(high.facts));
     let kind = a.facts.kind;
-    let low = Boxed::new(alloc, side_of(alloc, kind, low)?)?;
-    let high = Boxed::new(alloc, side_of(alloc, kind, high)?)?;
+    let (a, (low, high)) = and_next(a, boxed_sides(alloc, kind, low, high))?;
     let test = BoundTest::Between(side_kind(kind), Boxed::new(alloc, a.expr)?, low, high);
     TypedTest::node(alloc, parts, test)
+}
+
+/// The other sides of two pairs, each in a box.
+fn boxed_sides(
+    alloc: Global,
+    first: Option<SqlType>,
+    low: TypedExpr,
+    high: TypedExpr,
+) -> Result<(Boxed<BoundSide>, Boxed<BoundSide>), BindFault>
+    ensures { Gives result (Ok (nodes.side_of first low, nodes.side_of first high)) }
+{
+    let (high, low) = and_next(high, boxed_side(alloc, first, low))?;
+    let high = boxed_side(alloc, first, high)?;
+    Ok((low, high))
 }
 
 /// IN over a list.
@@ -126,13 +148,28 @@ pub fn in_list_test(
 {
     let parts = facts_onto(a.facts, items.as_slice());
     let kind = a.facts.kind;
+    let expr = Boxed::new(alloc, a.expr)?;
+    let sides = sides_of(alloc, kind, items)?;
+    TypedTest::node(
+        alloc,
+        parts,
+        BoundTest::InList(side_kind(kind), expr, sides),
+    )
+}
+
+/// The other sides of pairs.
+fn sides_of(
+    alloc: Global,
+    first: Option<SqlType>,
+    items: Vec<TypedExpr>,
+) -> Result<Items<BoundSide>, BindFault>
+    ensures { Gives result (Ok (map (nodes.side_of first) items.items)) }
+{
     let mut sides = Vec::new(alloc);
     for item in items {
-        sides.push(side_of(alloc, kind, item)?)?;
+        sides.push(side_of(alloc, first, item)?)?;
     }
-    let expr = Boxed::new(alloc, a.expr)?;
-    let test = BoundTest::InList(side_kind(kind), expr, Items::from_vec(sides));
-    TypedTest::node(alloc, parts, test)
+    Ok(Items::from_vec(sides))
 }
 
 /// IN over the inner query of a place, whose column has this type.

@@ -6,10 +6,10 @@ use Rattle.clause_binder.specs.Answers.{GivesOn}
 use Rattle.clause_binder.specs.Bind as spec
 use Rattle.clause_binder.specs.Progress as part
 use Rattle.bound_tree.specs.declared.expr.CompareOp.{CompareOp}
-use Rattle.tsql_tree.specs.declared.query.Test.{And, Between, Compare, Or}
+use Rattle.tsql_tree.specs.declared.query.Test.{Between, Compare}
 use Rattle.typed_nodes.specs.declared.test.TypedTest.{TypedTest}
 use Rattle.typed_nodes.specs.Tests as tests
-use Rattle.query_binder.proofs.TestNodes.{all_bound, between, compared, given_on, joined_and, joined_or}
+use Rattle.query_binder.proofs.TestNodes.{between, compared}
 use Rattle.query_binder.proofs.Steps.{failed_key, next_item, next_join, next_key, order_is}
 use Rattle.query_binder.proofs.binder.Binder.+bind.Goals as goal
 
@@ -30,24 +30,6 @@ bind_test-returns-in_ok-low-in-Between t c =
     (c.in-Between.is ∙ (λ j. Between (sym c.get-in-Between.ensures j) c.in-Between.negated (sym c.get-in-Between-2.ensures j) (sym c.get-in-Between-3.ensures j)))
     c.in_ok-a-in-Between.ensures c.in_ok-low-in-Between.ensures))
     c.bind_between.ensures
-
-pub bind_test-returns-after-loop-test : goal.bind_test-returns-after-loop-test
-bind_test-returns-after-loop-test t c =
-    let others = all_bound c.args.self.now.definitions.now c.args.self.now.vars.now c.as_slice-rest.result.now c.loop-test.test-index c.loop-test.bound.items c.args.at.now
-    c.bind_test-in-And.new.done c.loop-test.done c.loop-test-test.false c.loop-test.invariant in
-    subst (λ (o : Outcome (TypedTest × Progress)). GivesOn c.all_joined.result o c.loop-test.done)
-    (sym (joined_and c.args.self.now.definitions.now c.args.self.now.vars.now c.args.of.now c.get-in-And.result.now c.as_slice-rest.result.now c.args.at.now c.args.done.now c.bind_test-in-And.new.done c.loop-test.done
-    c.in_ok-first-in-And.first c.loop-test.bound.items (c.in-And.is ∙ (λ j. And (sym c.get-in-And.ensures j) (sym c.as_slice-rest.ensures j))) c.in_ok-first-in-And.ensures others))
-    (given_on c.all_joined.result _ c.loop-test.done c.all_joined.ensures)
-
-pub bind_test-returns-after-loop-test-2 : goal.bind_test-returns-after-loop-test-2
-bind_test-returns-after-loop-test-2 t c =
-    let others = all_bound c.args.self.now.definitions.now c.args.self.now.vars.now c.as_slice-rest-in-Or.result.now c.loop-test-2.test-index c.loop-test-2.bound.items c.args.at.now
-    c.bind_test-in-Or.new.done c.loop-test-2.done c.loop-test-2-test.false c.loop-test-2.invariant in
-    subst (λ (o : Outcome (TypedTest × Progress)). GivesOn c.all_joined-in-Or.result o c.loop-test-2.done)
-    (sym (joined_or c.args.self.now.definitions.now c.args.self.now.vars.now c.args.of.now c.get-in-Or.result.now c.as_slice-rest-in-Or.result.now c.args.at.now c.args.done.now c.bind_test-in-Or.new.done c.loop-test-2.done
-    c.in_ok-first-in-Or.first c.loop-test-2.bound.items (c.in-Or.is ∙ (λ j. Or (sym c.get-in-Or.ensures j) (sym c.as_slice-rest-in-Or.ensures j))) c.in_ok-first-in-Or.ensures others))
-    (given_on c.all_joined-in-Or.result _ c.loop-test-2.done c.all_joined-in-Or.ensures)
 
 pub bind_items-loop-item-preserved : goal.bind_items-loop-item-preserved
 bind_items-loop-item-preserved t c =

@@ -14,15 +14,10 @@ invariant-bind_arms-loop-arm l =
     part.each_onto l.bound.items (map part.bind_of (map (spec.arm_of l.self.definitions.now l.self.vars.now) (drop l.arm-index l.arms))) l.at l.done
     ≡ part.each_onto [] (map part.bind_of (map (spec.arm_of l.self.definitions.now l.self.vars.now) (l.arms))) l.at l.initial.done
 
-abbrev pub invariant-bind_test-loop-test : goal.invariant-bind_test-loop-test
-invariant-bind_test-loop-test l =
-    part.each_onto l.bound.items (map part.bind_of (map (spec.test_of l.self.definitions.now l.self.vars.now) (drop l.test-index l.rest))) l.at l.done
-    ≡ part.each_onto [] (map part.bind_of (map (spec.test_of l.self.definitions.now l.self.vars.now) (l.rest))) l.at l.initial.done
-
-abbrev pub invariant-bind_test-loop-test-2 : goal.invariant-bind_test-loop-test-2
-invariant-bind_test-loop-test-2 l =
-    part.each_onto l.bound.items (map part.bind_of (map (spec.test_of l.self.definitions.now l.self.vars.now) (drop l.test-index l.rest))) l.at l.done
-    ≡ part.each_onto [] (map part.bind_of (map (spec.test_of l.self.definitions.now l.self.vars.now) (l.rest))) l.at l.initial.done
+abbrev pub invariant-bind_tests-loop-test : goal.invariant-bind_tests-loop-test
+invariant-bind_tests-loop-test l =
+    part.each_onto l.bound.items (map part.bind_of (map (spec.test_of l.self.definitions.now l.self.vars.now) (drop l.test-index l.tests))) l.at l.done
+    ≡ part.each_onto [] (map part.bind_of (map (spec.test_of l.self.definitions.now l.self.vars.now) (l.tests))) l.at l.initial.done
 
 abbrev pub invariant-bind_factors-loop-factor : goal.invariant-bind_factors-loop-factor
 invariant-bind_factors-loop-factor l =

@@ -1,6 +1,6 @@
 use Rattle.std.proofs.Common.{◌≡◌, map}
 use Rattle.typed_nodes.specs.Nodes as spec
-use Rattle.typed_nodes.proofs.test.in_list_test.Given as goal
+use Rattle.typed_nodes.proofs.expr.first_of_items.Given as goal
 
 abbrev pub invariant-loop-item : goal.invariant-loop-item
-invariant-loop-item l = l.sides.items ≡ map (spec.side_of l.kind) l.yielded
+invariant-loop-item l = l.done.items ≡ map (spec.converted l.to) l.yielded

@@ -1,12 +1,12 @@
-//! Tables and their rows.
+//! The rows of tables.
 
 use crate::lines::difference_of;
 use bound_tree::{BoundQuery, Image, InnerQuery};
+use session_vars::Vars;
 use sqlite_items::Items;
 use std::alloc::Global;
-use stmt_parser::{ParseFault, parse_batch};
-use tests_lines::{Difference, Trial, defined, differing, literal_of, text_of};
-use tsql_tree::{Batch, Definition, Expr, Form, InsertRows, Statement, TableTree};
+use tests_lines::{Difference, StatementVisitor, Tables, Trial, differing, literal_of, visit_text};
+use tsql_tree::{Definition, Expr, Form, InsertRows, Statement, TableTree};
 use value_types::{Memory, Row, SqlType, Units, Value};
 
 /// A table's rows, in the order of their keys.
@@ -17,96 +17,79 @@ struct Stored {
     rows: Vec<Row>,
 }
 
-/// The tables that the lines before have made.
+/// The rows of the tables that the lines before have made.
 #[derive(Drop)]
-pub(crate) struct Tables {
-    definitions: Vec<Definition>,
-    stored: Vec<Stored>,
+pub(crate) struct Stores {
+    list: Vec<Stored>,
 }
 
-impl Trial for Tables {
-    fn begin(alloc: Global) -> Tables {
-        Tables {
-            definitions: Vec::new(alloc),
-            stored: Vec::new(alloc),
+impl Trial for Stores {
+    fn begin(alloc: Global) -> Stores {
+        Stores {
+            list: Vec::new(alloc),
         }
     }
 
-    fn try_line(&mut self, alloc: Global, line: &str) -> Result<Option<Difference>, Memory> {
+    fn try_line(
+        &mut self,
+        alloc: Global,
+        tables: &mut Tables,
+        line: &str,
+    ) -> Result<Option<Difference>, Memory> {
         if let Some((text, wanted)) = line.split_once(" => ") {
-            return difference_of(alloc, self, text, wanted);
+            return difference_of(alloc, tables.as_slice(), self, text, wanted);
         }
-        let is_taken = if line.starts_with("CREATE TABLE ") {
-            self.create(alloc, line)?
-        } else {
-            self.insert(alloc, line)?
-        };
-        if is_taken {
-            Ok(None)
-        } else {
-            Ok(Some(differing(alloc, "a table or its rows", line)?))
+        if self.take(alloc, tables, line)? {
+            return Ok(None);
         }
+        Ok(Some(differing(alloc, "a table or its rows", line)?))
     }
 }
 
-impl Tables {
-    /// What the tables are.
-    pub(crate) fn definitions(&self) -> &[Definition] {
-        self.definitions.as_slice()
-    }
-
-    /// The table of that name.
-    pub(crate) fn shape_of(&self, name: &Units) -> Option<&TableTree> {
-        for definition in self.definitions.as_slice() {
-            if let Definition::Table(table) = definition {
-                if table.name == *name {
-                    return Some(table);
-                }
+/// The rows of INSERTs of literals are added, up to a statement that is none.
+impl StatementVisitor for Stores {
+    fn visit(
+        &mut self,
+        alloc: Global,
+        given: &mut String,
+        statements: &[Statement],
+        _vars: &Vars,
+    ) -> Result<(), Memory> {
+        for statement in statements {
+            if !self.insert_statement(alloc, statement)? {
+                return Ok(given.push_str("no rows of literals")?);
             }
         }
-        None
+        Ok(())
+    }
+}
+
+impl Stores {
+    /// Takes a table, or rows, if the text is of those.
+    fn take(&mut self, alloc: Global, tables: &mut Tables, text: &str) -> Result<bool, Memory> {
+        if text.starts_with("CREATE TABLE ") {
+            self.create(alloc, tables, text)
+        } else {
+            self.insert(alloc, text)
+        }
     }
 
     /// Adds a table without rows, if the text is one.
-    fn create(&mut self, alloc: Global, text: &str) -> Result<bool, Memory> {
-        let Some(definition) = defined(alloc, text)? else {
+    fn create(&mut self, alloc: Global, tables: &mut Tables, text: &str) -> Result<bool, Memory> {
+        if !tables.define(alloc, text)? {
             return Ok(false);
-        };
-        if let Definition::Table(tree) = &definition {
-            self.stored.push(stored_of(alloc, tree)?)?;
         }
-        self.definitions.push(definition)?;
+        if let Some(Definition::Table(tree)) = tables.as_slice().last() {
+            self.list.push(stored_of(alloc, tree)?)?;
+        }
         Ok(true)
     }
 
     /// Adds the rows of INSERTs of literals, if the text is of those.
     fn insert(&mut self, alloc: Global, text: &str) -> Result<bool, Memory> {
-        let text = text_of(alloc, text)?;
-        self.insert_whole(alloc, parse_batch(alloc, &text))
-    }
-
-    fn insert_whole(
-        &mut self,
-        alloc: Global,
-        read: Result<Batch, ParseFault>,
-    ) -> Result<bool, Memory> {
-        self.insert_read(alloc, &read)
-    }
-
-    fn insert_read(
-        &mut self,
-        alloc: Global,
-        read: &Result<Batch, ParseFault>,
-    ) -> Result<bool, Memory> {
-        let Ok(Batch::Body(statements)) = read else {
-            return Ok(false);
-        };
-        for statement in statements.as_slice() {
-            if !self.insert_statement(alloc, statement)? {
-                return Ok(false);
-            }
-        }
-        Ok(true)
+        let mut given = String::new(alloc);
+        visit_text(alloc, &mut given, text, self)?;
+        Ok(given.is_empty())
     }
 
     fn insert_statement(&mut self, alloc: Global, statement: &Statement) -> Result<bool, Memory> {
@@ -116,7 +99,7 @@ impl Tables {
         let InsertRows::Values(rows) = rows.get() else {
             return Ok(false);
         };
-        for stored in &mut self.stored {
+        for stored in &mut self.list {
             if stored.name == *name {
                 return stored.insert(alloc, rows.as_slice());
             }
@@ -155,7 +138,7 @@ impl Tables {
     /// The rows of a table, copied.
     pub(crate) fn image_of(&self, alloc: Global, name: &Units) -> Result<Image, Memory> {
         let mut rows = Vec::new(alloc);
-        for stored in &self.stored {
+        for stored in &self.list {
             if stored.name == *name {
                 for row in &stored.rows {
                     rows.push(row.copy(alloc)?)?;
@@ -176,6 +159,18 @@ impl Stored {
         }
         Ok(true)
     }
+}
+
+/// The table of that name.
+pub(crate) fn shape_of<'a>(tables: &'a [Definition], name: &Units) -> Option<&'a TableTree> {
+    for definition in tables {
+        if let Definition::Table(table) = definition {
+            if table.name == *name {
+                return Some(table);
+            }
+        }
+    }
+    None
 }
 
 fn stored_of(alloc: Global, tree: &TableTree) -> Result<Stored, Memory> {
