@@ -1,17 +1,17 @@
 -- What is planned and asked by a statement that changes something, where a part of it may fail.
-use Rattle.std.proofs.Common.{arith, ◌≡◌, ℕ, inl, inr, true, false, if◌then◌else◌, List, [], ◌∷◌, ◌++◌, Result, Err, sym, ap, ◌∙◌, subst}
+use Rattle.std.proofs.Common.{arith, ◌≡◌, ℕ, suc, eqb-true, inl, inr, true, false, if◌then◌else◌, length, List, [], ◌∷◌, ◌++◌, Result, Ok, Err, refl, sym, ap, ◌∙◌, subst}
 use Rattle.std.proofs.lemmas.List.Folds.{list_any-append}
 use Rattle.std.specs.Prelude.{nat_eq, IsTrue}
 use Rattle.std.specs.List.{list_any}
 use Rattle.value_types.specs.declared.memory.Memory.{Memory}
 use Rattle.tsql_tree.specs.declared.definition.TableTree.{TableTree}
 use Rattle.bound_tree.specs.declared.expr.BoundTest.{BoundTest}
+use Rattle.bound_tree.specs.declared.write.Bound.{Bound}
+use Rattle.bound_tree.specs.declared.write.Bound.TheVariants as bound
 use Rattle.bound_tree.specs.declared.write.BoundWrite.{BoundWrite}
 use Rattle.typed_nodes.specs.declared.fault.BindFault.{BindFault}
 use Rattle.typed_nodes.specs.declared.fault.BindFault.TheVariants as bind_fault
 use Rattle.typed_nodes.specs.Refusals.{Outcome, Fails}
-use Rattle.scalar_eval.specs.declared.fault.EvalFault.{EvalFault}
-use Rattle.scalar_eval.specs.declared.fault.EvalFault.TheVariants as eval_fault
 use Rattle.step_model.specs.declared.change.Planned.{Planned}
 use Rattle.step_model.specs.declared.op.Op.{Op}
 use Rattle.step_model.specs.declared.op.Op.TheVariants.{Insert, Mark}
@@ -19,31 +19,26 @@ use Rattle.step_model.specs.declared.reply.Reply.TheVariants as replies
 use Rattle.step_model.specs.Exchange.{MayCome, Standing}
 use Rattle.step_model.specs.Port.{PortPast, standing_after}
 use Rattle.step_model.specs.Ranges.{Rows, no_memory}
-use Rattle.dml_exec.specs.Planning.{Plan}
-use Rattle.dml_exec.specs.Plans.{Plans}
 use Rattle.batch_meaning.specs.declared.failure.Failure.{Failure}
 use Rattle.batch_meaning.specs.Failures.{plain, naming}
-use Rattle.batch_meaning.specs.Changing.{planned_as, planned_with, dropped_as, is_parent, is_referred, unless_referred}
-use Rattle.batch_meaning.specs.Selecting.{bound_as}
+use Rattle.batch_meaning.specs.Raised.{Around}
+use Rattle.batch_meaning.specs.Changing.{planned_with, dropped_as}
+use Rattle.batch_meaning.specs.Asking.{fails}
+use Rattle.batch_meaning.specs.Selecting.{Effect, bound_as, not_built}
+use Rattle.batch_meaning.specs.Working.{change_bound, changes}
 use Rattle.batch_meaning.specs.Progress.{SessionProgress}
 use Rattle.batch_meaning.specs.Doing.{Doing, room, Did}
-use Rattle.batch_meaning.proofs.Composed.{does_room}
-use Rattle.batch_exec.specs.Selected.{IsInsertion, IsNamed, IsOrMemory, IsUnbound, IsUnplanned}
+use Rattle.batch_meaning.proofs.Composed.{does_over, does_room}
+use Rattle.batch_exec.specs.Selected.{IsInsertion, IsNamed, IsOrMemory, IsUnbound}
 
 -- ---- planning
 
 -- a table's CHECKs can't be bound
-pub checks_unbound : (shape : TableTree) (of : BoundWrite) (images : List Rows) (fault : BindFault) (failure : Failure) (checks : Outcome (List BoundTest))
-    → Fails fault checks → IsUnbound fault failure → IsOrMemory (planned_with shape of images (bound_as checks)) (Err failure)
-checks_unbound shape of images (bind_fault.Number number name) failure checks fails is =
-    inl (ap Err is ∙ sym (ap (λ (c : Outcome (List BoundTest)). planned_with shape of images (bound_as c)) fails))
-checks_unbound shape of images bind_fault.Memory failure checks fails is = inr (ap Err is)
-
--- a write can't be planned
-pub write_unplanned : (fault : EvalFault) (failure : Failure) (plan : Plan) → Plans (Err fault) plan → IsUnplanned fault failure → IsOrMemory (planned_as plan) (Err failure)
-write_unplanned (eval_fault.Number number) failure plan plans is = inl (ap Err is ∙ sym (ap planned_as plans))
-write_unplanned (eval_fault.Named number name) failure plan plans is = inl (ap Err is ∙ sym (ap planned_as plans))
-write_unplanned eval_fault.Memory failure plan plans is = inr (ap Err is)
+pub checks_unbound : (around : Around) (p : SessionProgress) (shape : TableTree) (of : BoundWrite) (images : List Rows) (fault : BindFault) (failure : Failure) (checks : Outcome (List BoundTest))
+    → Fails fault checks → IsUnbound fault failure → IsOrMemory (planned_with around p shape of images (bound_as checks)) (Err failure)
+checks_unbound around p shape of images (bind_fault.Number number name) failure checks fails is =
+    inl (ap Err is ∙ sym (ap (λ (c : Outcome (List BoundTest)). planned_with around p shape of images (bound_as c)) fails))
+checks_unbound around p shape of images bind_fault.Memory failure checks fails is = inr (ap Err is)
 
 -- a table is dropped by what was planned for its rows, or memory was wanting
 pub dropped_or : (name : List ℕ) (meant planned result : Result (List Planned) Failure) → IsOrMemory meant planned → IsOrMemory (dropped_as name planned) result → IsOrMemory (dropped_as name meant) result
@@ -52,11 +47,6 @@ dropped_or name meant planned result (inr none) (inl same) = inr (same ∙ ap (d
 dropped_or name meant planned result (inr none) (inr wanting) = inr wanting
 
 -- ---- errors that name something
-
--- another table refers to it
-pub parent_named : (name : List ℕ) (tables : List TableTree) (failure : Failure) → is_referred name tables ≡ true → IsNamed is_parent name failure → IsOrMemory (unless_referred name tables) (Err failure)
-parent_named name tables failure referred (inl same) = rw referred (inl (ap Err same))
-parent_named name tables failure referred (inr none) = inr (ap Err none)
 
 -- what is done behind the error, for which memory may be wanting
 pub does_named : {before after : PortPast} {A : Type 0} (go : Failure → Doing A) (number : ℕ) (name : List ℕ) (failure : Failure) {p new : SessionProgress} {result : Result A Memory}
@@ -77,3 +67,28 @@ mark_live before after mark stands = rw stands (mark_last mark before.marks)
 pub insertion_may : (standing : Standing) (op : Op) → IsInsertion op → standing.is_open ≡ true → MayCome standing op
 insertion_may standing (Insert table key row) is begun = begun
 insertion_may standing op is begun = absurd is
+
+-- ---- what a write is bound to
+
+-- by which it changes something
+pub does_changing : {before after : PortPast} (around : Around) (shapes : List TableTree) (of : Bound) (write : BoundWrite) {p new : SessionProgress} {result : Result (Result Effect Failure) Memory} → false ≡ nat_eq (length shapes) 0 → of ≡ bound.Write write
+    → Did before after (changes around shapes write) p result new → Did before after (change_bound around shapes of) p result new
+does_changing around [] of write some is did = absurd (let no : false ≡ true = some in cc)
+does_changing {before = before} {after = after} around (shape ∷ shapes) of write {p = p} {new = new} {result = result} some is did = subst (λ (b : Bound). Did before after (change_bound around (shape ∷ shapes) b) p result new) (sym is) did
+
+-- where no table is named
+pub does_nameless : {past : PortPast} (around : Around) (shapes : List TableTree) (of : Bound) {failure : Failure} {p : SessionProgress} → true ≡ nat_eq (length shapes) 0 → failure ≡ plain not_built → Did past past (change_bound around shapes of) p (Ok (Err failure)) p
+does_nameless {past = past} around [] of {p = p} none is = subst (λ (f : Failure). Did past past (fails {A = Effect} not_built) p (Ok (Err f)) p) (sym is) (does_over refl)
+does_nameless around (shape ∷ shapes) of none is = absurd (let no : suc (length shapes) ≡ 0 = eqb-true (suc (length shapes)) 0 (sym none) in omega arith)
+
+-- what is no write
+pub does_unchanging : {past : PortPast} (around : Around) (shapes : List TableTree) (of : Bound) {failure : Failure} {p : SessionProgress} → ((write : BoundWrite) → of ≡ bound.Write write → ⊥) → failure ≡ plain not_built
+    → Did past past (change_bound around shapes of) p (Ok (Err failure)) p
+does_unchanging {past = past} around shapes of {failure = failure} {p = p} none is = subst (λ (f : Failure). Did past past (change_bound around shapes of) p (Ok (Err f)) p) (sym is) (by_bound shapes of none)
+  where
+    by_bound : (named : List TableTree) (b : Bound) → ((write : BoundWrite) → b ≡ bound.Write write → ⊥) → Did past past (change_bound around named b) p (Ok (Err (plain not_built))) p
+    by_bound [] b not = does_over refl
+    by_bound (shape ∷ shapes) (bound.Write write) not = absurd (not write refl)
+    by_bound (shape ∷ shapes) (bound.Query query) not = does_over refl
+    by_bound (shape ∷ shapes) (bound.Assign query places) not = does_over refl
+    by_bound (shape ∷ shapes) bound.Plain not = does_over refl

@@ -1,17 +1,16 @@
 -- The tokens that are sent have bytes: counts, texts and values fit their fields.
-use Rattle.std.proofs.Common.{◌≡◌, ℕ, ℤ, pos, negsuc, ◌+◌, ◌^◌, ◌<◌, ◌≤◌, ◌||◌, Bool, true, false, if◌then◌else◌, List, [], ◌∷◌, ◌++◌, length, map, take, Option, None, Some, Result, Ok, Err, IfOk, refl, sym, subst, nat_eq, ◌∙◌, length-take, arith, All, suc, ap, T}
+use Rattle.std.proofs.Common.{◌≡◌, ℕ, pos, negsuc, ◌+◌, ◌^◌, ◌<◌, ◌≤◌, ◌||◌, Bool, true, false, if◌then◌else◌, List, [], ◌∷◌, ◌++◌, length, map, take, Option, None, Some, Ok, Err, refl, sym, subst, nat_eq, ◌∙◌, length-take, arith, All, suc, ap, T}
 use Rattle.std.specs.Prelude.{nat_le}
 use Rattle.std.proofs.lemmas.Bool.{leb-true, le-leb, and_parts}
 use Rattle.std.proofs.lemmas.List.Elements.{All-cons, All-nil}
-use Rattle.std.specs.declared.alloc.Global.{Global}
-use Rattle.std.specs.declared.vec.Vec.{Vec}
 use Rattle.error_table.specs.declared.action.Action.{Action}
 use Rattle.error_table.specs.declared.action.Action.TheVariants.{Statement as EndsStatement, Batch, BatchAndTransaction, Doom}
-use Rattle.error_table.specs.Table.{ErrorLine, row_of}
 use Rattle.value_types.specs.declared.sql_type.SqlType.{SqlType}
 use Rattle.value_types.specs.declared.sql_type.SqlType.TheVariants.{TinyInt, SmallInt, Int, BigInt, Bit as BitType, NText}
 use Rattle.convert_rules.specs.Types.{IsOf}
 use Rattle.session_vars.specs.Variables.{HasItsType}
+use Rattle.session_vars.specs.declared.Variable.{Variable}
+use Rattle.bound_tree.specs.Typed.{AreOf, system_kinds}
 use Rattle.tsql_tree.specs.declared.definition.Definition.{Definition}
 use Rattle.tsql_tree.specs.declared.definition.Definition.TheVariants.{Table, Procedure, Trigger}
 use Rattle.tsql_tree.specs.declared.query.Select.{Select}
@@ -29,7 +28,7 @@ use Rattle.clause_binder.specs.Scope.{or_first, table_of}
 use Rattle.catalog_rows.specs.Definitions.{tables_of}
 use Rattle.catalog_rows.proofs.Fitting.{image_typed}
 use Rattle.constraint_check.specs.Reads.{shape_of}
-use Rattle.dml_exec.specs.Reading.{reads_of, shared}
+use Rattle.dml_exec.specs.Reading.{query_reads, shared}
 use Rattle.typed_nodes.specs.Nodes.{is_kind}
 use Rattle.typed_nodes.specs.Refusals.{Outcome, after}
 use Rattle.clause_binder.specs.declared.operand.Selected.{Selected}
@@ -46,26 +45,24 @@ use Rattle.binder.specs.Statements.{bind_form, select_made}
 use Rattle.step_model.specs.Ranges.{Rows}
 use Rattle.value_types.specs.declared.value.Value.{Value}
 use Rattle.value_types.specs.declared.value.Value.TheVariants.{Null, Whole, Bit, Text}
-use Rattle.value_types.specs.declared.memory.Memory.{Memory}
 use Rattle.tds_tokens.specs.declared.columns.ColumnInfo.{ColumnInfo}
 use Rattle.tds_tokens.specs.declared.notice.Notice.{Notice}
-use Rattle.tds_tokens.specs.Numbers.{done_final, done_more, done_error, done_count, command_none, command_select}
+use Rattle.tds_tokens.specs.Numbers.{done_final, done_error, command_none, command_select, env_begin, env_collation, env_commit, env_rollback}
 use Rattle.tds_tokens.specs.declared.token.DoneKind.{DoneKind}
 use Rattle.tds_tokens.specs.declared.token.DoneKind.TheVariants.{Done}
 use Rattle.tds_tokens.specs.declared.token.Token.{Token}
-use Rattle.tds_tokens.specs.declared.token.Token.TheVariants.{Finished}
-use Rattle.tds_tokens.specs.Fit.{FitsType, FitsKind, FitsColumns, FitsNotice, FitsToken, FitTokens}
+use Rattle.tds_tokens.specs.declared.token.Token.TheVariants.{EnvBytes, Finished}
+use Rattle.tds_tokens.specs.Fit.{FitsType, FitsKind, FitsColumns, FitsNotice, FitTokens}
 use Rattle.tds_tokens.specs.Spelling.{columns_after}
 use Rattle.tds_tokens.proofs.Lengths.{length-notice_bytes}
-use Rattle.batch_meaning.specs.declared.exit.Exit.{Exit}
-use Rattle.batch_meaning.specs.declared.exit.Exit.TheVariants.{On, End}
-use Rattle.batch_meaning.specs.declared.failure.Failure.{Failure}
-use Rattle.batch_meaning.specs.declared.form.Served.{Served}
-use Rattle.batch_meaning.specs.Statements.{is_select, is_select_form}
-use Rattle.batch_meaning.specs.Selecting.{bound_as, bound_over, columns_of, first_system}
+use Rattle.batch_meaning.specs.declared.raised.Raised.{Raised}
+use Rattle.batch_meaning.specs.Meaning.{told_tokens}
+use Rattle.batch_meaning.specs.Progress.{SessionProgress, system_in, values_of}
+use Rattle.batch_meaning.specs.Raised.{Around, info_token}
+use Rattle.batch_meaning.specs.Selecting.{bound_as, bound_over, columns_of}
 use Rattle.batch_exec.specs.Sendable.{IsFit, IsResult}
-use Rattle.batch_exec.specs.Selected.{AnswerFits, AreKept, ImagesFit, IsBoundOver}
-use Rattle.batch_meaning.specs.Tokens.{subject_of, command_of, class_of, message_of, error_of, row_tokens, result_tokens, written_tokens, statement_done, batch_done, failure_tokens}
+use Rattle.batch_exec.specs.Selected.{AreKept, ImagesFit, IsAnswer, IsBoundOver, IsSelect, IsSelectForm}
+use Rattle.batch_meaning.specs.Tokens.{descriptor, row_tokens, result_tokens, statement_done, batch_done, transaction_begun, transaction_committed, transaction_rolled_back}
 
 -- ---- one list behind another
 
@@ -131,11 +128,17 @@ columns_many : (items : List Item) → length (map column_of items) ≡ length i
 columns_many [] = refl
 columns_many (item ∷ items) = ap suc (columns_many items)
 
--- a result whose rows are of its items' types
-result_fits : (items : List Item) (rows : List (List Value)) → AllOf IsNamed items → length items ≤ 64 → RowsOf (items_kinds items) rows → IsFit (result_tokens (map column_of items) rows)
+-- a statement's end with its count
+told_fit : (no_count : Bool) (command rows : ℕ) (columns : List ColumnInfo) → FitTokens columns (statement_done no_count command rows ∷ [])
 unfolding FitTokens
-result_fits items rows fit few are = λ columns.
-    ((let same : length (map column_of items) ≡ length items = columns_many items in omega (arith, same, few), columns_fit items fit), rows_fit items rows (statement_done command_select (length rows) ∷ []) fit are (tt, tt))
+told_fit true command rows columns = (tt, tt)
+told_fit false command rows columns = (tt, tt)
+
+-- a result whose rows are of its items' types
+result_fits : (no_count : Bool) (items : List Item) (rows : List (List Value)) → AllOf IsNamed items → length items ≤ 64 → RowsOf (items_kinds items) rows → IsFit (result_tokens no_count (map column_of items) rows)
+unfolding FitTokens
+result_fits no_count items rows fit few are = λ columns.
+    ((let same : length (map column_of items) ≡ length items = columns_many items in omega (arith, same, few), columns_fit items fit), rows_fit items rows (statement_done no_count command_select (length rows) ∷ []) fit are (told_fit no_count command_select (length rows) (map column_of items)))
 
 -- ---- what a SELECT is bound to
 
@@ -148,32 +151,32 @@ made_query false false true q places query is = absurd cc
 made_query false false false q places query is = (refl, refl, (let same : q ≡ query = cc in same))
 
 -- the select of a statement, and what it is bound to
-pub record BoundSelect (definitions : List Definition) (query : BoundQuery) : Type 0 where
+pub record BoundSelect (definitions : List Definition) (vars : List Variable) (query : BoundQuery) : Type 0 where
   pub select : Select
   pub selected : Selected
-  pub is : query_of definitions [] select ≡ Ok selected
+  pub is : query_of definitions vars select ≡ Ok selected
   pub within : selected.beyond ≡ false
   pub plain : selected.assigns ≡ false
   pub same : selected.query ≡ query
 
-behind_select : (definitions : List Definition) (select : Select) (query : BoundQuery) (outcome : Outcome Selected) → query_of definitions [] select ≡ outcome
-    → bound_as (after (after outcome (λ s. Ok (select_made s))) (λ made. within_limits (made.beyond || false) made.bound)) ≡ Ok (bound.Query query) → BoundSelect definitions query
-behind_select definitions select query (Ok s) of is =
+behind_select : (definitions : List Definition) (vars : List Variable) (select : Select) (query : BoundQuery) (outcome : Outcome Selected) → query_of definitions vars select ≡ outcome
+    → bound_as (after (after outcome (λ s. Ok (select_made s))) (λ made. within_limits (made.beyond || false) made.bound)) ≡ Ok (bound.Query query) → BoundSelect definitions vars query
+behind_select definitions vars select query (Ok s) of is =
     let parts = made_query s.beyond false s.assigns s.query s.places query is in
     record { select = select; selected = s; is = of; within = parts.0; plain = parts.1; same = parts.2 }
-behind_select definitions select query (Err refusal) of is = absurd cc
+behind_select definitions vars select query (Err refusal) of is = absurd cc
 
-behind_tables : (definitions : List Definition) (select : Select) (query : BoundQuery) (known : Outcome (Unit {0}))
-    → bound_as (after known (λ known. after (after (query_of definitions [] select) (λ s. Ok (select_made s))) (λ made. within_limits (made.beyond || false) made.bound))) ≡ Ok (bound.Query query) → BoundSelect definitions query
-behind_tables definitions select query (Ok known) is = behind_select definitions select query (query_of definitions [] select) refl is
-behind_tables definitions select query (Err refusal) is = absurd cc
+behind_tables : (definitions : List Definition) (vars : List Variable) (select : Select) (query : BoundQuery) (known : Outcome (Unit {0}))
+    → bound_as (after known (λ known. after (after (query_of definitions vars select) (λ s. Ok (select_made s))) (λ made. within_limits (made.beyond || false) made.bound))) ≡ Ok (bound.Query query) → BoundSelect definitions vars query
+behind_tables definitions vars select query (Ok known) is = behind_select definitions vars select query (query_of definitions vars select) refl is
+behind_tables definitions vars select query (Err refusal) is = absurd cc
 
-by_form : (definitions : List Definition) (query : BoundQuery) (form : Layer) → is_select_form form ≡ true → bound_as (bind_form definitions [] form) ≡ Ok (bound.Query query) → BoundSelect definitions query
-by_form definitions query (Form-F.Select select) selects is = behind_tables definitions select query _ is
-by_form definitions query form selects is = absurd cc
+by_form : (definitions : List Definition) (vars : List Variable) (query : BoundQuery) (form : Layer) → IsSelectForm form → bound_as (bind_form definitions vars form) ≡ Ok (bound.Query query) → BoundSelect definitions vars query
+by_form definitions vars query (Form-F.Select select) selects is = behind_tables definitions vars select query _ is
+by_form definitions vars query form selects is = absurd selects
 
-pub bound_select : (definitions : List Definition) (statement : Statement) (query : BoundQuery) → is_select statement ≡ true → bound_over definitions statement ≡ Ok (bound.Query query) → BoundSelect definitions query
-bound_select definitions statement query selects is = by_form definitions query (form_of statement) selects is
+pub bound_select : (definitions : List Definition) (vars : List Variable) (statement : Statement) (query : BoundQuery) → IsSelect statement → bound_over definitions vars statement ≡ Ok (bound.Query query) → BoundSelect definitions vars query
+bound_select definitions vars statement query selects is = by_form definitions vars query (form_of statement) selects is
 
 -- ---- what it answers
 
@@ -215,30 +218,36 @@ images_typed definitions [] images fit = tt
 images_typed definitions (ref ∷ refs) [] fit = absurd fit
 images_typed definitions (ref ∷ refs) (rows ∷ images) fit = (kept_typed definitions ref.table rows fit.0, images_typed definitions refs images fit.1)
 
-query_fits : (definitions : List Definition) (query : BoundQuery) (images : List Rows) (rows : List (List Value)) → BoundSelect definitions query → ImagesOf (tables_in definitions) (references_of query) images → Ans [] first_system query images ≡ Ok rows → IsResult (columns_of query) rows
-query_fits definitions query images rows b typed_images answers =
-    let formed = select_formed definitions [] b.select b.selected b.is b.within in
+no_images : (tables : TableName → List SqlType) (refs : List Reference) → ImagesOf tables refs []
+no_images tables [] = tt
+no_images tables (ref ∷ refs) = (tt, no_images tables refs)
+
+query_fits : (no_count : Bool) (definitions : List Definition) (vars : List Variable) (system : List Value) (query : BoundQuery) (images : List Rows) (rows : List (List Value)) → All HasItsType vars → AreOf system_kinds system
+    → BoundSelect definitions vars query → ImagesOf (tables_in definitions) (references_of query) images → Ans (values_of vars) system query images ≡ Ok rows → IsResult no_count (columns_of query) rows
+query_fits no_count definitions vars system query images rows vars_typed system_typed b typed_images answers =
+    let formed = select_formed definitions vars b.select b.selected b.is b.within in
     let same : b.selected.query ≡ query = b.same in
-    let typed = select_typed definitions [] b.select b.selected b.is b.within (All-nil HasItsType) first_system (refl, (refl, (refl, (refl, (refl, (tt, (tt, (tt, (tt, (tt, (tt, tt))))))))))) images rows
+    let typed = select_typed definitions vars b.select b.selected b.is b.within vars_typed system system_typed images rows
     (subst (λ (q : BoundQuery). ImagesOf (tables_in definitions) (references_of q) images) (sym same) typed_images)
-    (subst (λ (q : BoundQuery). Ans [] first_system q images ≡ Ok rows) (sym same) answers) in
-    subst (λ (q : BoundQuery). IsResult (columns_of q) rows) same (result_fits (items_of b.selected.query) rows formed.1 (formed.2 b.plain) typed)
+    (subst (λ (q : BoundQuery). Ans (values_of vars) system q images ≡ Ok rows) (sym same) answers) in
+    subst (λ (q : BoundQuery). IsResult no_count (columns_of q) rows) same (result_fits no_count (items_of b.selected.query) rows formed.1 (formed.2 b.plain) typed)
 
-pub answer_fits : (shapes : List TableTree) (statement : Statement) (of : Bound) (query : BoundQuery) (images : List Rows)
-    → IsBoundOver shapes statement of → is_select statement ≡ true → of ≡ bound.Query query → ImagesFit shapes (reads_of of) images → AnswerFits query images
-answer_fits shapes statement of query images over selects is fit rows answers =
-    let definitions = over.0 in
-    let bound_to : bound_over definitions statement ≡ Ok (bound.Query query) = over.2 ∙ ap Ok is in
-    let fits : ImagesFit (tables_of definitions) (reads_of (bound.Query query)) images = subst (λ (o : Bound). ImagesFit (tables_of definitions) (reads_of o) images) is (subst (λ (s : List TableTree). ImagesFit s (reads_of of) images) over.1 fit) in
-    query_fits definitions query images rows (bound_select definitions statement query selects bound_to) (images_typed definitions (references_of query) images fits) answers
-
--- of what is bound over no table no image is read
-pub alone_fits : (statement : Statement) (query : BoundQuery) → is_select statement ≡ true → bound_over [] statement ≡ Ok (bound.Query query) → AnswerFits query []
-alone_fits statement query selects is rows answers = query_fits [] query [] rows (bound_select [] statement query selects is) (none (references_of query)) answers
+pub answer_fits : (no_count : Bool) (around : Around) (p : SessionProgress) (vars : List Variable) (shapes : List TableTree) (statement : Statement) (of : Bound) (query : BoundQuery) (rows : Rows)
+    → IsBoundOver shapes vars statement of → p.vars ≡ vars → IsSelect statement → of ≡ bound.Query query → IsAnswer around p shapes query rows → IsResult no_count (columns_of query) rows
+answer_fits no_count around p vars shapes statement of query rows over same selects is answer = by_shapes shapes refl
   where
-    none : (refs : List Reference) → ImagesOf (tables_in []) refs []
-    none [] = tt
-    none (ref ∷ refs) = (tt, none refs)
+    definitions : List Definition
+    definitions = over.0
+
+    bound_to : bound_over definitions p.vars statement ≡ Ok (bound.Query query)
+    bound_to = subst (λ (v : List Variable). bound_over definitions v statement ≡ Ok (bound.Query query)) (sym same) (over.2 ∙ ap Ok is)
+
+    fits_on : ImagesOf (tables_in definitions) (references_of query) answer.images → IsResult no_count (columns_of query) rows
+    fits_on typed = query_fits no_count definitions p.vars (system_in around p) query answer.images rows answer.vars answer.system (bound_select definitions p.vars statement query selects bound_to) typed answer.answers
+
+    by_shapes : (given : List TableTree) → shapes ≡ given → IsResult no_count (columns_of query) rows
+    by_shapes [] none = fits_on (subst (λ (images : List Rows). ImagesOf (tables_in definitions) (references_of query) images) (sym (answer.none none)) (no_images (tables_in definitions) (references_of query)))
+    by_shapes (shape ∷ others) some = fits_on (images_typed definitions (references_of query) answer.images (subst (λ (s : List TableTree). ImagesFit s (query_reads query) answer.images) over.1 (answer.fit (λ (none : shapes ≡ []). let no : shape ∷ others ≡ [] = sym some ∙ none in absurd cc))))
 
 -- ---- errors
 
@@ -249,18 +258,23 @@ short_fits notice short none = record {
   whole = omega (arith, length-notice_bytes notice);
 }
 
-error_fits : (number : ℤ) (row : Option ErrorLine) (name : List ℕ) (line : ℤ) (columns : List ColumnInfo) → FitsToken columns (error_of number row name line)
-error_fits number row name line columns =
-    short_fits (record { number = number; state = 1; class = class_of row; text = take 2000 (message_of row name); procedure = []; line = line }) (omega (arith, length-take 2000 (message_of row name))) (omega arith)
+-- what is told of an error or a message
+notice_fits : (raised : Raised) → FitsNotice (record { number = raised.number; state = raised.state; class = raised.class; text = take 2000 raised.text; procedure = []; line = raised.line })
+notice_fits raised =
+    short_fits (record { number = raised.number; state = raised.state; class = raised.class; text = take 2000 raised.text; procedure = []; line = raised.line }) (omega (arith, length-take 2000 raised.text)) (omega arith)
 
--- an error alone, and with a DONE behind it
-pub error_fit : (number : ℤ) (row : Option ErrorLine) (name : List ℕ) (line : ℤ) → IsFit (error_of number row name line ∷ [])
+-- an error, by what it ends
+pub told_fits : (action : Action) (command : ℕ) (raised : Raised) → IsFit (told_tokens action command raised)
 unfolding FitTokens
-error_fit number row name line = λ columns. (error_fits number row name line columns, tt)
+told_fits Batch command raised = λ columns. (notice_fits raised, tt)
+told_fits BatchAndTransaction command raised = λ columns. (notice_fits raised, tt)
+told_fits EndsStatement command raised = λ columns. (notice_fits raised, (tt, tt))
+told_fits Doom command raised = λ columns. (notice_fits raised, (tt, tt))
 
-pub error_done_fit : (number : ℤ) (row : Option ErrorLine) (name : List ℕ) (line : ℤ) (kind : DoneKind) (status command rows : ℕ) → IsFit (error_of number row name line ∷ Finished kind status command rows ∷ [])
+-- a message
+pub info_fits : (raised : Raised) → IsFit (info_token raised ∷ [])
 unfolding FitTokens
-error_done_fit number row name line kind status command rows = λ columns. (error_fits number row name line columns, (tt, tt))
+info_fits raised = λ columns. (notice_fits raised, tt)
 
 -- a DONE alone
 pub done_fit : (kind : DoneKind) (status command rows : ℕ) → IsFit (Finished kind status command rows ∷ [])
@@ -268,20 +282,30 @@ unfolding FitTokens
 done_fit kind status command rows = λ columns. (tt, tt)
 
 -- a batch's end
-pub batch_done_fit : (exit : Exit) → IsFit (batch_done exit ∷ [])
-batch_done_fit On = done_fit Done done_final command_none 0
-batch_done_fit End = done_fit Done done_error command_none 0
+pub batch_done_fit : (failed : Bool) → IsFit (batch_done failed ∷ [])
+batch_done_fit failed = done_fit Done (if failed then done_error else done_final) command_none 0
 
 -- so many rows were written
-pub written_fit : (command rows : ℕ) → IsFit (written_tokens command rows)
-written_fit command rows = done_fit Done (done_more + done_count) command rows
+pub written_fit : (no_count : Bool) (command rows : ℕ) → IsFit (statement_done no_count command rows ∷ [])
+written_fit no_count command rows = λ columns. told_fit no_count command rows columns
 
--- what a statement sends where it fails
-pub failure_fits : (statement : Served) (failure : Failure) (action : Action) → IsFit (failure_tokens statement failure action)
-failure_fits statement failure Batch = error_fit failure.number (row_of failure.number) (subject_of statement.form failure) statement.line
-failure_fits statement failure BatchAndTransaction = error_fit failure.number (row_of failure.number) (subject_of statement.form failure) statement.line
-failure_fits statement failure EndsStatement = error_done_fit failure.number (row_of failure.number) (subject_of statement.form failure) statement.line Done (done_more + done_error) (command_of statement.form) 0
-failure_fits statement failure Doom = error_done_fit failure.number (row_of failure.number) (subject_of statement.form failure) statement.line Done (done_more + done_error) (command_of statement.form) 0
+-- a transaction's change of environment
+pub env_fits : (kind : ℕ) (fresh former : List ℕ) → env_collation ≤ kind → kind ≤ env_rollback → length fresh ≤ 8 → length former ≤ 8 → IsFit (EnvBytes kind fresh former ∷ [])
+unfolding FitTokens
+env_fits kind fresh former low high one two = λ columns. ((low, high, omega (arith, one), omega (arith, two)), tt)
+
+-- its descriptor has eight bytes
+descriptor_small : (serial : ℕ) → length (descriptor serial) ≤ 8
+descriptor_small serial = let eight : length (descriptor serial) ≡ 8 = refl in omega arith
+
+pub begun_fits : (serial : ℕ) → IsFit (transaction_begun serial ∷ [])
+begun_fits serial = env_fits env_begin (descriptor serial) [] (omega arith) (omega arith) (descriptor_small serial) (omega arith)
+
+pub committed_fits : (serial : ℕ) → IsFit (transaction_committed serial ∷ [])
+committed_fits serial = env_fits env_commit [] (descriptor serial) (omega arith) (omega arith) (omega arith) (descriptor_small serial)
+
+pub rolled_back_fits : (serial : ℕ) → IsFit (transaction_rolled_back serial ∷ [])
+rolled_back_fits serial = env_fits env_rollback [] (descriptor serial) (omega arith) (omega arith) (omega arith) (descriptor_small serial)
 
 -- ---- by what was made
 
@@ -293,8 +317,3 @@ fits_as tokens made is fit = subst IsFit (sym is) fit
 pub fits_if : (added : Bool) (tokens first second : List Token) → tokens ≡ (if added then first ++ second else first) → IsFit first → IsFit second → IsFit tokens
 fits_if true tokens first second is one two = subst IsFit (sym is) (fit_both first second one two)
 fits_if false tokens first second is one two = subst IsFit (sym is) one
-
--- what a call has made
-pub made_fit : (made : List Token) → IsFit made → (result : Result (Vec Token Global) Memory) → IfOk result (λ tokens. tokens.items ≡ made) → IfOk result (λ tokens. IsFit tokens.items)
-made_fit made fit (Ok tokens) is = subst IsFit (sym is) fit
-made_fit made fit (Err memory) is = tt

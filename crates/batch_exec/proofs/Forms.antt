@@ -1,42 +1,166 @@
--- What is bound to nothing, by its form: CREATE TABLE, DROP, or another.
-use Rattle.std.proofs.Common.{◌≡◌, ◌≢◌, ℕ, List, Result, refl, sym, ap, ◌∙◌}
-use Rattle.tds_tokens.specs.declared.token.Token.{Token}
+-- The forms of statements, opened.
+use Rattle.std.proofs.Common.{◌≡◌, ◌≢◌, ℕ, List, Option, Result, refl, sym, ap, ◌∙◌, subst}
+use Rattle.value_types.specs.declared.memory.Memory.{Memory}
 use Rattle.tsql_tree.specs.declared.definition.TableTree.{TableTree}
+use Rattle.tsql_tree.specs.declared.option.SessionOption.{SessionOption}
+use Rattle.tsql_tree.specs.declared.query.Expr.{Expr}
+use Rattle.tsql_tree.specs.declared.query.Test.{Test}
+use Rattle.tsql_tree.specs.declared.query.Select.{Select}
+use Rattle.tsql_tree.specs.declared.statement.Assignment.{Assignment}
 use Rattle.tsql_tree.specs.declared.statement.DropKind.{DropKind}
+use Rattle.tsql_tree.specs.declared.statement.InsertRows.{InsertRows}
+use Rattle.tsql_tree.specs.declared.statement.Statement.{Statement}
 use Rattle.tsql_tree.specs.declared.statement.Form.{Form as TreeForm, Form-F, out-Form, roll-Form, out-roll-Form, roll-out-Form}
 use Rattle.tsql_tree.specs.declared.statement.Form.TheVariants as tree
-use Rattle.binder.specs.Names.{Layer}
+use Rattle.binder.specs.Names.{Layer, form_of}
+use Rattle.step_model.specs.Port.{PortPast}
+use Rattle.batch_meaning.specs.declared.exit.Exit.{Exit}
+use Rattle.batch_meaning.specs.declared.exit.Exit.TheVariants.{On}
+use Rattle.batch_meaning.specs.Raised.{Around}
+use Rattle.batch_meaning.specs.Progress.{SessionProgress}
+use Rattle.batch_meaning.specs.Doing.{Doing, Did}
+use Rattle.batch_meaning.specs.Meaning.{Meaning, does, mean_form}
+use Rattle.bound_tree.specs.declared.write.Bound.{Bound}
 use Rattle.batch_meaning.specs.declared.failure.Failure.{Failure}
-use Rattle.batch_meaning.specs.Doing.{Doing}
-use Rattle.batch_meaning.specs.Meaning.{fails, done_for, plain_unasked}
-use Rattle.batch_meaning.specs.Selecting.{not_built}
+use Rattle.batch_meaning.specs.Selecting.{Effect}
+use Rattle.batch_meaning.specs.Working.{computes, works, works_bound}
+use Rattle.batch_exec.specs.Selected.{IsSimple}
 
-pub is_create : (form : TreeForm) (table : TableTree) (text : List ℕ) → form ≡ tree.CreateTable table text → out-Form form ≡ Form-F.CreateTable table text
-is_create form table text is = ap out-Form (is ∙ sym (tree.rolls-CreateTable table text)) ∙ out-roll-Form (Form-F.CreateTable table text)
+module _ (form : TreeForm) where
+  pub is_If : (test : Test) (so : Statement) (otherwise : Option Statement) → form ≡ tree.If test so otherwise → out-Form form ≡ Form-F.If test so otherwise
+  is_If test so otherwise is = ap out-Form (is ∙ sym (tree.rolls-If test so otherwise)) ∙ out-roll-Form (Form-F.If test so otherwise)
 
-pub is_drop : (form : TreeForm) (kind : DropKind) (name : List ℕ) → form ≡ tree.Drop kind name → out-Form form ≡ Form-F.Drop kind name
-is_drop form kind name is = ap out-Form (is ∙ sym (tree.rolls-Drop kind name)) ∙ out-roll-Form (Form-F.Drop kind name)
+  pub is_While : (test : Test) (body : Statement) → form ≡ tree.While test body → out-Form form ≡ Form-F.While test body
+  is_While test body is = ap out-Form (is ∙ sym (tree.rolls-While test body)) ∙ out-roll-Form (Form-F.While test body)
 
--- it is another form than these two
-abbrev pub IsOther : TreeForm → Type 0
-IsOther form = ((table : TableTree) (text : List ℕ) → form ≢ tree.CreateTable table text) × ((kind : DropKind) (name : List ℕ) → form ≢ tree.Drop kind name)
+  pub is_Block : (body : List Statement) → form ≡ tree.Block body → out-Form form ≡ Form-F.Block body
+  is_Block body is = ap out-Form (is ∙ sym (tree.rolls-Block body)) ∙ out-roll-Form (Form-F.Block body)
 
--- a form of such a node
-rolled : (form : TreeForm) (node : Layer) (made : TreeForm) → out-Form form ≡ node → roll-Form node ≡ made → form ≡ made
-rolled form node made is rolls = sym (roll-out-Form form) ∙ ap roll-Form is ∙ rolls
+  pub is_TryCatch : (body handler : List Statement) → form ≡ tree.TryCatch body handler → out-Form form ≡ Form-F.TryCatch body handler
+  is_TryCatch body handler is = ap out-Form (is ∙ sym (tree.rolls-TryCatch body handler)) ∙ out-roll-Form (Form-F.TryCatch body handler)
 
-done_node : (form : TreeForm) (node : Layer) (shapes : List TableTree) → IsOther form → out-Form form ≡ node → done_for node shapes ≡ fails not_built
-done_node form (Form-F.CreateTable table text) shapes other is = absurd (other.0 table text (rolled form (Form-F.CreateTable table text) (tree.CreateTable table text) is (tree.rolls-CreateTable table text)))
-done_node form (Form-F.Drop kind name) shapes other is = absurd (other.1 kind name (rolled form (Form-F.Drop kind name) (tree.Drop kind name) is (tree.rolls-Drop kind name)))
-done_node form node shapes other is = refl
+  pub is_Print : (value : Expr) → form ≡ tree.Print value → out-Form form ≡ Form-F.Print value
+  is_Print value is = ap out-Form (is ∙ sym (tree.rolls-Print value)) ∙ out-roll-Form (Form-F.Print value)
 
-pub other_done : (form : TreeForm) (shapes : List TableTree) → IsOther form → done_for (out-Form form) shapes ≡ fails not_built
-other_done form shapes other = done_node form (out-Form form) shapes other refl
+  pub is_RaiseError : (value class state : Expr) → form ≡ tree.RaiseError value class state → out-Form form ≡ Form-F.RaiseError value class state
+  is_RaiseError value class state is = ap out-Form (is ∙ sym (tree.rolls-RaiseError value class state)) ∙ out-roll-Form (Form-F.RaiseError value class state)
 
-unasked_node : (form : TreeForm) (node : Layer) (work : Doing (Result (List Token) Failure)) → IsOther form → out-Form form ≡ node → plain_unasked node work ≡ fails not_built
-unasked_node form (Form-F.CreateTable table text) work other is = absurd (other.0 table text (rolled form (Form-F.CreateTable table text) (tree.CreateTable table text) is (tree.rolls-CreateTable table text)))
-unasked_node form (Form-F.Drop kind name) work other is = absurd (other.1 kind name (rolled form (Form-F.Drop kind name) (tree.Drop kind name) is (tree.rolls-Drop kind name)))
-unasked_node form node work other is = refl
+  pub is_Throw : (number value state : Expr) → form ≡ tree.Throw number value state → out-Form form ≡ Form-F.Throw number value state
+  is_Throw number value state is = ap out-Form (is ∙ sym (tree.rolls-Throw number value state)) ∙ out-roll-Form (Form-F.Throw number value state)
 
-pub other_unasked : (form : TreeForm) (work : Doing (Result (List Token) Failure)) → IsOther form → plain_unasked (out-Form form) work ≡ fails not_built
-other_unasked form work other = unasked_node form (out-Form form) work other refl
+  pub is_Return : (value : Option Expr) → form ≡ tree.Return value → out-Form form ≡ Form-F.Return value
+  is_Return value is = ap out-Form (is ∙ sym (tree.rolls-Return value)) ∙ out-roll-Form (Form-F.Return value)
+
+  pub is_SetOption : (option : SessionOption) → form ≡ tree.SetOption option → out-Form form ≡ Form-F.SetOption option
+  is_SetOption option is = ap out-Form (is ∙ sym (tree.rolls-SetOption option)) ∙ out-roll-Form (Form-F.SetOption option)
+
+  pub is_BeginTransaction : (name : Option (List ℕ)) → form ≡ tree.BeginTransaction name → out-Form form ≡ Form-F.BeginTransaction name
+  is_BeginTransaction name is = ap out-Form (is ∙ sym (tree.rolls-BeginTransaction name)) ∙ out-roll-Form (Form-F.BeginTransaction name)
+
+  pub is_Commit : (name : Option (List ℕ)) → form ≡ tree.Commit name → out-Form form ≡ Form-F.Commit name
+  is_Commit name is = ap out-Form (is ∙ sym (tree.rolls-Commit name)) ∙ out-roll-Form (Form-F.Commit name)
+
+  pub is_Rollback : (name : Option (List ℕ)) → form ≡ tree.Rollback name → out-Form form ≡ Form-F.Rollback name
+  is_Rollback name is = ap out-Form (is ∙ sym (tree.rolls-Rollback name)) ∙ out-roll-Form (Form-F.Rollback name)
+
+  pub is_Save : (name : List ℕ) → form ≡ tree.Save name → out-Form form ≡ Form-F.Save name
+  is_Save name is = ap out-Form (is ∙ sym (tree.rolls-Save name)) ∙ out-roll-Form (Form-F.Save name)
+
+  pub is_CreateTable : (table : TableTree) (text : List ℕ) → form ≡ tree.CreateTable table text → out-Form form ≡ Form-F.CreateTable table text
+  is_CreateTable table text is = ap out-Form (is ∙ sym (tree.rolls-CreateTable table text)) ∙ out-roll-Form (Form-F.CreateTable table text)
+
+  pub is_Select : (select : Select) → form ≡ tree.Select select → out-Form form ≡ Form-F.Select select
+  is_Select select is = ap out-Form (is ∙ sym (tree.rolls-Select select)) ∙ out-roll-Form (Form-F.Select select)
+
+  pub is_Insert : (table : List ℕ) (columns : List (List ℕ)) (rows : InsertRows) → form ≡ tree.Insert table columns rows → out-Form form ≡ Form-F.Insert table columns rows
+  is_Insert table columns rows is = ap out-Form (is ∙ sym (tree.rolls-Insert table columns rows)) ∙ out-roll-Form (Form-F.Insert table columns rows)
+
+  pub is_Update : (table : List ℕ) (sets : List Assignment) (filter : Option Test) → form ≡ tree.Update table sets filter → out-Form form ≡ Form-F.Update table sets filter
+  is_Update table sets filter is = ap out-Form (is ∙ sym (tree.rolls-Update table sets filter)) ∙ out-roll-Form (Form-F.Update table sets filter)
+
+  pub is_Delete : (table : List ℕ) (filter : Option Test) → form ≡ tree.Delete table filter → out-Form form ≡ Form-F.Delete table filter
+  is_Delete table filter is = ap out-Form (is ∙ sym (tree.rolls-Delete table filter)) ∙ out-roll-Form (Form-F.Delete table filter)
+
+  pub is_Drop : (kind : DropKind) (name : List ℕ) → form ≡ tree.Drop kind name → out-Form form ≡ Form-F.Drop kind name
+  is_Drop kind name is = ap out-Form (is ∙ sym (tree.rolls-Drop kind name)) ∙ out-roll-Form (Form-F.Drop kind name)
+
+  pub is_Break : form ≡ tree.Break → out-Form form ≡ Form-F.Break
+  is_Break is = ap out-Form (is ∙ sym tree.rolls-Break) ∙ out-roll-Form Form-F.Break
+
+  pub is_Continue : form ≡ tree.Continue → out-Form form ≡ Form-F.Continue
+  is_Continue is = ap out-Form (is ∙ sym tree.rolls-Continue) ∙ out-roll-Form Form-F.Continue
+
+  pub is_ThrowAgain : form ≡ tree.ThrowAgain → out-Form form ≡ Form-F.ThrowAgain
+  is_ThrowAgain is = ap out-Form (is ∙ sym tree.rolls-ThrowAgain) ∙ out-roll-Form Form-F.ThrowAgain
+
+  -- a form of such a node
+  rolled : (node : Layer) (made : TreeForm) → out-Form form ≡ node → roll-Form node ≡ made → form ≡ made
+  rolled node made is rolls = sym (roll-out-Form form) ∙ ap roll-Form is ∙ rolls
+
+-- it is done with its effect: none of these forms
+abbrev pub IsWorked : TreeForm → Type 0
+IsWorked form = (form ≢ tree.Break)
+    × (form ≢ tree.Continue)
+    × ((value : Expr) → form ≢ tree.Print value)
+    × ((value : Expr) (class : Expr) (state : Expr) → form ≢ tree.RaiseError value class state)
+    × ((number : Expr) (value : Expr) (state : Expr) → form ≢ tree.Throw number value state)
+    × (form ≢ tree.ThrowAgain)
+    × ((option : SessionOption) → form ≢ tree.SetOption option)
+    × ((value : Option Expr) → form ≢ tree.Return value)
+    × ((name : Option (List ℕ)) → form ≢ tree.BeginTransaction name)
+    × ((name : Option (List ℕ)) → form ≢ tree.Commit name)
+    × ((name : Option (List ℕ)) → form ≢ tree.Rollback name)
+    × ((name : List ℕ) → form ≢ tree.Save name)
+    × ((table : TableTree) (text : List ℕ) → form ≢ tree.CreateTable table text)
+
+worked_node : (form : TreeForm) (node : Layer) (one : Statement → Meaning) (around : Around) (s : Statement) → IsSimple node → IsWorked form → out-Form form ≡ node → mean_form one around s node ≡ does around s On (works around s)
+unfolding mean_form
+worked_node form (Form-F.If test so otherwise) one around s simple other is = absurd simple
+worked_node form (Form-F.While test body) one around s simple other is = absurd simple
+worked_node form (Form-F.Block body) one around s simple other is = absurd simple
+worked_node form (Form-F.TryCatch body handler) one around s simple other is = absurd simple
+worked_node form Form-F.Break one around s simple other is = absurd (other.0 (rolled form Form-F.Break tree.Break is tree.rolls-Break))
+worked_node form Form-F.Continue one around s simple other is = absurd (other.1 (rolled form Form-F.Continue tree.Continue is tree.rolls-Continue))
+worked_node form (Form-F.Print value) one around s simple other is = absurd (other.2 value (rolled form (Form-F.Print value) (tree.Print value) is (tree.rolls-Print value)))
+worked_node form (Form-F.RaiseError value class state) one around s simple other is = absurd (other.3 value class state (rolled form (Form-F.RaiseError value class state) (tree.RaiseError value class state) is (tree.rolls-RaiseError value class state)))
+worked_node form (Form-F.Throw number value state) one around s simple other is = absurd (other.4 number value state (rolled form (Form-F.Throw number value state) (tree.Throw number value state) is (tree.rolls-Throw number value state)))
+worked_node form Form-F.ThrowAgain one around s simple other is = absurd (other.5 (rolled form Form-F.ThrowAgain tree.ThrowAgain is tree.rolls-ThrowAgain))
+worked_node form (Form-F.SetOption option) one around s simple other is = absurd (other.6 option (rolled form (Form-F.SetOption option) (tree.SetOption option) is (tree.rolls-SetOption option)))
+worked_node form (Form-F.Return value) one around s simple other is = absurd (other.7 value (rolled form (Form-F.Return value) (tree.Return value) is (tree.rolls-Return value)))
+worked_node form (Form-F.BeginTransaction name) one around s simple other is = absurd (other.8 name (rolled form (Form-F.BeginTransaction name) (tree.BeginTransaction name) is (tree.rolls-BeginTransaction name)))
+worked_node form (Form-F.Commit name) one around s simple other is = absurd (other.9 name (rolled form (Form-F.Commit name) (tree.Commit name) is (tree.rolls-Commit name)))
+worked_node form (Form-F.Rollback name) one around s simple other is = absurd (other.10 name (rolled form (Form-F.Rollback name) (tree.Rollback name) is (tree.rolls-Rollback name)))
+worked_node form (Form-F.Save name) one around s simple other is = absurd (other.11 name (rolled form (Form-F.Save name) (tree.Save name) is (tree.rolls-Save name)))
+worked_node form (Form-F.CreateTable table text) one around s simple other is = absurd (other.12 table text (rolled form (Form-F.CreateTable table text) (tree.CreateTable table text) is (tree.rolls-CreateTable table text)))
+worked_node form node one around s simple other is = refl
+
+pub does_worked : {before after : PortPast} (one : Statement → Meaning) (around : Around) (s : Statement) (form : TreeForm) {p new : SessionProgress} {result : Result Exit Memory} → out-Form form ≡ form_of s → IsSimple (form_of s) → IsWorked form
+    → Did before after (does around s On (works around s)) p result new → Did before after (mean_form one around s (form_of s)) p result new
+does_worked {before = before} {after = after} one around s form {p = p} {new = new} {result = result} is simple other did =
+    subst (λ (tree : Doing Exit). Did before after tree p result new) (sym (worked_node form (form_of s) one around s simple other is)) did
+
+-- it is done with what is made of the values of expressions: none of these forms
+abbrev pub IsComputed : TreeForm → Type 0
+IsComputed form = ((select : Select) → form ≢ tree.Select select)
+    × ((table : List ℕ) (columns : List (List ℕ)) (rows : InsertRows) → form ≢ tree.Insert table columns rows)
+    × ((table : List ℕ) (sets : List Assignment) (filter : Option Test) → form ≢ tree.Update table sets filter)
+    × ((table : List ℕ) (filter : Option Test) → form ≢ tree.Delete table filter)
+    × ((kind : DropKind) (name : List ℕ) → form ≢ tree.Drop kind name)
+
+computed_node : (form : TreeForm) (node : Layer) (around : Around) (shapes : List TableTree) (of : Bound) → IsComputed form → out-Form form ≡ node → works_bound around node shapes of ≡ computes around node shapes of
+computed_node form (Form-F.Select select) around shapes of other is = absurd (other.0 select (rolled form (Form-F.Select select) (tree.Select select) is (tree.rolls-Select select)))
+computed_node form (Form-F.Insert table columns rows) around shapes of other is = absurd (other.1 table columns rows (rolled form (Form-F.Insert table columns rows) (tree.Insert table columns rows) is (tree.rolls-Insert table columns rows)))
+computed_node form (Form-F.Update table sets filter) around shapes of other is = absurd (other.2 table sets filter (rolled form (Form-F.Update table sets filter) (tree.Update table sets filter) is (tree.rolls-Update table sets filter)))
+computed_node form (Form-F.Delete table filter) around shapes of other is = absurd (other.3 table filter (rolled form (Form-F.Delete table filter) (tree.Delete table filter) is (tree.rolls-Delete table filter)))
+computed_node form (Form-F.Drop kind name) around shapes of other is = absurd (other.4 kind name (rolled form (Form-F.Drop kind name) (tree.Drop kind name) is (tree.rolls-Drop kind name)))
+computed_node form node around shapes of other is = refl
+
+pub does_computed : {before after : PortPast} (around : Around) (form : TreeForm) (shapes : List TableTree) (of : Bound) {p new : SessionProgress} {result : Result (Result Effect Failure) Memory} → IsComputed form
+    → Did before after (computes around (out-Form form) shapes of) p result new → Did before after (works_bound around (out-Form form) shapes of) p result new
+does_computed {before = before} {after = after} around form shapes of {p = p} {new = new} {result = result} other did =
+    subst (λ (tree : Doing (Result Effect Failure)). Did before after tree p result new) (sym (computed_node form (out-Form form) around shapes of other refl)) did
+
+-- by its form
+pub does_form : {before after : PortPast} (one : Statement → Meaning) (around : Around) (s : Statement) (node : Layer) {p new : SessionProgress} {result : Result Exit Memory} → form_of s ≡ node
+    → Did before after (mean_form one around s node) p result new → Did before after (mean_form one around s (form_of s)) p result new
+does_form {before = before} {after = after} one around s node {p = p} {new = new} {result = result} is did = subst (λ (n : Layer). Did before after (mean_form one around s n) p result new) (sym is) did

@@ -11,6 +11,8 @@ use Rattle.constraint_check.specs.Reads.{shape_of}
 use Rattle.step_model.specs.declared.manner.Manner.{Manner}
 use Rattle.step_model.specs.declared.op.Op.{Op}
 use Rattle.step_model.specs.declared.op.Op.TheVariants.{Fetch}
+use Rattle.step_model.specs.declared.range.Start.{Start}
+use Rattle.step_model.specs.declared.range.Start.TheVariants.{Past}
 use Rattle.step_model.specs.declared.reply.Reply.{Reply}
 use Rattle.step_model.specs.declared.reply.Reply.TheVariants as replies
 use Rattle.step_model.specs.Dialog.{Dialog, over, asks, room, never, ◌then◌, Held, Asks}
@@ -20,8 +22,8 @@ use Rattle.step_model.specs.Ranges.{Keeps, Rows, range_limit, with_row}
 use Rattle.dml_exec.specs.declared.refusal.Level.{Level}
 use Rattle.dml_exec.specs.declared.refusal.Refusal.{Refusal}
 use Rattle.dml_exec.specs.declared.refusal.Refusal.TheVariants.{Memory}
-use Rattle.dml_exec.specs.Asking.{on_ok, with_room}
-use Rattle.dml_exec.specs.Reading.{TableRead, fetches, fits, images_from, images_of, past, read_by, reads_of, reads_on, reads_table, rows_from, rows_in, table_fetch}
+use Rattle.dml_exec.specs.Asking.{on_ok, with_room, with_room_if}
+use Rattle.dml_exec.specs.Reading.{TableRead, behind_gone, fetches, fits, from, images_from, images_of, is_short, key_width, read_by, reads_of, reads_on, reads_table, rows_from, rows_in, table_fetch}
 use Rattle.batch_exec.specs.Selected.{AreKept, ImagesFit}
 
 -- ---- dialogs, by what they come to
@@ -52,11 +54,11 @@ no_failure is = absurd cc
 
 -- ---- the rows of a range
 
--- these rows so far, and the key to go on from, or none
-abbrev came_to : Rows → Option (List Value) → Result (Rows × Option (List Value)) Refusal
+-- these rows so far, and where to go on, or nothing
+abbrev came_to : Rows → Option Start → Result (Rows × Option Start) Refusal
 came_to rows next = Ok (rows, next)
 
-abbrev rows_so_far : Result (Rows × Option (List Value)) Refusal → Rows
+abbrev rows_so_far : Result (Rows × Option Start) Refusal → Rows
 rows_so_far (Ok came) = came.0
 rows_so_far (Err refusal) = []
 
@@ -65,43 +67,53 @@ rows_or_none (Ok rows) = rows
 rows_or_none (Err refusal) = []
 
 -- what holds of the rows so far, and stays with each that is kept, holds of all
-module _ (manner : Manner) (keeps : Keeps) (P : Rows → Type 0) (stays : (rows : Rows) (key row : List Value) → P rows → P (with_row keeps rows key row)) where
-  row_added : (so_far more : Rows) (key row : List Value) (next : Option (List Value)) (enough : Bool) (exchanges : List Exchange) → P so_far
-      → Held manner (if enough then over (came_to (with_row keeps so_far key row) (Some key)) else over (Err Memory)) exchanges (came_to more next) → P more
+module _ (manner : Manner) (width : ℕ) (keeps : Keeps) (P : Rows → Type 0) (stays : (rows : Rows) (key row : List Value) → P rows → P (with_row keeps rows key row)) where
+  row_added : (so_far more : Rows) (key row : List Value) (next : Option Start) (enough : Bool) (exchanges : List Exchange) → P so_far
+      → Held manner (if enough then over (came_to (with_row keeps so_far key row) (Some (Past key))) else over (Err Memory)) exchanges (came_to more next) → P more
   unfolding Held
   row_added so_far more key row next true exchanges holds held = subst P (sym (ap rows_so_far held.1)) (stays so_far key row holds)
   row_added so_far more key row next false exchanges holds held = no_failure held.1
 
-  reply_keeps : (so_far more : Rows) (next : Option (List Value)) (reply : Reply) (exchanges : List Exchange) → P so_far → Held manner (read_by keeps so_far reply) exchanges (came_to more next) → P more
+  none_added : (so_far more : Rows) (start : Start) (next : Option Start) (wants : Bool) (exchanges : List Exchange) → P so_far
+      → Held manner (with_room_if wants Memory (over (came_to so_far (Some start)))) exchanges (came_to more next) → P more
+  unfolding Held
+  none_added so_far more start next true exchanges holds held = enough_so held.0 held.1
+    where
+      enough_so : (enough : Bool) → Held manner (if enough then over (came_to so_far (Some start)) else over (Err Memory)) exchanges (came_to more next) → P more
+      enough_so true went = subst P (sym (ap rows_so_far went.1)) holds
+      enough_so false went = no_failure went.1
+  none_added so_far more start next false exchanges holds held = subst P (sym (ap rows_so_far held.1)) holds
+
+  reply_keeps : (so_far more : Rows) (next : Option Start) (reply : Reply) (exchanges : List Exchange) → P so_far → Held manner (read_by width keeps so_far reply) exchanges (came_to more next) → P more
   unfolding Held
   reply_keeps so_far more next (replies.Row key row at) exchanges holds held = row_added so_far more key row next held.0 exchanges holds held.1
-  reply_keeps so_far more next (replies.Gone key at) exchanges holds held = subst P (sym (ap rows_so_far held.1)) holds
+  reply_keeps so_far more next (replies.Gone key at) exchanges holds held = none_added so_far more (behind_gone width key) next (is_short width key) exchanges holds held
   reply_keeps so_far more next (replies.End at) exchanges holds held = subst P (sym (ap rows_so_far held.1)) holds
   reply_keeps so_far more next replies.Memory exchanges holds held = no_failure held.1
   reply_keeps so_far more next (replies.TimedOut holder kind asked on) exchanges holds held = no_failure held.1
   reply_keeps so_far more next (replies.Victim cycle) exchanges holds held = no_failure held.1
   reply_keeps so_far more next reply exchanges holds held = absurd held
 
-  fetch_keeps : (op : Op) (so_far more : Rows) (next : Option (List Value)) (exchanges : List Exchange) → P so_far → Held manner (fetches keeps op so_far) exchanges (came_to more next) → P more
+  fetch_keeps : (op : Op) (so_far more : Rows) (next : Option Start) (exchanges : List Exchange) → P so_far → Held manner (fetches width keeps op so_far) exchanges (came_to more next) → P more
   unfolding Held
   fetch_keeps (Fetch table start stop hold part) so_far more next [] holds held = absurd held
   fetch_keeps (Fetch table start stop hold part) so_far more next (x ∷ later) holds held = reply_keeps so_far more next x.reply later holds held.3
   fetch_keeps op so_far more next exchanges holds held = absurd held
 
-  rest_keeps : (op : Op) (so_far rows : Rows) (next : List Value → Rows → Dialog (Result Rows Refusal)) → P so_far
-      → ((key : List Value) (more : Rows) (exchanges : List Exchange) → P more → Held manner (next key more) exchanges (Ok rows) → P rows)
-      → (first : Result (Rows × Option (List Value)) Refusal) → Comes manner (fetches keeps op so_far) first → Comes manner (on_ok (reads_on (λ more key. next key more)) first) (Ok rows) → P rows
+  rest_keeps : (op : Op) (so_far rows : Rows) (next : Start → Rows → Dialog (Result Rows Refusal)) → P so_far
+      → ((start : Start) (more : Rows) (exchanges : List Exchange) → P more → Held manner (next start more) exchanges (Ok rows) → P rows)
+      → (first : Result (Rows × Option Start) Refusal) → Comes manner (fetches width keeps op so_far) first → Comes manner (on_ok (reads_on (λ more start. next start more)) first) (Ok rows) → P rows
   unfolding Held
   rest_keeps op so_far rows next holds goes (Err refusal) came rest = no_failure rest.1.1
   rest_keeps op so_far rows next holds goes (Ok (more, None)) came rest = subst P (sym (ap rows_or_none rest.1.1)) (fetch_keeps op so_far more None came.0 holds came.1)
-  rest_keeps op so_far rows next holds goes (Ok (more, Some key)) came rest = goes key more rest.0 (fetch_keeps op so_far more (Some key) came.0 holds came.1) rest.1
+  rest_keeps op so_far rows next holds goes (Ok (more, Some start)) came rest = goes start more rest.0 (fetch_keeps op so_far more (Some start) came.0 holds came.1) rest.1
 
-  range_keeps : (left : ℕ) (op : Op) (so_far rows : Rows) (exchanges : List Exchange) → P so_far → Held manner (rows_from keeps left op so_far) exchanges (Ok rows) → P rows
+  range_keeps : (left : ℕ) (op : Op) (so_far rows : Rows) (exchanges : List Exchange) → P so_far → Held manner (rows_from width keeps left op so_far) exchanges (Ok rows) → P rows
   unfolding rows_from Held
   range_keeps zero op so_far rows exchanges holds held = no_failure held.1
   range_keeps (suc left) op so_far rows exchanges holds held =
-      let b = behind manner (fetches keeps op so_far) (on_ok (reads_on (λ more key. rows_from keeps left (past op key) more))) exchanges (Ok rows) held in
-      rest_keeps op so_far rows (λ key more. rows_from keeps left (past op key) more) holds (λ key more later kept went. range_keeps left (past op key) more rows later kept went) b.first b.came b.more
+      let b = behind manner (fetches width keeps op so_far) (on_ok (reads_on (λ more start. rows_from width keeps left (from start op) more))) exchanges (Ok rows) held in
+      rest_keeps op so_far rows (λ start more. rows_from width keeps left (from start op) more) holds (λ start more later kept went. range_keeps left (from start op) more rows later kept went) b.first b.came b.more
 
 -- ---- the rows of a table
 
@@ -123,7 +135,7 @@ table_kept : (manner : Manner) (shapes : List TableTree) (level : Level) (read :
 unfolding reads_table rows_in
 table_kept manner shapes level read rows came =
     let shape = shape_of read.0 shapes in
-    range_keeps manner (fits shape) (AreKept shape) (kept_stays shape) range_limit (table_fetch level read) [] rows came.0 (none_kept shape) came.1
+    range_keeps manner (key_width shape) (fits shape) (AreKept shape) (kept_stays shape) range_limit (table_fetch level read) [] rows came.0 (none_kept shape) came.1
 
 -- ---- the images of a statement
 

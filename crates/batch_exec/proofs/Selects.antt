@@ -1,5 +1,5 @@
 -- What a SELECT does: parts that want memory, and lists that are gone through.
-use Rattle.std.proofs.Common.{◌≡◌, ℕ, suc, ◌+◌, ◌<◌, ◌≤◌, inl, inr, Bool, true, false, if◌then◌else◌, List, ◌∷◌, drop, length, get_or, add-one, Option, None, Some, Result, Ok, Err, refl, sym, ap, ◌∙◌, subst}
+use Rattle.std.proofs.Common.{◌≡◌, ℕ, suc, ◌+◌, ◌<◌, ◌≤◌, inl, inr, Bool, true, false, if◌then◌else◌, List, ◌∷◌, ◌++◌, drop, length, get_or, add-one, [], Option, None, Some, Result, Ok, Err, is_ok, not, refl, sym, ap, ◌∙◌, subst}
 use Rattle.std.proofs.Math.Seq.{drop-cons}
 use Rattle.std.proofs.lemmas.List.{drop_all}
 use Rattle.value_types.specs.declared.value.Value.{Value}
@@ -10,20 +10,29 @@ use Rattle.std.specs.Result.{IsErr, IsErrAnd}
 use Rattle.std.specs.declared.alloc.Global.{Global}
 use Rattle.std.specs.declared.vec.Vec.{Vec}
 use Rattle.dml_exec.specs.Asking.{beside, seen}
+use Rattle.dml_exec.specs.declared.refusal.Level.{Level}
+use Rattle.dml_exec.specs.Reading.{images_of}
+use Rattle.tsql_tree.specs.declared.definition.TableTree.{TableTree}
+use Rattle.bound_tree.specs.declared.write.Bound.{Bound}
+use Rattle.step_model.specs.Ranges.{Rows}
 use Rattle.value_types.specs.declared.memory.Memory.{Memory}
 use Rattle.batch_meaning.specs.declared.failure.Failure.{Failure}
-use Rattle.batch_meaning.specs.Failures.{plain}
-use Rattle.std.specs.Prelude.{nat_lt}
+use Rattle.batch_meaning.specs.Progress.{SessionProgress, SessionStep, assigns, made, tells_rows}
+use Rattle.batch_meaning.specs.Doing.{Doing, ◌then◌, over, reads, makes, room, defines, Held, Left, Did, Leads}
+use Rattle.batch_meaning.specs.Asking.{assigns_all, on_ok, ◌>>=◌, fails, fails_naming, with_room, look_up, looks_up, is_table, with_found, defined_by, holds, reads_at, unless_stopped}
+use Rattle.step_model.proofs.Pasts.{goes_nowhere}
+use Rattle.batch_meaning.specs.declared.home.Home.{Home}
+use Rattle.batch_meaning.specs.declared.home.Home.TheVariants.{Nowhere}
+use Rattle.batch_meaning.specs.Working.{asks_any, enters, leaves, own}
+use Rattle.batch_meaning.proofs.Composed.{does_bind, does_fail, does_over, does_reads, left_nothing, does_room, does_then, does_yes, does_defines, leads_then, leads_to, leads_yes, leads_no}
+use Rattle.catalog_rows.specs.Definitions.{is_objects}
 use Rattle.tds_tokens.specs.declared.token.Token.{Token}
-use Rattle.batch_meaning.specs.Progress.{SessionProgress, size_of}
-use Rattle.batch_meaning.specs.Doing.{Doing, ◌then◌, over, defines, Did, Leads}
-use Rattle.batch_meaning.specs.Meaning.{on_ok, ◌>>=◌, fails, fails_naming, with_room, if_bytes_left, look_up, looks_up, is_table, with_found, defined_by}
-use Rattle.tsql_tree.specs.declared.statement.Statement.{Statement}
-use Rattle.bound_tree.specs.declared.write.Bound.{Bound}
-use Rattle.batch_meaning.specs.Selecting.{bound_over, result_full}
-use Rattle.batch_meaning.proofs.Composed.{does_fail, does_over, does_reads, does_room, does_then, does_defines, leads_then, leads_to, leads_yes, leads_no}
+use Rattle.binder.specs.Names.{Layer}
+use Rattle.batch_meaning.specs.declared.exit.Exit.{Exit}
+use Rattle.batch_meaning.specs.Meaning.{counted, leaves_rows, sends_some}
+use Rattle.batch_meaning.specs.Values.{Assigned}
 use Rattle.batch_exec.specs.Fetched.{IsKeyDefined}
-use Rattle.batch_exec.specs.Selected.{IsOrMemory, IsDefined, IsNamed, roomed}
+use Rattle.batch_exec.specs.Selected.{IsOrMemory, IsDefined, IsNamed, Stepped, assigned_all, sent_some}
 
 -- a part that wants memory, and is done at once
 pub does_result : {past : PortPast} {A : Type 0} (meant result : Result A Failure) {p : SessionProgress} → IsOrMemory meant result → Did past past (with_room (over meant)) p (Ok result) p
@@ -44,14 +53,6 @@ does_failed tree go first = does_then tree (on_ok go) first (does_over refl)
 pub does_made : {past : PortPast} {A : Type 0} {made result : A} {p : SessionProgress} → result ≡ made → Did past past (over made) p (Ok result) p
 does_made {past = past} {made = made} {p = p} is = subst (λ r. Did past past (over made) p (Ok r) p) (sym is) (does_over refl)
 
--- whether there is room for tokens
-pub does_roomed : {past : PortPast} (tokens : List Token) {result : Result (List Token) Failure} {p : SessionProgress} → result ≡ roomed tokens p → Did past past (if_bytes_left tokens) p (Ok result) p
-does_roomed {past = past} tokens {p = p} is = subst (λ r. Did past past (if_bytes_left tokens) p (Ok r) p) (sym is) (does_reads (by_test (nat_lt p.bytes_left (size_of tokens))))
-  where
-    by_test : (full : Bool) → Did past past (if full then fails result_full else over (Ok tokens)) p (Ok (if full then Err (plain result_full) else Ok tokens)) p
-    by_test true = does_over refl
-    by_test false = does_over refl
-
 -- what a row defines
 pub does_defined : {past : PortPast} (row : List Value) (result : Result (Option Definition) Failure) {p : SessionProgress} → IsDefined row result → Did past past (with_room (defines row (λ found. over (Ok found)))) p (Ok result) p
 does_defined row (Ok found) is = does_room true (does_defines found is (does_over refl))
@@ -59,7 +60,7 @@ does_defined {past = past} row (Err failure) {p = p} is = subst (λ (f : Failure
 
 -- ---- one after another
 
-next_of : {A : Type 0} (l : List A) (i : ℕ) (item : A) → item ≡ get_or l i item → i < length l → drop i l ≡ item ∷ drop (i + 1) l
+pub next_of : {A : Type 0} (l : List A) (i : ℕ) (item : A) → item ≡ get_or l i item → i < length l → drop i l ≡ item ∷ drop (i + 1) l
 next_of {A = A} l i item is within = drop-cons l i item within ∙ ap (λ (x : A). x ∷ drop (suc i) l) (sym is) ∙ ap (λ (n : ℕ). item ∷ drop n l) (sym (add-one i))
 
 -- the next name is looked up
@@ -109,7 +110,121 @@ pub fails_seen : {before mid : PortPast} {A B : Type 0} (tree : Doing (Result A 
 fails_seen tree go (Ok v) err same first = absurd (let no : false ≡ true = err in cc)
 fails_seen tree go (Err x) err same first = does_fail tree go (Err x) err same first
 
--- what a statement is bound to, by the definitions and the result that are told of
-pub bound_at : (statement : Statement) (given definitions : List Definition) (result came : Result Bound Failure) → given ≡ definitions → result ≡ came → IsOrMemory (bound_over given statement) result → IsOrMemory (bound_over definitions statement) came
-bound_at statement given definitions result came same is meant =
-    subst (λ (r : Result Bound Failure). IsOrMemory (bound_over definitions statement) r) is (subst (λ (d : List Definition). IsOrMemory (bound_over d statement) result) same meant)
+-- ---- parts that read how far the session has come
+
+-- what wants memory, by the progress
+pub does_read : {past : PortPast} {A : Type 0} (of : SessionProgress → Result A Failure) (result : Result A Failure) {p : SessionProgress} → IsOrMemory (of p) result → Did past past (reads λ q. with_room (over (of q))) p (Ok result) p
+does_read of result {p = p} is = does_reads (does_result (of p) result is)
+
+-- and behind it the rest
+pub does_read_on : {past after : PortPast} {A B : Type 0} (of : SessionProgress → Result A Failure) (go : A → Doing (Result B Failure)) {a : A} {p new : SessionProgress} {result : Result (Result B Failure) Memory}
+    → IsOrMemory (of p) (Ok a) → Did past after (go a) p result new → Did past after ((reads λ q. with_room (over (of q))) >>= go) p result new
+does_read_on of go {a = a} is more = does_then (reads λ q. with_room (over (of q))) (on_ok go) (does_read of (Ok a) is) more
+
+-- what is done without the port
+pub does_stepped : {past : PortPast} {A : Type 0} {tree : Doing A} {p new : SessionProgress} {result : Result A Memory} → Stepped tree p result new → Did past past tree p result new
+does_stepped {past = past} was = record { exchanges = []; past = goes_nowhere past; came = was.came }
+
+pub stepped_over : {A : Type 0} {a : A} {p new : SessionProgress} → new ≡ p → Stepped (over a) p (Ok a) new
+unfolding Held
+stepped_over same = record { came = (refl, refl, same) }
+
+pub stepped_made : {A : Type 0} {made result : A} {p : SessionProgress} → result ≡ made → Stepped (over made) p (Ok result) p
+stepped_made {made = made} {p = p} is = subst (λ r. Stepped (over made) p (Ok r) p) (sym is) (stepped_over refl)
+
+pub stepped_makes : {A : Type 0} {step : SessionStep} {next : Doing A} {p q new : SessionProgress} {result : Result A Memory} → q ≡ made step p → Stepped next q result new → Stepped (makes step next) p result new
+unfolding Held Left
+stepped_makes {next = next} {new = new} {result = Ok a} same was = record { came = subst (λ (x : SessionProgress). Held next x [] a new) same was.came }
+stepped_makes {next = next} {new = new} {result = Err m} same was = record { came = inr (subst (λ (x : SessionProgress). Left next x [] new) same was.came) }
+
+pub stepped_out : {A : Type 0} {tree : Doing A} {p new : SessionProgress} (result : Result A Memory) → IsErr result → new ≡ p → Stepped tree p result new
+stepped_out (Ok a) err same = absurd (let no : false ≡ true = err in cc)
+stepped_out {tree = tree} {p = p} (Err memory) err same = record { came = subst (λ (x : SessionProgress). Left tree p [] x) (sym same) (left_nothing tree p) }
+
+pub stepped_yes : {A : Type 0} (test : Bool) (first other : Doing A) {p new : SessionProgress} {result : Result A Memory} → test ≡ true → Stepped first p result new → Stepped (if test then first else other) p result new
+stepped_yes test first other holds was = rw holds was
+
+pub stepped_no : {A : Type 0} (test : Bool) (first other : Doing A) {p new : SessionProgress} {result : Result A Memory} → test ≡ false → Stepped other p result new → Stepped (if test then first else other) p result new
+stepped_no test first other fails was = rw fails was
+
+pub stepped_reads : {A : Type 0} {look : SessionProgress → Doing A} {p new : SessionProgress} {result : Result A Memory} → Stepped (look p) p result new → Stepped (reads look) p result new
+unfolding Held Left
+stepped_reads {result = Ok a} was = record { came = was.came }
+stepped_reads {result = Err m} was = record { came = was.came }
+
+pub stepped_room : {A : Type 0} {go : Bool → Doing A} {p new : SessionProgress} {result : Result A Memory} (enough : Bool) → Stepped (go enough) p result new → Stepped (room go) p result new
+unfolding Held Left
+stepped_room {result = Ok a} enough was = record { came = (enough, was.came) }
+stepped_room {result = Err m} enough was = record { came = (enough, was.came) }
+
+-- ---- a statement's transaction
+
+-- entered, worked in, and left
+pub does_own : {before begun worked after : PortPast} {A : Type 0} (asks_any : Bool) (work : Doing (Result A Failure)) {home : Home} {came : Result A Failure} {p q r new : SessionProgress}
+    → Did before begun (enters asks_any) p (Ok (Ok home)) q → Did begun worked work q (Ok came) r → Did worked after (leaves home (is_ok came)) r (Ok tt) new → Did before after (own asks_any work) p (Ok came) new
+unfolding own
+does_own asks_any work first second third = does_bind _ _ first (does_then _ _ second (does_then _ _ third (does_over refl)))
+
+-- it could not be entered
+pub does_own_not : {before after : PortPast} {A : Type 0} (asks_any : Bool) (work : Doing (Result A Failure)) {failure : Failure} {p new : SessionProgress} (result : Result A Failure) → IsErr result → IsErrAnd result (λ x. x ≡ failure)
+    → Did before after (enters asks_any) p (Ok (Err failure)) new → Did before after (own asks_any work) p (Ok result) new
+unfolding own
+does_own_not asks_any work result err same first = does_fail _ _ result err same first
+
+not_so : (b : Bool) → not b ≡ false → b ≡ true
+not_so true is = refl
+not_so false is = absurd (let no : true ≡ false = is in cc)
+
+-- nothing is asked where names are looked up
+pub does_unasked : {past : PortPast} (names : List (List ℕ)) {p : SessionProgress} → asks_any names ≡ false → Did past past (looks_up [] names) p (Ok (Ok [])) p
+unfolding looks_up look_up
+does_unasked [] none = does_over refl
+does_unasked (name ∷ names) none = does_bind (look_up name) (λ found. if is_table found then with_room (looks_up (with_found [] found) names) else over (Ok [])) (does_yes (is_objects name) _ _ (not_so (is_objects name) none) (does_over refl)) (does_over refl)
+
+-- the tables that are named are read
+pub does_shaped : {before after : PortPast} (level : Level) (shapes : List TableTree) (of : Bound) {p new : SessionProgress} {result : Result (Result (List Rows) Failure) Memory} → (shapes ≡ [] → ⊥)
+    → Did before after (holds (images_of shapes level of) unless_stopped) p result new → Did before after (reads_at level shapes of) p result new
+unfolding reads_at
+does_shaped level [] of some did = absurd (some refl)
+does_shaped level (shape ∷ shapes) of some did = did
+
+-- where none is named, nothing is
+pub does_unshaped : {past : PortPast} (level : Level) (shapes : List TableTree) (of : Bound) {p : SessionProgress} → shapes ≡ [] → Did past past (reads_at level shapes of) p (Ok (Ok [])) p
+unfolding reads_at
+does_unshaped level shapes of none = rw none (does_over refl)
+
+-- ---- the end of a statement
+
+pub stepped_counted : (form : Layer) (rows : ℕ) (next : Doing Exit) {p q new : SessionProgress} {result : Result Exit Memory} → q ≡ (if leaves_rows form then p else made (tells_rows rows) p) → Stepped next q result new → Stepped (counted form rows next) p result new
+stepped_counted form rows next {p = p} {q = q} {new = new} {result = result} same was = by_form (leaves_rows form) refl
+  where
+    by_form : (leaves : Bool) → leaves_rows form ≡ leaves → Stepped (if leaves then next else makes (tells_rows rows) next) p result new
+    by_form true is = subst (λ (x : SessionProgress). Stepped next x result new) (same ∙ ap (λ (b : Bool). if b then p else made (tells_rows rows) p) is) was
+    by_form false is = stepped_makes (same ∙ ap (λ (b : Bool). if b then p else made (tells_rows rows) p) is) was
+
+pub stepped_sends : (tokens : List Token) (next : Doing Exit) {p q new : SessionProgress} {result : Result Exit Memory} → q ≡ sent_some tokens p → Stepped next q result new → Stepped (sends_some tokens next) p result new
+stepped_sends [] next {new = new} {result = result} same was = subst (λ (x : SessionProgress). Stepped next x result new) same was
+stepped_sends (token ∷ tokens) next same was = stepped_makes same was
+
+stepped_sets : {A : Type 0} (sets : List Assigned) (next : Doing A) {p new : SessionProgress} {result : Result A Memory} → Stepped next (assigned_all sets p) result new → Stepped (assigns_all sets next) p result new
+unfolding assigns_all
+stepped_sets [] next was = was
+stepped_sets (one ∷ rest) next was = stepped_makes refl (stepped_sets rest next was)
+
+pub stepped_assigned : {A : Type 0} (sets : List Assigned) (next : Doing A) {p q new : SessionProgress} {result : Result A Memory} → q ≡ assigned_all sets p → Stepped next q result new → Stepped (assigns_all sets next) p result new
+stepped_assigned sets next {new = new} {result = result} same was = stepped_sets sets next (subst (λ (x : SessionProgress). Stepped next x result new) same was)
+
+-- nothing else is changed by that
+pub assigned_only : (sets : List Assigned) (p : SessionProgress) → assigned_all sets p ≡ record p { vars = (assigned_all sets p).vars }
+assigned_only [] p = refl
+assigned_only (one ∷ rest) p = assigned_only rest (made (assigns one.0 one.1) p)
+
+-- one more
+pub assigned_more : (sets : List Assigned) (one : Assigned) (p : SessionProgress) → assigned_all (sets ++ one ∷ []) p ≡ made (assigns one.0 one.1) (assigned_all sets p)
+assigned_more [] one p = refl
+assigned_more (first ∷ sets) one p = assigned_more sets one (made (assigns first.0 first.1) p)
+
+-- where something is asked, a transaction is open that is left then
+pub left_open : (asks is_open : Bool) (home : Home) → (asks ≡ true → is_open ≡ true) → (asks ≡ false → home ≡ Nowhere) → (home ≡ Nowhere → ⊥) → is_open ≡ true
+left_open true is_open home begun nowhere somewhere = begun refl
+left_open false is_open home begun nowhere somewhere = absurd (somewhere (nowhere refl))

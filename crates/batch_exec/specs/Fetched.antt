@@ -7,18 +7,17 @@ use Rattle.lock_modes.specs.declared.KeyPart.TheVariants.{S}
 use Rattle.step_model.specs.declared.op.Hold.TheVariants as hold
 use Rattle.step_model.specs.declared.op.Op.{Op}
 use Rattle.step_model.specs.declared.op.Op.TheVariants.{Fetch}
-use Rattle.step_model.specs.declared.range.Start.TheVariants.{Past}
 use Rattle.step_model.specs.declared.range.Stop.TheVariants.{Last}
 use Rattle.step_model.specs.Ranges.{no_memory}
 use Rattle.constraint_check.specs.Reads.{rows_table}
-use Rattle.batch_meaning.specs.Meaning.{with_found}
+use Rattle.dml_exec.specs.Reading.{behind_gone, from}
+use Rattle.batch_meaning.specs.Asking.{with_found}
 use Rattle.batch_meaning.specs.declared.failure.Failure.{Failure}
 use Rattle.batch_meaning.specs.Failures.{plain}
 
 -- the fetch of what is behind a key
-abbrev pub fetch_past : Op → List Value → Op
-fetch_past (Fetch table start stop hold part) key = Fetch table (Past key) stop hold part
-fetch_past op key = op
+abbrev pub fetch_behind : Op → List Value → Op
+fetch_behind fetch key = from (behind_gone 1 key) fetch
 
 -- a fetch of `objects`, from some key on
 abbrev pub ReadsObjects : Op → Type 0

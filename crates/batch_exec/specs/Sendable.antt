@@ -1,5 +1,5 @@
 -- Own: what can be sent: tokens that have bytes.
-use Rattle.std.specs.Prelude.{List}
+use Rattle.std.specs.Prelude.{Bool, List}
 use Rattle.value_types.specs.declared.value.Value.{Value}
 use Rattle.tds_tokens.specs.declared.columns.ColumnInfo.{ColumnInfo}
 use Rattle.tds_tokens.specs.declared.token.Token.{Token}
@@ -11,5 +11,5 @@ abbrev pub IsFit : List Token → Type 0
 IsFit tokens = (columns : List ColumnInfo) → FitTokens columns tokens
 
 -- so have those of a result of these columns and rows
-abbrev pub IsResult : List ColumnInfo → List (List Value) → Type 0
-IsResult columns rows = IsFit (result_tokens columns rows)
+abbrev pub IsResult : Bool → List ColumnInfo → List (List Value) → Type 0
+IsResult no_count columns rows = IsFit (result_tokens no_count columns rows)

@@ -1,64 +1,106 @@
 //! What INSERT, UPDATE, DELETE, CREATE TABLE and DROP TABLE run.
 
-ghost use Rattle.std.specs.Prelude.{◌≡◌, ◌==◌, [], true, Ok, IfOk, IsTrue, Some};
+ghost use Rattle.std.specs.Prelude.{◌≡◌, ◌==◌, [], true, Ok, IfOk, IfSome, IsTrue, Some};
+ghost use Rattle.constraint_check.specs.Reads.{is_shape_of, rows_table, shape_of};
 ghost use Rattle.std.specs.List.{list_any};
 ghost use Rattle.std.specs.Option.{option_map};
 ghost use Rattle.bound_tree.specs.declared.write.Bound.TheVariants.{Write};
 ghost use Rattle.catalog_rows.specs.Definitions.{tables_of as tables_defined};
 ghost use Rattle.step_model.specs.declared.op.Op.TheVariants as ops;
+ghost use Rattle.step_model.specs.declared.reply.Reply.TheVariants.{Done};
 ghost use Rattle.dml_exec.specs.declared.refusal.Level.TheVariants.{Serializable};
-ghost use Rattle.batch_meaning.specs.Changing.{created, dropped, dropped_as, is_referred, planned_in, planned_over, planned_with, refers, tokens_by, unless_referred, whole, with_definition, write_command};
-ghost use Rattle.batch_meaning.specs.Doing.{Did, asks};
-ghost use Rattle.batch_meaning.specs.Meaning.{applies, changes, creates, drops, drops_in, inserted, marked, reads_images, unless_refused, with_room};
+ghost use Rattle.batch_meaning.specs.Asking.{applies, marked, reads_at, unless_refused, with_room};
+ghost use Rattle.batch_meaning.specs.Changing.{created, dropped, dropped_as, is_referred, planned_in, planned_over, planned_with, refers, told_by, unless_referred, whole, with_definition, write_command};
+ghost use Rattle.batch_meaning.specs.Doing.{Did, Exchanged, asks};
 ghost use Rattle.batch_meaning.specs.Progress.{Ready};
-ghost use Rattle.batch_exec.specs.Selected.{IsInsertion, IsOrMemory, TakesBack};
+ghost use Rattle.batch_meaning.specs.Working.{change_bound, changes, creates, drops, drops_in, drops_kind, inserted};
+ghost use Rattle.batch_exec.specs.Selected.{IsInsertion, IsOrMemory};
 
+use crate::around::Around;
 use crate::dialogs::{apply, read};
 use crate::discard::{discard, discard_write};
+use crate::effect::Effect;
 use crate::failures::{naming, no_memory, unbound, unplanned};
 use crate::look_up::objects;
-use crate::numbers::{DEADLOCK, IS_PARENT, LOCK_TIMEOUT, NOT_THERE, OBJECT_PRESENT, UNKNOWN_TABLE};
+use crate::numbers::{
+    DEADLOCK, IS_PARENT, LOCK_TIMEOUT, NOT_BUILT, NOT_THERE, OBJECT_PRESENT, UNKNOWN_TABLE,
+};
 use crate::objects::read_definitions;
-use crate::query::first_system;
-use crate::sendable::TokenList;
+use crate::query::if_it_fits;
 use crate::state::SessionState;
-use crate::tokens::{no_tokens, written_tokens};
+use crate::system::system_in;
+use crate::tokens::written_tokens;
 use batch_meaning::Failure;
 use binder::bind_checks;
 use bound_tree::{Bound, BoundTest, BoundWrite, Image};
 use catalog_rows::{object_key, row_of, tables_of};
 use dml_exec::{Level, plan_write, rows_told, shape_of, table_written};
-use session_vars::Vars;
 use sqlite_items::Items;
 use std::alloc::Global;
 use step_model::{Deed, Op, Planned, Port, Reply};
 use tds_tokens::{COMMAND_DELETE, COMMAND_INSERT, COMMAND_UPDATE};
-use tsql_tree::{Definition, TableTree};
+use tsql_tree::{Definition, DropKind, TableTree};
 use value_types::{Memory, TableName, Units};
 
 // ---- INSERT, UPDATE and DELETE
 
-/// Reads the definitions and the tables of a write, plans what it changes, and asks that.
-pub(crate) fn change<P: Port>(
+/// What a write comes to, by what it is bound to.
+pub(crate) fn change_bound<P: Port>(
     alloc: Global,
     session: &mut SessionState,
     port: &mut P,
+    around: &Around<'_>,
+    shapes: &[TableTree],
+    of: &Bound,
+) -> Result<Effect, Failure>
+    requires ready { Ready session.old (P.past port.old) }
+    requires begun { (shapes.now ≡ [] → ⊥) → session.old.is_open ≡ true }
+    ensures does { Did (P.past port.old) (P.past port.new) (change_bound around.now shapes.now of.now) session.old (Ok result) session.new }
+    ensures ready { Ready session.new (P.past port.new) }
+    ensures kept { session.new.is_open ≡ session.old.is_open }
+    ensures none { IfOk result (λ effect. effect.sets ≡ []) }
+{
+    if shapes.is_empty() {
+        return Err(Failure::plain(NOT_BUILT));
+    }
+    match of {
+        Bound::Write(write) => change(alloc, session, port, around, shapes, of, write),
+        Bound::Query(_) => Err(Failure::plain(NOT_BUILT)),
+        Bound::Assign(_, _) => Err(Failure::plain(NOT_BUILT)),
+        Bound::Plain => Err(Failure::plain(NOT_BUILT)),
+    }
+}
+
+/// Reads the definitions and the tables of a write, plans what it changes, and asks that.
+fn change<P: Port>(
+    alloc: Global,
+    session: &mut SessionState,
+    port: &mut P,
+    around: &Around<'_>,
     shapes: &[TableTree],
     of: &Bound,
     write: &BoundWrite,
-) -> Result<TokenList, Failure>
+) -> Result<Effect, Failure>
     requires ready { Ready session.old (P.past port.old) }
     requires begun { session.old.is_open ≡ true }
     requires write { of.now ≡ Write write.now }
-    ensures does { Did (P.past port.old) (P.past port.new) (changes shapes.now write.now) session.old (Ok result) session.new }
+    ensures does { Did (P.past port.old) (P.past port.new) (changes around.now shapes.now write.now) session.old (Ok result) session.new }
     ensures ready { Ready session.new (P.past port.new) }
     ensures begun { session.new.is_open ≡ true }
+    ensures none { IfOk result (λ effect. effect.sets ≡ []) }
 {
     let definitions = read_definitions(alloc, session, port)?;
-    let images = read(alloc, session, port, shapes, Level::ReadCommitted, of)?;
-    let planned = plan(alloc, shapes, write, images.as_slice())?;
+    let level = session.settings().level;
+    let images = read(alloc, session, port, level, shapes, of)?;
+    let planned = plan(alloc, session, around, shapes, write, images.as_slice())?;
+    let effect = told(
+        alloc,
+        session.settings().no_count,
+        write,
+        planned.as_slice(),
+    )?;
     put(alloc, session, port, definitions, planned.as_slice())?;
-    told(alloc, write, planned.as_slice())
+    if_it_fits(session, effect)
 }
 
 /// Asks changes, and what checks them by these definitions.
@@ -84,14 +126,16 @@ fn put<P: Port>(
 /// The changes of a write.
 fn plan(
     alloc: Global,
+    session: &SessionState,
+    around: &Around<'_>,
     shapes: &[TableTree],
     write: &BoundWrite,
     images: &[Image],
 ) -> Result<Items<Planned>, Failure>
-    ensures { IsOrMemory (planned_over shapes.now write.now images.now) result }
+    ensures { IsOrMemory (planned_over around.now session.now shapes.now write.now images.now) result }
 {
     match shape_of(table_written(write), shapes) {
-        Some(shape) => plan_in(alloc, shape, write, images),
+        Some(shape) => plan_in(alloc, session, around, shape, write, images),
         None => Err(Failure::plain(UNKNOWN_TABLE)),
     }
 }
@@ -99,14 +143,24 @@ fn plan(
 /// The changes of a write of a table of this shape.
 fn plan_in(
     alloc: Global,
+    session: &SessionState,
+    around: &Around<'_>,
     shape: &TableTree,
     write: &BoundWrite,
     images: &[Image],
 ) -> Result<Items<Planned>, Failure>
-    ensures { IsOrMemory (planned_in (Some shape.now) write.now images.now) result }
+    ensures { IsOrMemory (planned_in around.now session.now (Some shape.now) write.now images.now) result }
 {
     match bind_checks(alloc, shape) {
-        Ok(checks) => plan_with(alloc, shape, checks.as_slice(), write, images),
+        Ok(checks) => plan_with(
+            alloc,
+            session,
+            around,
+            shape,
+            checks.as_slice(),
+            write,
+            images,
+        ),
         Err(fault) => Err(unbound(fault)),
     }
 }
@@ -114,30 +168,41 @@ fn plan_in(
 /// The changes of a write, where the CHECKs of its table are bound to these tests.
 fn plan_with(
     alloc: Global,
+    session: &SessionState,
+    around: &Around<'_>,
     shape: &TableTree,
     checks: &[BoundTest],
     write: &BoundWrite,
     images: &[Image],
 ) -> Result<Items<Planned>, Failure>
-    ensures { IsOrMemory (planned_with shape.now write.now images.now (Ok checks.now)) result }
+    ensures { IsOrMemory (planned_with around.now session.now shape.now write.now images.now (Ok checks.now)) result }
 {
-    let Ok(system) = first_system(alloc) else {
+    let Ok(system) = system_in(alloc, session, around) else {
         return Err(no_memory());
     };
-    let vars = Vars::new(alloc);
-    match plan_write(alloc, write, images, shape, checks, &vars, &system) {
+    match plan_write(alloc, write, images, shape, checks, session.vars(), &system) {
         Ok(planned) => Ok(Items::from_vec(planned)),
         Err(fault) => Err(unplanned(fault)),
     }
 }
 
 /// What is told of a write.
-fn told(alloc: Global, write: &BoundWrite, planned: &[Planned]) -> Result<TokenList, Failure>
-    ensures { IsOrMemory (Ok (tokens_by write.now planned.now)) result }
+fn told(
+    alloc: Global,
+    no_count: bool,
+    write: &BoundWrite,
+    planned: &[Planned],
+) -> Result<Effect, Failure>
+    ensures came { IsOrMemory (Ok (told_by no_count write.now planned.now)) result }
+    ensures none { IfOk result (λ effect. effect.sets ≡ []) }
 {
     let rows = rows_told(write, planned) as u64;
-    match written_tokens(alloc, write_command(write), rows) {
-        Ok(tokens) => Ok(tokens),
+    match written_tokens(alloc, no_count, write_command(write), rows) {
+        Ok(tokens) => Ok(Effect {
+            sets: Vec::new(alloc),
+            rows,
+            tokens,
+        }),
         Err(_) => Err(no_memory()),
     }
 }
@@ -162,15 +227,16 @@ pub(crate) fn create<P: Port>(
     port: &mut P,
     name: &Units,
     text: &Units,
-) -> Result<TokenList, Failure>
+) -> Result<Effect, Failure>
     requires ready { Ready session.old (P.past port.old) }
     requires begun { session.old.is_open ≡ true }
     ensures does { Did (P.past port.old) (P.past port.new) (creates name.now text.now) session.old (Ok result) session.new }
     ensures ready { Ready session.new (P.past port.new) }
     ensures begun { session.new.is_open ≡ true }
+    ensures none { IfOk result (λ effect. effect.sets ≡ []) }
 {
     put_definition(alloc, session, port, name, text)?;
-    Ok(no_tokens(alloc))
+    Ok(Effect::none(alloc))
 }
 
 /// Puts a definition at its name; an object may be there.
@@ -265,12 +331,12 @@ fn insert<P: Port>(
     }
 }
 
-/// Takes changes back to a mark, as their statement failed.
-fn take_back<P: Port>(session: &mut SessionState, port: &mut P, mark: u64)
+/// Goes back to a mark.
+pub(crate) fn take_back<P: Port>(session: &mut SessionState, port: &mut P, mark: u64)
     requires ready { Ready session.old (P.past port.old) }
     requires begun { session.old.is_open ≡ true }
     requires live { IsTrue (list_any (λ live. live == mark) (P.past port.old).standing.marks) }
-    ensures does { TakesBack (P.past port.old) (P.past port.new) mark session.old session.new }
+    ensures back { Exchanged (P.past port.old) (P.past port.new) (ops.BackTo mark) session.old Done session.new }
     ensures ready { Ready session.new (P.past port.new) }
     ensures begun { session.new.is_open ≡ true }
 {
@@ -280,27 +346,72 @@ fn take_back<P: Port>(session: &mut SessionState, port: &mut P, mark: u64)
     }
 }
 
-// ---- DROP TABLE
+// ---- DROP
 
-/// Drops the table of this name, if it is there.
-pub(crate) fn drop_table<P: Port>(
+/// Drops what is of a kind and a name: a table among these, and else nothing is there.
+pub(crate) fn drop_kind<P: Port>(
     alloc: Global,
     session: &mut SessionState,
     port: &mut P,
-    shape: Option<&TableTree>,
+    around: &Around<'_>,
+    kind: DropKind,
     shapes: &[TableTree],
     name: &Units,
-) -> Result<TokenList, Failure>
+) -> Result<Effect, Failure>
     requires ready { Ready session.old (P.past port.old) }
-    requires begun { session.old.is_open ≡ true }
-    ensures does { Did (P.past port.old) (P.past port.new) (drops_in (option_map (λ of. of.now) shape.entry) shapes.now name.now) session.old (Ok result) session.new }
+    requires begun { (shapes.now ≡ [] → ⊥) → session.old.is_open ≡ true }
+    ensures does { Did (P.past port.old) (P.past port.new) (drops_kind around.now kind shapes.now name.now) session.old (Ok result) session.new }
     ensures ready { Ready session.new (P.past port.new) }
-    ensures begun { session.new.is_open ≡ true }
+    ensures kept { session.new.is_open ≡ session.old.is_open }
+    ensures none { IfOk result (λ effect. effect.sets ≡ []) }
 {
-    match shape {
-        Some(shape) => drop_shaped(alloc, session, port, shape, shapes, name),
+    match kind {
+        DropKind::Table => drop_table(alloc, session, port, around, shapes, name),
+        DropKind::Procedure => Err(naming(alloc, NOT_THERE, name)),
+        DropKind::Trigger => Err(naming(alloc, NOT_THERE, name)),
+    }
+}
+
+/// Drops the table of this name, if it is there.
+fn drop_table<P: Port>(
+    alloc: Global,
+    session: &mut SessionState,
+    port: &mut P,
+    around: &Around<'_>,
+    shapes: &[TableTree],
+    name: &Units,
+) -> Result<Effect, Failure>
+    requires ready { Ready session.old (P.past port.old) }
+    requires begun { (shapes.now ≡ [] → ⊥) → session.old.is_open ≡ true }
+    ensures does { Did (P.past port.old) (P.past port.new) (drops_in around.now (shape_of (rows_table name.now) shapes.now) shapes.now name.now) session.old (Ok result) session.new }
+    ensures ready { Ready session.new (P.past port.new) }
+    ensures kept { session.new.is_open ≡ session.old.is_open }
+    ensures none { IfOk result (λ effect. effect.sets ≡ []) }
+{
+    match shape_named(name, shapes) {
+        Some(shape) => drop_shaped(alloc, session, port, around, shape, shapes, name),
         None => Err(naming(alloc, NOT_THERE, name)),
     }
+}
+
+/// The first shape of the table of this name, if it is among these.
+fn shape_named<'a>(name: &Units, shapes: &'a [TableTree]) -> Option<&'a TableTree>
+    ensures shape { option_map (λ shape. shape.now) result ≡ shape_of (rows_table name.now) shapes.now }
+    ensures some { IfSome result (λ shape. shapes.now ≡ [] → ⊥) }
+{
+    for shape in shapes {
+        if is_shape_of(name, shape) {
+            return Some(shape);
+        }
+    }
+    None
+}
+
+/// Whether the table of this name has this shape.
+fn is_shape_of(name: &Units, shape: &TableTree) -> bool
+    ensures { result ≡ is_shape_of (rows_table name.now) shape.now }
+{
+    *name == shape.name
 }
 
 /// Drops a table of this shape.
@@ -308,22 +419,24 @@ fn drop_shaped<P: Port>(
     alloc: Global,
     session: &mut SessionState,
     port: &mut P,
+    around: &Around<'_>,
     shape: &TableTree,
     shapes: &[TableTree],
     name: &Units,
-) -> Result<TokenList, Failure>
+) -> Result<Effect, Failure>
     requires ready { Ready session.old (P.past port.old) }
     requires begun { session.old.is_open ≡ true }
-    ensures does { Did (P.past port.old) (P.past port.new) (drops shapes.now shape.now name.now) session.old (Ok result) session.new }
+    ensures does { Did (P.past port.old) (P.past port.new) (drops around.now shapes.now shape.now name.now) session.old (Ok result) session.new }
     ensures ready { Ready session.new (P.past port.new) }
     ensures begun { session.new.is_open ≡ true }
+    ensures none { IfOk result (λ effect. effect.sets ≡ []) }
 {
     let definitions = read_definitions(alloc, session, port)?;
     free(alloc, definitions, name)?;
     let images = read_whole(alloc, session, port, shapes, name)?;
-    let planned = plan_drop(alloc, shape, name, images.as_slice())?;
+    let planned = plan_drop(alloc, session, around, shape, name, images.as_slice())?;
     apply(alloc, session, port, &[], planned.as_slice())?;
-    Ok(no_tokens(alloc))
+    Ok(Effect::none(alloc))
 }
 
 /// No other table refers to that of this name.
@@ -367,14 +480,14 @@ fn read_whole<P: Port>(
 ) -> Result<Items<Image>, Failure>
     requires ready { Ready session.old (P.past port.old) }
     requires begun { session.old.is_open ≡ true }
-    ensures does { Did (P.past port.old) (P.past port.new) (with_room (reads_images shapes.now Serializable (Write (whole name.now)))) session.old (Ok result) session.new }
+    ensures does { Did (P.past port.old) (P.past port.new) (with_room (reads_at Serializable shapes.now (Write (whole name.now)))) session.old (Ok result) session.new }
     ensures ready { Ready session.new (P.past port.new) }
     ensures begun { session.new.is_open ≡ true }
 {
     match whole(alloc, name) {
         Ok(write) => {
             let of = Bound::Write(write);
-            let came = read(alloc, session, port, shapes, Level::Serializable, &of);
+            let came = read(alloc, session, port, Level::Serializable, shapes, &of);
             discard(of);
             came
         }
@@ -399,15 +512,17 @@ fn whole(alloc: Global, name: &Units) -> Result<BoundWrite, Memory>
 /// The changes by which a table of these rows is dropped.
 fn plan_drop(
     alloc: Global,
+    session: &SessionState,
+    around: &Around<'_>,
     shape: &TableTree,
     name: &Units,
     images: &[Image],
 ) -> Result<Items<Planned>, Failure>
-    ensures { IsOrMemory (dropped shape.now name.now images.now) result }
+    ensures { IsOrMemory (dropped around.now session.now shape.now name.now images.now) result }
 {
     match whole(alloc, name) {
         Ok(write) => {
-            let planned = plan_with(alloc, shape, &[], &write, images);
+            let planned = plan_with(alloc, session, around, shape, &[], &write, images);
             discard_write(write);
             dropped_as(alloc, name, planned)
         }

@@ -2,7 +2,7 @@
 
 ghost use Rattle.std.specs.Prelude.{◌≡◌, Err, Ok};
 ghost use Rattle.batch_meaning.specs.Failures.{naming, plain};
-ghost use Rattle.batch_meaning.specs.Meaning.{number_of};
+ghost use Rattle.batch_meaning.specs.Asking.{number_of};
 ghost use Rattle.batch_exec.specs.Selected.{IsNamed, IsUnbound, IsUnplanned};
 
 use crate::numbers::{DEADLOCK, LOCK_TIMEOUT, NO_MEMORY, RANGE_FULL};

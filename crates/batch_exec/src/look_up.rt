@@ -1,13 +1,14 @@
 //! How names are looked up in `objects`.
 
-ghost use Rattle.std.specs.Prelude.{◌≡◌, [], true, Ok, IfOk, IsTrue};
+ghost use Rattle.std.specs.Prelude.{◌≡◌, [], true, false, Ok, IfOk, IsTrue};
 ghost use Rattle.lock_modes.specs.declared.KeyPart.TheVariants.{S};
 ghost use Rattle.step_model.specs.declared.op.Hold.TheVariants as hold;
 ghost use Rattle.step_model.specs.declared.op.Op.TheVariants as ops;
 ghost use Rattle.step_model.specs.declared.range.Start.TheVariants.{At};
 ghost use Rattle.step_model.specs.declared.range.Stop.TheVariants.{Within};
 ghost use Rattle.batch_meaning.specs.Doing.{Did, asks};
-ghost use Rattle.batch_meaning.specs.Meaning.{unless_refused, is_table, known, look_up, looks_up, with_found};
+ghost use Rattle.batch_meaning.specs.Asking.{unless_refused, is_table, known, look_up, looks_up, with_found};
+ghost use Rattle.batch_meaning.specs.Working.{asks_any};
 ghost use Rattle.batch_meaning.specs.Progress.{Ready};
 ghost use Rattle.constraint_check.specs.Reads.{rows_table};
 ghost use Rattle.dml_exec.specs.Asking.{seen};
@@ -32,12 +33,17 @@ pub(crate) fn look_up_all<P: Port>(
     names: &[Units],
 ) -> Result<Vec<Definition>, Failure>
     requires ready { Ready session.old (P.past port.old) }
-    requires begun { session.old.is_open ≡ true }
+    requires begun { asks_any names.now ≡ true → session.old.is_open ≡ true }
     ensures does { Did (P.past port.old) (P.past port.new) (looks_up [] names.now) session.old (Ok (seen result)) session.new }
     ensures ready { Ready session.new (P.past port.new) }
-    ensures begun { session.new.is_open ≡ true }
+    ensures kept { session.new.is_open ≡ session.old.is_open }
+    ensures vars { session.new.vars ≡ session.old.vars }
+    ensures none { asks_any names.now ≡ false → IfOk result (λ definitions. definitions.items ≡ []) }
 {
     let mut definitions = Vec::new(alloc);
+    if !asks_any(names) {
+        return Ok(definitions);
+    }
     for name in names {
         let found = look_up(alloc, session, port, name)?;
         if !is_table(&found) {
@@ -48,6 +54,16 @@ pub(crate) fn look_up_all<P: Port>(
         }
     }
     Ok(definitions)
+}
+
+/// Whether something is asked where these names are looked up: the first is.
+pub(crate) fn asks_any(names: &[Units]) -> bool
+    ensures { result ≡ asks_any names.now }
+{
+    match names {
+        [name, ..] => !is_objects(name),
+        [] => false,
+    }
 }
 
 /// Whether what was found is a table.
@@ -79,6 +95,7 @@ pub(crate) fn look_up<P: Port>(
     ensures does { Did (P.past port.old) (P.past port.new) (look_up name.now) session.old (Ok result) session.new }
     ensures ready { Ready session.new (P.past port.new) }
     ensures begun { session.new.is_open ≡ true }
+    ensures vars { session.new.vars ≡ session.old.vars }
 {
     if is_objects(name) {
         return Ok(None);
@@ -103,18 +120,16 @@ fn find<P: Port>(
     ensures does { Did (P.past port.old) (P.past port.new) (asks (ops.Fetch table (At start) (Within stop) hold.Range S) (unless_refused known)) session.old (Ok result) session.new }
     ensures ready { Ready session.new (P.past port.new) }
     ensures begun { session.new.is_open ≡ true }
+    ensures vars { session.new.vars ≡ session.old.vars }
 {
-    let reply = session.ask(
-        port,
-        &Op::Fetch {
-            table,
-            start: Start::At(start),
-            stop: Stop::Within(stop),
-            hold: Hold::Range,
-            part: KeyPart::S,
-        },
-    );
-    match reply {
+    let fetch = Op::Fetch {
+        table,
+        start: Start::At(start),
+        stop: Stop::Within(stop),
+        hold: Hold::Range,
+        part: KeyPart::S,
+    };
+    match session.ask(port, &fetch) {
         Reply::Row { row, .. } => defined(alloc, &row),
         Reply::Gone { .. } => Ok(None),
         Reply::End { .. } => Ok(None),

@@ -21,6 +21,15 @@ pub(crate) const NOT_THERE: u16 = 3701;
 /// The error of a table that is to be dropped, and to which another refers.
 pub(crate) const IS_PARENT: u16 = 3726;
 
+/// The error of a ROLLBACK where no transaction is open.
+pub(crate) const NOTHING_OPEN: u16 = 3903;
+
+/// The error of a statement that a doomed transaction refuses.
+pub(crate) const DOOMED_WRITE: u16 = 3930;
+
+/// The error of a transaction that is doomed at the end of its batch.
+pub(crate) const DOOMED_AT_END: u16 = 3998;
+
 /// The error of a batch that would begin too many statements.
 pub(crate) const STATEMENTS_SPENT: u16 = 49001;
 
@@ -29,6 +38,12 @@ pub(crate) const RESULT_FULL: u16 = 49002;
 
 /// The error of a range with too many keys.
 pub(crate) const RANGE_FULL: u16 = 49003;
+
+/// The error of an option or an argument outside the profile.
+pub(crate) const OUTSIDE_PROFILE: u16 = 49004;
+
+/// The error of a variable beyond those that can stand.
+pub(crate) const OUTSIDE_LIMITS: u16 = 49007;
 
 /// The error of a text that is not built yet.
 pub(crate) const NOT_BUILT: u16 = 49099;

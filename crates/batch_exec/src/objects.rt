@@ -4,11 +4,11 @@ ghost use Rattle.std.specs.Prelude.{◌≡◌, [], true, Ok};
 ghost use Rattle.step_model.specs.declared.range.Start.TheVariants.{First};
 ghost use Rattle.step_model.specs.Ranges.{range_limit};
 ghost use Rattle.batch_meaning.specs.Doing.{Did, asks};
-ghost use Rattle.batch_meaning.specs.Meaning.{defined_by, defined_from, reads_definitions, unless_refused};
+ghost use Rattle.batch_meaning.specs.Asking.{defined_by, defined_from, reads_definitions, unless_refused};
 ghost use Rattle.batch_meaning.specs.Progress.{Ready};
 ghost use Rattle.constraint_check.specs.Reads.{rows_table};
 ghost use Rattle.catalog_rows.specs.Definitions.{objects_name};
-ghost use Rattle.batch_exec.specs.Fetched.{fetch_past, ReadsObjects, IsKeyDefined};
+ghost use Rattle.batch_exec.specs.Fetched.{fetch_behind, ReadsObjects, IsKeyDefined};
 ghost use Rattle.dml_exec.specs.Asking.{beside, seen};
 
 use crate::look_up::{add, defined, objects};
@@ -67,7 +67,7 @@ fn read_all<P: Port>(
     let mut left = RANGE_LIMIT;
     while 0 < left {
         match read_next(alloc, session, port, &fetch, &mut definitions)? {
-            Some(key) => fetch = past(fetch, key),
+            Some(key) => fetch = behind(fetch, key),
             None => return Ok(definitions),
         }
         left -= 1;
@@ -118,9 +118,10 @@ fn add_at(
     }
 }
 
-/// The fetch of the rest of its range, past a key.
-fn past(fetch: Op, key: Key) -> Op
-    ensures { result ≡ fetch_past fetch key }
+/// The fetch of the rest of its range, behind a key. A key has at least one value, and those of `objects` have one, so
+/// none is passed over.
+fn behind(fetch: Op, key: Key) -> Op
+    ensures { result ≡ fetch_behind fetch key }
 {
     match fetch {
         Op::Fetch {

@@ -1,8 +1,9 @@
 //! Tokens that can be sent.
 
-ghost use Rattle.std.specs.Prelude.{◌≡◌};
+ghost use Rattle.std.specs.Prelude.{◌≡◌, ◌==◌, length, []};
 ghost use Rattle.batch_exec.specs.Sendable.{IsFit};
 
+use std::alloc::Global;
 use std::marker::Model;
 use tds_tokens::Token;
 
@@ -25,6 +26,15 @@ impl Model for TokenList {
 }
 
 impl TokenList {
+    /// Nothing.
+    pub(crate) fn none(alloc: Global) -> TokenList
+        ensures { result ≡ [] }
+    {
+        TokenList {
+            tokens: Vec::new(alloc),
+        }
+    }
+
     /// These tokens.
     pub(crate) fn new(tokens: Vec<Token>) -> TokenList
         requires { IsFit tokens.items }
@@ -38,6 +48,13 @@ impl TokenList {
         ensures { result.now ≡ self.now }
     {
         self.tokens.as_slice()
+    }
+
+    /// Whether there are none.
+    pub(crate) fn is_empty(&self) -> bool
+        ensures { result ≡ (length self.now == 0) }
+    {
+        self.tokens.is_empty()
     }
 
     /// The tokens in order, owned.

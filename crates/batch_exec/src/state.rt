@@ -1,19 +1,26 @@
 //! How far a session has come, and what it asks of its port.
 
-ghost use Rattle.std.specs.Prelude.{◌≡◌, ◌<◌, ◌-◌, ◌==◌, nat_lt, [], true, false, Ok, IfOk, IfErr};
+ghost use Rattle.std.specs.Prelude.{◌≡◌, ◌<◌, ◌≤◌, ◌-◌, ◌==◌, min, nat_le, nat_lt, [], true, false, All, Ok, IfOk, IfErr, None};
 ghost use Rattle.step_model.specs.Exchange.{MayCome, CanReply};
-ghost use Rattle.batch_meaning.specs.Doing.{Exchanged, Did};
-ghost use Rattle.batch_meaning.specs.Meaning.{rolls_back_open};
-ghost use Rattle.batch_exec.specs.Sendable.{IsFit};
+ghost use Rattle.session_vars.specs.Variables.{FitsAt, HasItsType};
 ghost use Rattle.tds_tokens.specs.Fit.{FitTokens};
-ghost use Rattle.batch_meaning.specs.Progress.{Ready, first_progress, made, asked, begins, counts, is_open_after, sends, size_of, touched_after, touches};
+ghost use Rattle.txn_rules.specs.State.{commit_answer, count_limit, is_closed, rollback_answer, save_refusal, xact_state};
+ghost use Rattle.batch_meaning.specs.Doing.{Exchanged};
+ghost use Rattle.batch_meaning.specs.Progress.{Ready, first_progress, made, asked, assigns, begins, closes_one, counts, dooms, is_open_after, opens, saves, sends, sets, size_of, tells_error, tells_rows, touched_after, touches, txn_after};
+ghost use Rattle.batch_meaning.specs.Transactions.{next_serial};
+ghost use Rattle.batch_exec.specs.Selected.{SetsFit, assigned_all, cut_to};
+ghost use Rattle.batch_exec.specs.Sendable.{IsFit};
 
 use crate::sendable::TokenList;
+use batch_meaning::Settings;
+use dml_exec::Level;
+use session_vars::Vars;
 use std::alloc::Global;
 use std::marker::Model;
 use step_model::{Manner, Op, Patience, Port, Reply};
 use tds_tokens::{Token, bytes_of_tokens};
-use value_types::Memory;
+use txn_rules::{BackKind, TxnState};
+use value_types::{Memory, Units, Value};
 
 /// How many statements a batch may begin.
 const STATEMENT_LIMIT: u32 = 1_000_000;
@@ -24,10 +31,18 @@ const BATCH_LIMIT: u32 = 134_217_728;
 /// Of these, its own end has so many.
 const END_SIZE: u32 = 13;
 
-/// How a session asks until it says otherwise: it waits for locks, with the priority 0.
-const FIRST_MANNER: Manner = Manner {
-    patience: Patience::Forever,
-    priority: 0,
+/// The most transactions that can be open in one another, and the greatest `@@ROWCOUNT`.
+const GREATEST_COUNT: u32 = 2_147_483_647;
+
+/// What a session has until SET sets it: it waits for locks, with the priority 0.
+const FIRST_SETTINGS: Settings = Settings {
+    xact_abort: false,
+    no_count: false,
+    level: Level::ReadCommitted,
+    manner: Manner {
+        patience: Patience::Forever,
+        priority: 0,
+    },
 };
 
 /// How far a session has come, with what its batch has sent.
@@ -36,20 +51,25 @@ pub struct SessionState {
     tokens: Vec<Token>,
     bytes_left: u32,
     statements_left: u32,
+    vars: Vars,
+    row_count: u32,
+    error: i32,
+    settings: Settings,
+    txn: TxnState,
     is_open: bool,
     touched: bool,
-    manner: Manner,
 }
 
 impl Model for SessionState {
+    ghost use Rattle.std.specs.Prelude.{◌≤◌};
     ghost use Rattle.batch_meaning.specs.Progress.{SessionProgress};
     ghost use Rattle.batch_exec.specs.Sendable.{IsFit};
 
     ghost Value = { SessionProgress };
 
-    ghost view = { λ s. record { tokens = s.tokens.items; bytes_left = s.bytes_left; statements_left = s.statements_left; is_open = s.is_open; touched = s.touched; manner = s.manner } };
+    ghost view = { λ s. record { tokens = s.tokens.items; bytes_left = s.bytes_left; statements_left = s.statements_left; vars = s.vars; row_count = s.row_count; error = s.error; settings = s.settings; txn = s.txn; is_open = s.is_open; touched = s.touched } };
 
-    ghost invariant = { λ s. IsFit s.tokens.items };
+    ghost invariant = { λ s. IsFit s.tokens.items × (s.txn.count ≤ 2147483647) × (s.row_count ≤ 2147483647) };
 }
 
 impl SessionState {
@@ -61,11 +81,17 @@ impl SessionState {
             tokens: Vec::new(alloc),
             bytes_left: 0,
             statements_left: 0,
+            vars: Vars::new(alloc),
+            row_count: 0,
+            error: 0,
+            settings: FIRST_SETTINGS,
+            txn: TxnState::new(alloc),
             is_open: false,
             touched: false,
-            manner: FIRST_MANNER,
         }
     }
+
+    // ---- what is asked
 
     /// Asks one operation in the session's manner.
     pub(crate) fn ask<P: Port>(&mut self, port: &mut P, op: &Op) -> Reply
@@ -75,25 +101,43 @@ impl SessionState {
         ensures reply { CanReply op.now result }
         ensures ready { Ready self.new (P.past port.new) }
     {
-        let reply = port.ask(op, self.manner);
+        self.exchange(port, op)
+    }
+
+    /// Asks it, and notes what that changes.
+    fn exchange<P: Port>(&mut self, port: &mut P, op: &Op) -> Reply
+        requires ready { Ready self.old (P.past port.old) }
+        requires may { MayCome (P.past port.old).standing op.now }
+        ensures asked { Exchanged (P.past port.old) (P.past port.new) op.now self.old result self.new }
+        ensures reply { CanReply op.now result }
+    {
+        let reply = port.ask(op, self.settings.manner);
         self.note(op, &reply);
         reply
     }
 
-    /// Rolls an open transaction back.
-    pub fn roll_back_open<P: Port>(&mut self, port: &mut P)
-        requires ready { Ready self.old (P.past port.old) }
-        ensures does { Did (P.past port.old) (P.past port.new) rolls_back_open self.old (Ok result) self.new }
-        ensures ready { Ready self.new (P.past port.new) }
-        ensures closed { self.new.is_open ≡ false }
+    /// An operation was asked, and replied so.
+    fn note(&mut self, op: &Op, reply: &Reply)
+        requires { CanReply op.now reply.now }
+        ensures { self.new ≡ asked op.now reply.now self.old }
     {
-        if self.in_transaction() {
-            match self.ask(port, &Op::Rollback) {
-                Reply::Ended { .. } => {}
-                _ => unreachable!(),
-            }
+        self.is_open = is_open_after(self.is_open, op, reply);
+        self.touched = touched_after(self.touched, op);
+        self.note_txn(op, reply);
+    }
+
+    /// What an exchange makes of the transaction's savepoints and counts.
+    fn note_txn(&mut self, op: &Op, reply: &Reply)
+        ensures { self.new ≡ record self.old { txn = txn_after self.old.txn op.now reply.now } }
+    {
+        match (op, reply) {
+            (_, Reply::Ended { .. }) => self.txn.ended(),
+            (Op::BackTo { mark }, Reply::Done) => self.txn.cut(*mark),
+            _ => {}
         }
     }
+
+    // ---- what it has come to
 
     /// What the batch has sent.
     pub fn tokens(&self) -> &[Token]
@@ -124,13 +168,137 @@ impl SessionState {
         self.statements_left == 0
     }
 
-    /// A batch begins.
-    pub(crate) fn begin_batch(&mut self)
-        ensures { self.new ≡ made begins self.old }
+    /// Whether tokens are more bytes than the batch may still send.
+    pub(crate) fn is_full(&self, tokens: &TokenList) -> bool
+        ensures { result ≡ nat_lt self.now.bytes_left (size_of tokens.now) }
+    {
+        u64::from(self.bytes_left) < bytes_of_tokens(tokens.as_slice())
+    }
+
+    /// The variables of the batch.
+    pub(crate) fn vars(&self) -> &Vars
+        ensures vars { result.now ≡ self.now.vars }
+        ensures typed { All HasItsType self.now.vars }
+    {
+        self.vars.law_typed();
+        &self.vars
+    }
+
+    /// `@@ROWCOUNT`
+    pub(crate) fn row_count(&self) -> u32
+        ensures count { result ≡ self.now.row_count }
+        ensures most { result ≤ 2147483647 }
+    {
+        self.row_count
+    }
+
+    /// `@@ERROR`
+    pub(crate) fn error(&self) -> i32
+        ensures { result ≡ self.now.error }
+    {
+        self.error
+    }
+
+    /// What SET has set.
+    pub(crate) fn settings(&self) -> Settings
+        ensures { result ≡ self.now.settings }
+    {
+        self.settings
+    }
+
+    /// How many transactions are open in one another.
+    pub(crate) fn count(&self) -> u32
+        ensures count { result ≡ self.now.txn.count }
+        ensures most { result ≤ 2147483647 }
+    {
+        self.txn.count
+    }
+
+    /// `XACT_STATE()`
+    pub(crate) fn xact_state(&self) -> i64
+        ensures { result ≡ xact_state self.now.txn }
+    {
+        self.txn.state()
+    }
+
+    /// Whether the transaction can only be rolled back.
+    pub(crate) fn is_doomed(&self) -> bool
+        ensures { result ≡ self.now.txn.doomed }
+    {
+        self.txn.doomed
+    }
+
+    /// Whether BEGIN TRANSACTION has begun none.
+    pub(crate) fn is_closed(&self) -> bool
+        ensures { result ≡ is_closed self.now.txn }
+    {
+        self.txn.count == 0
+    }
+
+    /// Whether one more BEGIN TRANSACTION would be too many.
+    pub(crate) fn is_nested_most(&self) -> bool
+        ensures { result ≡ nat_le count_limit self.now.txn.count }
+    {
+        GREATEST_COUNT <= self.txn.count
+    }
+
+    /// The number of the transaction on the connection.
+    pub(crate) fn serial(&self) -> u64
+        ensures { result ≡ self.now.txn.serial }
+    {
+        self.txn.serial
+    }
+
+    /// The number of the next transaction.
+    pub(crate) fn next_serial(&self) -> u64
+        ensures { result ≡ next_serial self.now.txn }
+    {
+        self.txn.serial.saturating_add(1)
+    }
+
+    /// What a COMMIT does: whether it is the outermost, or the number of its error.
+    pub(crate) fn commit_answer(&self) -> Result<bool, i32>
+        ensures { result ≡ commit_answer self.now.txn }
+    {
+        if self.txn.count == 0 {
+            Err(3902)
+        } else if self.txn.doomed {
+            Err(3930)
+        } else {
+            Ok(self.txn.count == 1)
+        }
+    }
+
+    /// Why a SAVE is refused.
+    pub(crate) fn save_refusal(&self) -> Option<i32>
+        ensures { result ≡ save_refusal self.now.txn }
+    {
+        if self.txn.count == 0 {
+            Some(49005)
+        } else if self.txn.doomed {
+            Some(3930)
+        } else {
+            None
+        }
+    }
+
+    /// What a ROLLBACK to a name goes back to, or the number of its error.
+    pub(crate) fn rollback_answer(&self, name: &Units) -> Result<BackKind, i32>
+        ensures { result ≡ rollback_answer name.now self.now.txn }
+    {
+        self.txn.rollback_to(name)
+    }
+
+    // ---- its steps
+
+    /// A batch begins, with its variables.
+    pub(crate) fn begin_batch(&mut self, vars: Vars)
+        ensures { self.new ≡ made (begins vars) self.old }
     {
         self.tokens.clear();
         self.bytes_left = BATCH_LIMIT - END_SIZE;
         self.statements_left = STATEMENT_LIMIT;
+        self.vars = vars;
     }
 
     /// One statement more begins.
@@ -148,20 +316,6 @@ impl SessionState {
         self.touched = true;
     }
 
-    /// How the session asks.
-    pub(crate) fn manner(&self) -> Manner
-        ensures { result ≡ self.now.manner }
-    {
-        self.manner
-    }
-
-    /// Whether tokens are more bytes than the batch may still send.
-    pub(crate) fn is_full(&self, tokens: &TokenList) -> bool
-        ensures { result ≡ nat_lt self.now.bytes_left (size_of tokens.now) }
-    {
-        u64::from(self.bytes_left) < bytes_of_tokens(tokens.as_slice())
-    }
-
     /// Sends tokens; all of them, or none where memory is wanting.
     pub(crate) fn send(&mut self, tokens: TokenList) -> Result<(), Memory>
         ensures sent { IfOk result (λ _. self.new ≡ made (sends tokens) self.old) }
@@ -174,13 +328,91 @@ impl SessionState {
         Ok(())
     }
 
-    /// An operation was asked, and replied so.
-    fn note(&mut self, op: &Op, reply: &Reply)
-        requires { CanReply op.now reply.now }
-        ensures { self.new ≡ asked op.now reply.now self.old }
+    /// Sets `@@ROWCOUNT`.
+    pub(crate) fn tell_rows(&mut self, rows: u64)
+        ensures { self.new ≡ made (tells_rows rows) self.old }
     {
-        self.is_open = is_open_after(self.is_open, op, reply);
-        self.touched = touched_after(self.touched, op);
+        self.row_count = counted(rows);
+    }
+
+    /// Sets `@@ERROR`.
+    pub(crate) fn tell_error(&mut self, number: i32)
+        ensures { self.new ≡ made (tells_error number) self.old }
+    {
+        self.error = number;
+    }
+
+    /// Assigns the variable at a place, where there is one.
+    pub(crate) fn assign(&mut self, place: u16, value: Value)
+        requires fits { FitsAt place value self.old.vars }
+        ensures { self.new ≡ made (assigns place value) self.old }
+    {
+        if place < self.vars.count() {
+            self.vars.set(place, value);
+        }
+    }
+
+    /// Assigns variables one after another.
+    pub(crate) fn assign_all(&mut self, sets: Vec<(u16, Value)>)
+        requires fits { SetsFit self.old.vars sets.items }
+        ensures { self.new ≡ assigned_all sets.items self.old }
+    {
+        for (place, value) in sets {
+            self.assign(place, value);
+        }
+    }
+
+    /// SET sets.
+    pub(crate) fn set(&mut self, settings: Settings)
+        ensures { self.new ≡ made (sets settings) self.old }
+    {
+        self.settings = settings;
+    }
+
+    /// BEGIN TRANSACTION begins or counts one.
+    pub(crate) fn open(&mut self, name: Option<Units>)
+        requires { self.old.txn.count < count_limit }
+        ensures { self.new ≡ made (opens name) self.old }
+    {
+        self.txn.begin(name);
+    }
+
+    /// COMMIT counts one less.
+    pub(crate) fn close_one(&mut self)
+        ensures { self.new ≡ made closes_one self.old }
+    {
+        let _ = self.txn.commit();
+    }
+
+    /// SAVE names a mark; where memory is wanting it is not named.
+    pub(crate) fn save(&mut self, name: Units, mark: u64) -> Result<(), Memory>
+        requires { save_refusal self.old.txn ≡ None }
+        ensures saved { IfOk result (λ _. self.new ≡ made (saves name mark) self.old) }
+        ensures kept { IfErr result (λ _. self.new ≡ self.old) }
+    {
+        match self.txn.save(name, mark) {
+            Ok(()) => Ok(()),
+            Err(_) => Err(Memory),
+        }
+    }
+
+    /// A write was taken back to a mark, or to none: the savepoints behind it are no more.
+    pub(crate) fn cut_to(&mut self, mark: Option<u64>)
+        ensures { self.new ≡ cut_to mark self.old }
+    {
+        match mark {
+            Some(mark) => self.txn.cut(mark),
+            None => {}
+        }
+    }
+
+    /// A transaction that is open can only be rolled back from now on.
+    pub(crate) fn doom(&mut self)
+        ensures { self.new ≡ made dooms self.old }
+    {
+        if self.txn.count != 0 {
+            self.txn.doomed = true;
+        }
     }
 }
 
@@ -220,5 +452,16 @@ fn left_behind(bytes_left: u32, tokens: &[Token]) -> u32
         bytes_left - size as u32
     } else {
         0
+    }
+}
+
+/// A count of rows as `@@ROWCOUNT` has it.
+fn counted(rows: u64) -> u32
+    ensures { result ≡ min rows 2147483647 }
+{
+    if rows < u64::from(GREATEST_COUNT) {
+        rows as u32
+    } else {
+        GREATEST_COUNT
     }
 }

@@ -1,21 +1,25 @@
 //! The tokens that answer a statement.
 
-ghost use Rattle.std.specs.Prelude.{◌≡◌, ◌++◌, ◌∷◌, ◌<◌, [], All, take, IfOk};
-ghost use Rattle.error_table.specs.Table.{row_of};
+ghost use Rattle.std.specs.Prelude.{◌≡◌, ◌++◌, ◌∷◌, ◌<◌, [], All, take, IfOk, Some, pos};
 ghost use Rattle.error_table.specs.Text.{text_with};
 ghost use Rattle.tsql_tree.specs.declared.statement.Form.{out-Form};
 ghost use Rattle.batch_exec.specs.Sendable.{IsResult};
-ghost use Rattle.batch_meaning.specs.Tokens.{error_of, near_of, subject_of, command_in, command_of, statement_done, statement_failed, batch_done, row_tokens, result_tokens, written_tokens, failure_token, failure_tokens};
+ghost use Rattle.batch_meaning.specs.Meaning.{told_tokens};
+ghost use Rattle.batch_meaning.specs.Raised.{error_token, named, raised_at};
+ghost use Rattle.batch_meaning.specs.Selecting.{messages};
+ghost use Rattle.batch_meaning.specs.Tokens.{batch_done, command_of, descriptor, result_tokens, row_tokens, statement_done, statement_failed, transaction_begun, transaction_committed, transaction_rolled_back};
+ghost use Rattle.batch_meaning.specs.Values.{is_message};
 
 use crate::sendable::TokenList;
-use batch_meaning::{Exit, Failure, Form, Served};
-use error_table::{Action, parts_of, row_of};
+use batch_meaning::{Failure, Raised};
+use error_table::{Action, RaisedBy, parts_of, row_of};
 use std::alloc::Global;
 use tds_tokens::{
-    COMMAND_DELETE, COMMAND_INSERT, COMMAND_NONE, COMMAND_SELECT, COMMAND_UPDATE, ColumnList,
-    DONE_COUNT, DONE_ERROR, DONE_FINAL, DONE_MORE, DoneKind, Notice, Token,
+    Bytes, COMMAND_DELETE, COMMAND_INSERT, COMMAND_NONE, COMMAND_SELECT, COMMAND_UPDATE,
+    ColumnList, DONE_COUNT, DONE_ERROR, DONE_FINAL, DONE_MORE, DoneKind, ENV_BEGIN, ENV_COMMIT,
+    ENV_ROLLBACK, Notice, Token,
 };
-use tsql_tree::Form as TreeForm;
+use tsql_tree::Form;
 use value_types::{Memory, Row, Units};
 
 // ---- what a statement sends
@@ -23,20 +27,26 @@ use value_types::{Memory, Row, Units};
 /// A result: its columns, its rows and their count.
 pub(crate) fn result_tokens(
     alloc: Global,
+    no_count: bool,
     columns: ColumnList,
     rows: Vec<Row>,
 ) -> Result<TokenList, Memory>
-    requires fit { IsResult columns rows.items }
-    ensures { IfOk result (λ tokens. tokens ≡ result_tokens columns rows.items) }
+    requires fit { IsResult no_count columns rows.items }
+    ensures { IfOk result (λ tokens. tokens ≡ result_tokens no_count columns rows.items) }
 {
-    Ok(TokenList::new(tokens_of(alloc, columns, rows)?))
+    Ok(TokenList::new(tokens_of(alloc, no_count, columns, rows)?))
 }
 
 /// The same as tokens alone.
-fn tokens_of(alloc: Global, columns: ColumnList, rows: Vec<Row>) -> Result<Vec<Token>, Memory>
-    ensures { IfOk result (λ tokens. tokens.items ≡ result_tokens columns rows.items) }
+fn tokens_of(
+    alloc: Global,
+    no_count: bool,
+    columns: ColumnList,
+    rows: Vec<Row>,
+) -> Result<Vec<Token>, Memory>
+    ensures { IfOk result (λ tokens. tokens.items ≡ result_tokens no_count columns rows.items) }
 {
-    let ended = statement_done(COMMAND_SELECT, rows.len() as u64);
+    let ended = statement_done(no_count, COMMAND_SELECT, rows.len() as u64);
     let mut tokens = vec![in alloc; Token::Columns(columns)]?;
     push_rows(&mut tokens, rows)?;
     tokens.push(ended)?;
@@ -55,48 +65,51 @@ fn push_rows(tokens: &mut Vec<Token>, rows: Vec<Row>) -> Result<(), Memory>
 }
 
 /// So many rows were written.
-pub(crate) fn written_tokens(alloc: Global, command: u16, rows: u64) -> Result<TokenList, Memory>
-    ensures { IfOk result (λ tokens. tokens ≡ written_tokens command rows) }
+pub(crate) fn written_tokens(
+    alloc: Global,
+    no_count: bool,
+    command: u16,
+    rows: u64,
+) -> Result<TokenList, Memory>
+    ensures { IfOk result (λ tokens. tokens ≡ statement_done no_count command rows ∷ []) }
 {
-    Ok(TokenList::new(vec![in alloc; statement_done(command, rows)]?))
-}
-
-/// Nothing.
-pub(crate) fn no_tokens(alloc: Global) -> TokenList
-    ensures { result ≡ [] }
-{
-    TokenList::new(Vec::new(alloc))
+    Ok(TokenList::new(vec![in alloc; statement_done(no_count, command, rows)]?))
 }
 
 // ---- DONE
 
-/// The end with its count of a statement of a command, where more follows.
-fn statement_done(command: u16, rows: u64) -> Token
-    ensures { result ≡ statement_done command rows }
+/// The end of a statement of a command, where more follows, with its count unless none is told.
+fn statement_done(no_count: bool, command: u16, rows: u64) -> Token
+    ensures { result ≡ statement_done no_count command rows }
 {
-    done(DONE_MORE | DONE_COUNT, command, rows)
+    if no_count {
+        done(DONE_MORE, command, 0)
+    } else {
+        done(DONE_MORE | DONE_COUNT, command, rows)
+    }
 }
 
 /// A statement's end with an error, where more follows.
-fn statement_failed(statement: &Form) -> Token
-    ensures { result ≡ statement_failed statement.now }
+fn statement_failed(command: u16) -> Token
+    ensures { result ≡ statement_failed command }
 {
-    done(DONE_MORE | DONE_ERROR, command_of(statement), 0)
+    done(DONE_MORE | DONE_ERROR, command, 0)
 }
 
-/// A batch's end.
-pub(crate) fn batch_end(alloc: Global, exit: Exit) -> Result<TokenList, Memory>
-    ensures { IfOk result (λ tokens. tokens ≡ batch_done exit ∷ []) }
+/// A batch's end, by whether an error ended it.
+pub(crate) fn batch_end(alloc: Global, failed: bool) -> Result<TokenList, Memory>
+    ensures { IfOk result (λ tokens. tokens ≡ batch_done failed ∷ []) }
 {
-    Ok(TokenList::new(vec![in alloc; batch_done(exit)]?))
+    Ok(TokenList::new(vec![in alloc; batch_done(failed)]?))
 }
 
-fn batch_done(exit: Exit) -> Token
-    ensures { result ≡ batch_done exit }
+fn batch_done(failed: bool) -> Token
+    ensures { result ≡ batch_done failed }
 {
-    match exit {
-        Exit::On => done(DONE_FINAL, COMMAND_NONE, 0),
-        Exit::End => done(DONE_ERROR, COMMAND_NONE, 0),
+    if failed {
+        done(DONE_ERROR, COMMAND_NONE, 0)
+    } else {
+        done(DONE_FINAL, COMMAND_NONE, 0)
     }
 }
 
@@ -113,112 +126,181 @@ fn done(status: u16, command: u16, rows: u64) -> Token
 }
 
 /// The command that a DONE names.
-fn command_of(statement: &Form) -> u16
-    ensures { result ≡ command_of statement.now }
-{
-    match statement {
-        Form::Statement { statement } => command_in(&statement.form),
-        Form::NotBuilt | Form::Refused { .. } => COMMAND_NONE,
-    }
-}
-
-fn command_in(form: &TreeForm) -> u16
-    ensures { result ≡ command_in (out-Form form.now) }
+pub(crate) fn command_of(form: &Form) -> u16
+    ensures { result ≡ command_of (out-Form form.now) }
 {
     match form {
-        TreeForm::Select(_) => COMMAND_SELECT,
-        TreeForm::Insert(_, _, _) => COMMAND_INSERT,
-        TreeForm::Update(_, _, _) => COMMAND_UPDATE,
-        TreeForm::Delete(_, _) => COMMAND_DELETE,
+        Form::Select(_) => COMMAND_SELECT,
+        Form::Insert(_, _, _) => COMMAND_INSERT,
+        Form::Update(_, _, _) => COMMAND_UPDATE,
+        Form::Delete(_, _) => COMMAND_DELETE,
         _ => COMMAND_NONE,
     }
 }
 
-// ---- errors
+// ---- transactions
 
-/// What a statement sends where it fails, by what its error ends.
-pub(crate) fn failure_tokens(
-    alloc: Global,
-    statement: &Served,
-    failure: &Failure,
-    action: Action,
-) -> Result<TokenList, Memory>
-    ensures { IfOk result (λ tokens. tokens ≡ failure_tokens statement.now failure.now action) }
+/// A transaction is begun.
+pub(crate) fn begun(alloc: Global, serial: u64) -> Result<TokenList, Memory>
+    ensures { IfOk result (λ tokens. tokens ≡ transaction_begun serial ∷ []) }
 {
-    Ok(TokenList::new(tokens_of_failure(alloc, statement, failure, action)?))
+    let token = Token::EnvBytes {
+        kind: ENV_BEGIN,
+        fresh: descriptor(alloc, serial)?,
+        former: Bytes::from(Vec::new(alloc)),
+    };
+    Ok(TokenList::new(vec![in alloc; token]?))
 }
 
-/// An error, and the end of its statement where the batch goes on.
-fn tokens_of_failure(
-    alloc: Global,
-    statement: &Served,
-    failure: &Failure,
-    action: Action,
-) -> Result<Vec<Token>, Memory>
-    ensures { IfOk result (λ tokens. tokens.items ≡ failure_tokens statement.now failure.now action) }
+/// A transaction is committed.
+pub(crate) fn committed(alloc: Global, serial: u64) -> Result<TokenList, Memory>
+    ensures { IfOk result (λ tokens. tokens ≡ transaction_committed serial ∷ []) }
 {
-    let error = failure_token(alloc, statement, failure)?;
+    let token = Token::EnvBytes {
+        kind: ENV_COMMIT,
+        fresh: Bytes::from(Vec::new(alloc)),
+        former: descriptor(alloc, serial)?,
+    };
+    Ok(TokenList::new(vec![in alloc; token]?))
+}
+
+/// A transaction is rolled back.
+pub(crate) fn rolled_back(alloc: Global, serial: u64) -> Result<TokenList, Memory>
+    ensures { IfOk result (λ tokens. tokens ≡ transaction_rolled_back serial ∷ []) }
+{
+    let token = Token::EnvBytes {
+        kind: ENV_ROLLBACK,
+        fresh: Bytes::from(Vec::new(alloc)),
+        former: descriptor(alloc, serial)?,
+    };
+    Ok(TokenList::new(vec![in alloc; token]?))
+}
+
+/// A transaction's descriptor.
+fn descriptor(alloc: Global, serial: u64) -> Result<Bytes, Memory>
+    ensures { IfOk result (λ bytes. bytes ≡ descriptor serial) }
+{
+    Ok(Bytes::from(Vec::from_slice(alloc, &serial.to_le_bytes())?))
+}
+
+// ---- errors and messages
+
+/// What is told of an error, by what it ends.
+pub(crate) fn told_tokens(
+    alloc: Global,
+    action: Action,
+    command: u16,
+    raised: &Raised,
+) -> Result<TokenList, Memory>
+    ensures { IfOk result (λ tokens. tokens ≡ told_tokens action command raised.now) }
+{
+    Ok(TokenList::new(tokens_of_error(alloc, action, command, raised)?))
+}
+
+/// The same as tokens alone.
+fn tokens_of_error(
+    alloc: Global,
+    action: Action,
+    command: u16,
+    raised: &Raised,
+) -> Result<Vec<Token>, Memory>
+    ensures { IfOk result (λ tokens. tokens.items ≡ told_tokens action command raised.now) }
+{
+    let error = Token::Error(notice_of(alloc, raised)?);
     match action {
         Action::Batch => Ok(vec![in alloc; error]?),
         Action::BatchAndTransaction => Ok(vec![in alloc; error]?),
-        Action::Statement => Ok(vec![in alloc; error, statement_failed(&statement.form)]?),
-        Action::Doom => Ok(vec![in alloc; error, statement_failed(&statement.form)]?),
+        Action::Statement => Ok(vec![in alloc; error, statement_failed(command)]?),
+        Action::Doom => Ok(vec![in alloc; error, statement_failed(command)]?),
     }
 }
 
-/// The ERROR of a statement.
-fn failure_token(alloc: Global, statement: &Served, failure: &Failure) -> Result<Token, Memory>
-    ensures { IfOk result (λ token. token ≡ failure_token statement.now failure.now) }
+/// ERROR alone.
+pub(crate) fn error_tokens(alloc: Global, raised: &Raised) -> Result<TokenList, Memory>
+    ensures { IfOk result (λ tokens. tokens ≡ error_token raised.now ∷ []) }
 {
-    error_of(
-        alloc,
-        failure.number,
-        subject_of(alloc, &statement.form, failure)?,
-        statement.line,
-    )
+    told_tokens(alloc, Action::Batch, COMMAND_NONE, raised)
 }
 
-/// What an error's text names.
-fn subject_of(alloc: Global, statement: &Form, failure: &Failure) -> Result<Units, Memory>
-    ensures { IfOk result (λ subject. subject ≡ subject_of statement.now failure.now) }
+/// INFO, for what is no error.
+pub(crate) fn messages(alloc: Global, raised: &Raised) -> Result<TokenList, Memory>
+    ensures { IfOk result (λ tokens. tokens ≡ messages raised.now) }
 {
-    match &failure.name {
-        Some(name) => name.copy(alloc),
-        None => around(alloc, "", near_of(statement), ""),
+    if is_message(raised) {
+        let token = Token::Info(notice_of(alloc, raised)?);
+        Ok(TokenList::new(vec![in alloc; token]?))
+    } else {
+        Ok(TokenList::none(alloc))
     }
 }
 
-/// What is shown of a refused text, or nothing.
-fn near_of(statement: &Form) -> &[u16]
-    ensures { result.now ≡ near_of statement.now }
+/// Whether it is no error.
+pub(crate) fn is_message(raised: &Raised) -> bool
+    ensures { result ≡ is_message raised.now }
 {
-    match statement {
-        Form::Refused { near, .. } => near.as_slice(),
-        Form::Statement { .. } | Form::NotBuilt => &[],
-    }
+    raised.class <= 10
+}
+
+/// What is told of an error or a message, with no procedure.
+fn notice_of(alloc: Global, raised: &Raised) -> Result<Notice, Memory>
+    ensures { IfOk result (λ notice. notice ≡ record { number = raised.now.number; state = raised.now.state; class = raised.now.class; text = take 2000 raised.now.text; procedure = []; line = raised.now.line }) }
+{
+    let text = raised.text.copy(alloc)?;
+    Ok(Notice::new(
+        raised.number,
+        raised.state,
+        raised.class,
+        text,
+        Units::new(alloc),
+        raised.line,
+    ))
 }
 
 /// ERROR of this number at a line, with state 1 and no procedure, for a name.
 pub fn error_of(alloc: Global, number: i32, name: Units, line: i32) -> Result<Token, Memory>
-    ensures { IfOk result (λ token. token ≡ error_of number (row_of number) name line) }
+    ensures { IfOk result (λ token. token ≡ error_token (raised_at line (record { number = number; name = Some name }))) }
 {
-    match row_of(number) {
-        Some(row) => {
-            let text = text_with(alloc, row.text, name.as_slice())?;
-            Ok(notice(alloc, number, row.class, text, line))
-        }
-        None => {
-            let text = Units::of_ascii(alloc, b"Not built.")?;
-            Ok(notice(alloc, number, 16, text, line))
-        }
+    let failure = Failure {
+        number,
+        name: Some(name),
+    };
+    let raised = raised_at(alloc, line, &failure)?;
+    Ok(Token::Error(notice_of(alloc, &raised)?))
+}
+
+/// Why a statement at a line failed, as it is raised.
+pub(crate) fn raised_at(alloc: Global, line: i32, failure: &Failure) -> Result<Raised, Memory>
+    ensures { IfOk result (λ raised. raised ≡ raised_at line failure.now) }
+{
+    let (class, text) = class_and_text(alloc, failure)?;
+    Ok(Raised {
+        number: failure.number,
+        class,
+        state: 1,
+        text,
+        line,
+        by: RaisedBy::Engine,
+    })
+}
+
+/// The class and the text of an error.
+fn class_and_text(alloc: Global, failure: &Failure) -> Result<(u8, Units), Memory>
+    ensures { IfOk result (λ parts. parts ≡ ((raised_at (pos 1) failure.now).class, (raised_at (pos 1) failure.now).text)) }
+{
+    match row_of(failure.number) {
+        Some(row) => Ok((row.class, text_with(alloc, row.text, named(failure))?)),
+        None => Ok((16, Units::of_ascii(alloc, b"Not built.")?)),
     }
 }
 
-/// ERROR at a line, with state 1 and no procedure.
-fn notice(alloc: Global, number: i32, class: u8, text: Units, line: i32) -> Token
-    ensures { result ≡ Token.Error (record { number = number; state = 1; class = class; text = take 2000 text; procedure = []; line = line }) }
+/// What an error names.
+fn named(failure: &Failure) -> &[u16]
+    ensures { result.now ≡ named failure.now.name }
 {
-    Token::Error(Notice::new(number, 1, class, text, Units::new(alloc), line))
+    match &failure.name {
+        Some(name) => name.as_slice(),
+        None => &[],
+    }
 }
 
 /// An error's text with a name in its place.

@@ -1,154 +1,173 @@
--- What a batch has sent and committed, where no transaction was open.
-use Rattle.std.proofs.Common.{◌≡◌, inl, inr, Bool, true, false, if◌then◌else◌, List, [], ◌∷◌, ◌++◌, Err, refl, sym, ap, ◌∙◌, subst, append_assoc, append-nil}
-use Rattle.std.specs.Prelude.{nat_eq, nat_lt}
+-- Plain statements one after another, where no transaction is open, and a batch of them.
+use Rattle.std.proofs.Common.{◌≡◌, ℕ, pos, Bool, true, false, if◌then◌else◌, List, [], ◌∷◌, ◌++◌, refl, sym, ap, ◌∙◌, subst, append_assoc, append-nil}
+use Rattle.tsql_tree.specs.declared.statement.Statement.{Statement}
+use Rattle.binder.specs.Names.{form_of}
 use Rattle.step_model.specs.declared.change.Planned.{Planned}
 use Rattle.step_model.specs.Exchange.{Exchange}
-use Rattle.step_model.specs.Fits.{commit_of, commits_of}
+use Rattle.step_model.specs.Fits.{commits_from, commits_of, commit_of}
 use Rattle.step_model.specs.Net.{Net}
-use Rattle.step_model.specs.Own.{Progress as Stand, none_open}
-use Rattle.error_table.specs.Table as table
+use Rattle.step_model.specs.Own.{Progress as Stand, none_open, progress_from, progress_of}
 use Rattle.tds_tokens.specs.declared.token.Token.{Token}
 use Rattle.batch_meaning.specs.declared.exit.Exit.{Exit}
-use Rattle.batch_meaning.specs.declared.exit.Exit.TheVariants.{On, End}
-use Rattle.batch_meaning.specs.declared.form.Form.{Form}
-use Rattle.batch_meaning.specs.declared.form.Form.TheVariants as forms
-use Rattle.batch_meaning.specs.declared.form.Served.{Served}
-use Rattle.batch_meaning.specs.Failures.{plain}
-use Rattle.batch_meaning.specs.Selecting.{result_full}
-use Rattle.batch_meaning.specs.Progress.{SessionProgress, begins, counts, sends, made, size_of}
-use Rattle.batch_meaning.specs.Doing.{over, makes, ◌then◌, Held}
-use Rattle.batch_meaning.specs.Meaning.{action_for, or_full, finished, means, goes_on, each_of, batch, statements_spent}
-use Rattle.batch_meaning.specs.Tokens.{failure_tokens, batch_done}
-use Rattle.batch_laws.specs.Committing.{Commits, Plans, exit_behind, FailsBy, Fails, Ends, Run, IsWhole, AreWhole}
-use Rattle.batch_laws.specs.Laws.{StatementEnds, StatementCloses, BatchRuns, BatchCloses, LeftWhole}
-use Rattle.batch_laws.proofs.Ways.{with_commits, commits_more, Ways, ways_held, ways_left, ways_mono, ways_bind, ways_if}
-use Rattle.batch_laws.proofs.Statements.{Settled, fails_ways, means_ways}
+use Rattle.batch_meaning.specs.declared.exit.Exit.TheVariants.{On, Leave, Again, Return, Raise, End}
+use Rattle.batch_meaning.specs.Doing.{Doing, over, makes, ◌then◌, Held}
+use Rattle.batch_meaning.specs.declared.form.ReadText.{ReadText}
+use Rattle.batch_meaning.specs.declared.form.ReadText.TheVariants as text
+use Rattle.batch_meaning.specs.declared.raised.Raised.{Raised}
+use Rattle.batch_meaning.specs.Failures.{naming, plain}
+use Rattle.batch_meaning.specs.Selecting.{not_built}
+use Rattle.batch_meaning.specs.Meaning.{batch, each_of, ends, ends_doomed, goes_on, has_failed, mean_of, meaning, runs_text, vars_in_text}
+use Rattle.batch_meaning.specs.Progress.{SessionProgress, begins, counts, made, sends, statement_limit}
+use Rattle.batch_meaning.specs.Raised.{Around, around_batch, error_token, raised_at}
+use Rattle.batch_meaning.specs.Statements.{vars_of}
+use Rattle.batch_meaning.specs.Tokens.{batch_done}
+use Rattle.statement_paths.proofs.Apart.{held_apart}
+use Rattle.reading_laws.proofs.Parts.{from_both}
+use Rattle.batch_laws.specs.Committing.{is_plain, Agrees, ArePlain, Commits, Ends, IfOn, IsIdle, Leaves, Runs}
+use Rattle.batch_laws.specs.Laws.{BatchRuns, EndsAtOnce, PlainRun, RefusedEnds, UnbuiltEnds}
+use Rattle.batch_laws.proofs.Ending.{Ended}
+use Rattle.batch_laws.proofs.Idle.{mean_stays}
+use Rattle.batch_laws.proofs.Leaving.{commits_both}
+use Rattle.batch_laws.proofs.Turns.{mean_ended}
 
--- ---- a statement
+-- ---- one statement
 
-abbrev Free : Commits → Type 0
-Free commits = Unit {0}
+-- where none was open none is
+closed_leaves : (was now : Bool) (exchanges : List Exchange) (planned : List Planned) → was ≡ false → Leaves was now none_open exchanges planned
+    → (now ≡ false) × (progress_of exchanges ≡ none_open) × (commits_of exchanges ≡ commit_of (Net planned))
+closed_leaves true now exchanges planned shut leaves = absurd (let no : true ≡ false = shut in cc)
+closed_leaves false true exchanges planned shut leaves = absurd leaves
+closed_leaves false false exchanges planned shut leaves = (refl, leaves.0, leaves.1)
 
-statement_settled : (statement : Served) (old new : SessionProgress) (exchanges : List Exchange) (exit : Exit) → old.is_open ≡ false → Held (means statement) old exchanges exit new
-    → (new.is_open ≡ false) × (tokens : List Token) × (new.tokens ≡ old.tokens ++ tokens) × Ends statement exit tokens (commits_of exchanges)
-statement_settled statement old new exchanges exit shut held =
-    let was : Settled (Ends statement) [] old.tokens exit _ (commits_of exchanges) new = ways_held (means statement) none_open [] old Free (Settled (Ends statement) [] old.tokens) exchanges exit new (means_ways Free statement [] (λ tokens planned plans. tt) old shut) held in
-    (was.1, was.2, was.4, subst (λ (c : Commits). Ends statement exit was.2 c) (sym (was.5 ∙ commits_more [] was.3)) was.6)
+-- it has ended, and left nothing open
+pub record Closed (around : Around) (statement : Statement) (p : SessionProgress) (exchanges : List Exchange) (exit : Exit) (new : SessionProgress) : Type 0 where
+  pub sent : List Token
+  pub planned : List Planned
+  pub tokens : new.tokens ≡ p.tokens ++ sent
+  pub ended : Ends around (made counts p) statement exit sent planned exchanges
+  pub none : progress_of exchanges ≡ none_open
+  pub commits : commits_of exchanges ≡ commit_of (Net planned)
+  pub idle : IsIdle new
 
-pub statement_ends : StatementEnds
-statement_ends statement old new exchanges exit shut held = let was = statement_settled statement old new exchanges exit shut held in (was.1, was.2, was.3)
-
-pub statement_closes : StatementCloses
-statement_closes statement old new exchanges exit shut held = (statement_settled statement old new exchanges exit shut held).0
-
--- ---- statements one after another
-
--- nothing is committed
-none_whole : (statements : List Served) → AreWhole statements []
-none_whole [] = refl
-none_whole (statement ∷ others) = ([], [], refl, inr refl, none_whole others)
-
--- no transaction is open; the statements have sent this, and committed this
-abbrev Ran : List Served → Commits → List Token → Exit → Stand → Commits → SessionProgress → Type 0
-Ran statements commits tokens exit s c q = (s ≡ none_open) × (q.is_open ≡ false) × (sent : List Token) × (more : Commits) × (q.tokens ≡ tokens ++ sent) × (c ≡ commits ++ more) × Run statements exit sent more
-
--- a batch that has ended behind a statement
-ran_ended : (statement : Served) (others : List Served) (commits : Commits) (tokens : List Token) (s : Stand) (c : Commits) (q : SessionProgress) → Settled (Ends statement) commits tokens End s c q → Ran (statement ∷ others) commits tokens End s c q
-ran_ended statement others commits tokens s c q was =
-    (was.0, was.1, was.2, was.3, was.4, was.5 ∙ commits_more commits was.3, (End, was.2, [], was.3, [], sym (append-nil was.2), sym (append-nil was.3), was.6, (refl, (refl, refl))))
-
--- where no statement is left to begin, the batch has ended
-spent_ends : (form : Form) → exit_behind (action_for form (plain statements_spent)) ≡ End
-unfolding table.row_of table.error_lines
-spent_ends (forms.Statement statement) = refl
-spent_ends forms.NotBuilt = refl
-spent_ends (forms.Refused code near) = refl
-
-full_ends : (form : Form) → exit_behind (action_for form (plain result_full)) ≡ End
-unfolding table.row_of table.error_lines
-full_ends (forms.Statement statement) = refl
-full_ends forms.NotBuilt = refl
-full_ends (forms.Refused code near) = refl
-
-pub told_ends : (statement : Served) (p : SessionProgress) → exit_behind (action_for statement.form (or_full statement (plain statements_spent) p)) ≡ End
-told_ends statement p = by_test (nat_lt p.bytes_left (size_of (failure_tokens statement (plain statements_spent) (action_for statement.form (plain statements_spent)))))
+pub mean_closed : (levels : ℕ) (around : Around) (statement : Statement) (p new : SessionProgress) (exchanges : List Exchange) (exit : Exit) → is_plain (form_of statement) ≡ true → IsIdle p → Held (mean_of levels statement around) p exchanges exit new
+    → Closed around statement p exchanges exit new
+mean_closed levels around statement p new exchanges exit is idle held = by_ended (mean_ended levels around statement p new exchanges exit none_open agrees is held)
   where
-    by_test : (full : Bool) → exit_behind (action_for statement.form (if full then plain result_full else plain statements_spent)) ≡ End
-    by_test true = full_ends statement.form
-    by_test false = spent_ends statement.form
+    agrees : Agrees p.is_open none_open
+    agrees = subst (λ (b : Bool). Agrees b none_open) (sym idle.shut) refl
 
-ran_spent : (statement : Served) (others : List Served) (commits : Commits) (tokens : List Token) (p : SessionProgress) (exit : Exit) (s : Stand) (c : Commits) (q : SessionProgress)
-    → Settled (FailsBy (or_full statement (plain statements_spent) p) statement) commits tokens exit s c q → Ran (statement ∷ others) commits tokens exit s c q
-ran_spent statement others commits tokens p exit s c q was =
-    let ended : exit ≡ End = was.6.2 ∙ told_ends statement p in
-    let fails : Fails statement exit was.2 was.3 = (or_full statement (plain statements_spent) p, was.6) in
-    subst (λ (x : Exit). Ran (statement ∷ others) commits tokens x s c q) (sym ended)
-    (ran_ended statement others commits tokens s c q (was.0, was.1, was.2, was.3, was.4, was.5, subst (λ (x : Exit). Ends statement x was.2 was.3) ended (inr fails)))
+    by_ended : Ended around statement (made counts p) new exchanges exit none_open agrees → Closed around statement p exchanges exit new
+    by_ended (sent, planned, tokens, ended, leaves) =
+        let closed = closed_leaves p.is_open new.is_open exchanges planned idle.shut leaves in
+        let stays = mean_stays levels around statement p new exchanges exit is held (idle.closed, idle.sound) in
+        record { sent = sent; planned = planned; tokens = tokens; ended = ended; none = closed.1; commits = closed.2; idle = record { shut = closed.0; closed = stays.0; sound = stays.1 } }
 
-module _ (Kept : Commits → Type 0) (statement : Served) (others : List Served) (commits : Commits) (p : SessionProgress) (kept : (more : Commits) → AreWhole (statement ∷ others) more → Kept (commits ++ more)) where
-  -- what it planned may be committed
-  first_kept : (tokens : List Token) (planned : List Planned) → Plans statement.form tokens planned → Kept (with_commits commits (commit_of (Net planned)))
-  first_kept tokens planned plans = subst Kept (sym (commits_more commits (commit_of (Net planned))))
-      (kept (commit_of (Net planned)) (commit_of (Net planned), [], sym (append-nil (commit_of (Net planned))), inl (tokens, (planned, plans, refl)), none_whole others))
+-- ---- one behind another
 
-  is_whole : (exit : Exit) (sent : List Token) (first : Commits) → Ends statement exit sent first → IsWhole statement first
-  is_whole exit sent first (inl is) = inl (sent, is.1)
-  is_whole exit sent first (inr is) = inr is.1.1
+module _ (levels : ℕ) (around : Around) where
+  abbrev one : Statement → Around → Doing Exit
+  one inner at = mean_of levels inner at
 
-  behind_ways : ((c : Commits) (q : SessionProgress) → q.is_open ≡ false → ((more : Commits) → AreWhole others more → Kept (c ++ more)) → Ways (each_of others) none_open c q Kept (Ran others c q.tokens))
-      → (exit : Exit) (s : Stand) (c : Commits) (q : SessionProgress) → Settled (Ends statement) commits p.tokens exit s c q → Ways (goes_on (each_of others) exit) s c q Kept (Ran (statement ∷ others) commits p.tokens)
-  behind_ways on On s c q was = subst (λ (x : Stand). Ways (each_of others) x c q Kept (Ran (statement ∷ others) commits p.tokens)) (sym was.0)
-      (ways_mono (each_of others) none_open c q Kept (Ran others c q.tokens) (Ran (statement ∷ others) commits p.tokens) by_ran (on c q was.1 by_more))
-    where
-      now : c ≡ commits ++ was.3
-      now = was.5 ∙ commits_more commits was.3
+  abbrev Ran : List Statement → SessionProgress → List Exchange → Exit → SessionProgress → Type 0
+  Ran statements p exchanges exit new = ((tokens : List Token) × (new.tokens ≡ p.tokens ++ tokens) × Runs around statements p exit tokens (commits_of exchanges) exchanges new) × (progress_of exchanges ≡ none_open) × IsIdle new
 
-      by_more : (more : Commits) → AreWhole others more → Kept (c ++ more)
-      by_more more whole = subst Kept (sym (ap (λ (l : Commits). l ++ more) now ∙ append_assoc commits was.3 more)) (kept (was.3 ++ more) (was.3, more, refl, is_whole On was.2 was.3 was.6, whole))
-
-      by_ran : (exit : Exit) (s2 : Stand) (c2 : Commits) (q2 : SessionProgress) → Ran others c q.tokens exit s2 c2 q2 → Ran (statement ∷ others) commits p.tokens exit s2 c2 q2
-      by_ran exit s2 c2 q2 is = (
-        is.0,
-        is.1,
-        was.2 ++ is.2,
-        was.3 ++ is.3,
-        is.4 ∙ ap (λ (l : List Token). l ++ is.2) was.4 ∙ append_assoc p.tokens was.2 is.2,
-        is.5 ∙ ap (λ (l : Commits). l ++ is.3) now ∙ append_assoc commits was.3 is.3,
-        (On, was.2, is.2, was.3, is.3, refl, refl, was.6, is.6),
+  -- behind the first
+  ran_on : (statement : Statement) (others : List Statement) (p mid new : SessionProgress) (exchanges front back : List Exchange) (came exit : Exit) → exchanges ≡ front ++ back → (first : Closed around statement p front came mid)
+      → (later : List Token) (rest : Commits) → new.tokens ≡ mid.tokens ++ later → commits_of back ≡ rest → progress_of back ≡ none_open → IsIdle new
+      → IfOn came (Runs around others mid exit later rest back new) ((exit ≡ came) × (later ≡ []) × (rest ≡ []) × (back ≡ []) × (new ≡ mid)) → Ran (statement ∷ others) p exchanges exit new
+  ran_on statement others p mid new exchanges front back came exit parts first later rest tokens commits none idle goes =
+      let progress : progress_of exchanges ≡ none_open = ap progress_of parts ∙ from_both none_open front back ∙ ap (λ (s : Stand). progress_from s back) first.none ∙ none in
+      let all : commits_of exchanges ≡ commit_of (Net first.planned) ++ rest =
+      ap commits_of parts ∙ commits_both none_open front back ∙ ap (λ (s : Stand). commits_of front ++ commits_from s back) first.none ∙ ap (λ (c : Commits). c ++ commits_of back) first.commits ∙ ap (λ (c : Commits). commit_of (Net first.planned) ++ c) commits in (
+        (
+          first.sent ++ later,
+          tokens ∙ ap (λ (t : List Token). t ++ later) first.tokens ∙ append_assoc p.tokens first.sent later,
+          (came, mid, first.sent, later, first.planned, rest, front, back, refl, all, parts, first.ended, goes),
+        ),
+        progress,
+        idle,
       )
-  behind_ways on End s c q was = ran_ended statement others commits p.tokens s c q was
 
-each_ways : (Kept : Commits → Type 0) (statements : List Served) (commits : Commits) (p : SessionProgress) → p.is_open ≡ false → ((more : Commits) → AreWhole statements more → Kept (commits ++ more)) → Ways (each_of statements) none_open commits p Kept (Ran statements commits p.tokens)
-unfolding each_of
-each_ways Kept [] commits p shut kept = (refl, shut, [], [], sym (append-nil p.tokens), sym (append-nil commits), (refl, (refl, refl)))
-each_ways Kept (statement ∷ others) commits p shut kept = ways_if (nat_eq p.statements_left 0) _ _ none_open commits p Kept (Ran (statement ∷ others) commits p.tokens)
-    (λ spent. ways_mono (finished statement (Err (plain statements_spent))) none_open commits p Kept (Settled (FailsBy (or_full statement (plain statements_spent) p) statement) commits p.tokens) (Ran (statement ∷ others) commits p.tokens) (ran_spent statement others commits p.tokens p)
-    (fails_ways Kept statement (plain statements_spent) commits p.tokens none_open commits p refl refl shut refl))
-    (λ some. ways_bind (means statement) (goes_on (each_of others)) none_open commits (made counts p) Kept (Settled (Ends statement) commits p.tokens) (Ran (statement ∷ others) commits p.tokens)
-    (means_ways Kept statement commits (first_kept Kept statement others commits p kept) (made counts p) shut)
-    (behind_ways Kept statement others commits p kept (λ c q closed more. each_ways Kept others c q closed more)))
+  run_held : (statements : List Statement) (p new : SessionProgress) (exchanges : List Exchange) (exit : Exit) → ArePlain statements → IsIdle p → Held (each_of one statements around) p exchanges exit new → Ran statements p exchanges exit new
+  unfolding each_of Held
+  run_held [] p new exchanges exit plain_all idle held = (
+    ([], ap (λ (q : SessionProgress). q.tokens) held.2 ∙ sym (append-nil p.tokens), (held.1, refl, ap commits_of held.0, held.0, held.2)),
+    ap progress_of held.0,
+    subst IsIdle (sym held.2) idle,
+  )
+  run_held (statement ∷ others) p new exchanges exit plain_all idle held =
+      let on = held_apart (one statement around) (λ exit. goes_on (each_of one others around) exit) p new exchanges exit held in
+      by_came on.front on.back on.mid on.came on.parts (mean_closed levels around statement p on.mid on.front on.came plain_all.0 idle on.held) (λ q back now rest. run_held others q new back exit plain_all.1 now rest) on.rest
+    where
+      stopped : (front back : List Exchange) (mid : SessionProgress) (came : Exit) → exchanges ≡ front ++ back → (first : Closed around statement p front came mid) → (back ≡ []) × (exit ≡ came) × (new ≡ mid)
+          → ((exit ≡ came) × ◌≡◌ {A = List Token} [] [] × ◌≡◌ {A = Commits} [] [] × (back ≡ []) × (new ≡ mid) → IfOn came (Runs around others mid exit [] [] back new) ((exit ≡ came) × ◌≡◌ {A = List Token} [] [] × ◌≡◌ {A = Commits} [] [] × (back ≡ []) × (new ≡ mid)))
+          → Ran (statement ∷ others) p exchanges exit new
+      stopped front back mid came parts first rest goes =
+          ran_on statement others p mid new exchanges front back came exit parts first [] [] (ap (λ (q : SessionProgress). q.tokens) rest.2 ∙ sym (append-nil mid.tokens)) (ap commits_of rest.0) (ap progress_of rest.0) (subst IsIdle (sym rest.2) first.idle)
+          (goes (rest.1, refl, refl, rest.0, rest.2))
+
+      by_came : (front back : List Exchange) (mid : SessionProgress) (came : Exit) → exchanges ≡ front ++ back → (first : Closed around statement p front came mid)
+          → ((q : SessionProgress) (back : List Exchange) → IsIdle q → Held (each_of one others around) q back exit new → Ran others q back exit new) → Held (goes_on (each_of one others around) came) mid back exit new → Ran (statement ∷ others) p exchanges exit new
+      by_came front back mid On parts first goes rest =
+          let others_ran = goes mid back first.idle rest in
+          ran_on statement others p mid new exchanges front back On exit parts first others_ran.0.0 (commits_of back) others_ran.0.1 refl others_ran.1 others_ran.2 others_ran.0.2
+      by_came front back mid Leave parts first goes rest = stopped front back mid Leave parts first rest (λ is. is)
+      by_came front back mid Again parts first goes rest = stopped front back mid Again parts first rest (λ is. is)
+      by_came front back mid Return parts first goes rest = stopped front back mid Return parts first rest (λ is. is)
+      by_came front back mid (Raise raised) parts first goes rest = stopped front back mid (Raise raised) parts first rest (λ is. is)
+      by_came front back mid End parts first goes rest = stopped front back mid End parts first rest (λ is. is)
+
+pub plain_run : PlainRun
+unfolding Held
+plain_run levels around statements old new exchanges exit plain_all idle held = run_held levels around statements old new exchanges exit plain_all idle held
 
 -- ---- a batch
 
--- the end was sent behind what the statements have sent
-abbrev Told : List Served → Unit {0} → Stand → Commits → SessionProgress → Type 0
-Told statements nothing s c q = (q.is_open ≡ false) × (tokens : List Token) × (exit : Exit) × (q.tokens ≡ tokens ++ batch_done exit ∷ []) × Run statements exit tokens c
-
-batch_ways : (Kept : Commits → Type 0) (statements : List Served) (p : SessionProgress) → p.is_open ≡ false → ((more : Commits) → AreWhole statements more → Kept more) → Ways (batch statements) none_open [] p Kept (Told statements)
-unfolding batch
-batch_ways Kept statements p shut kept = ways_bind (each_of statements) (λ exit. makes (sends (batch_done exit ∷ [])) (over tt)) none_open [] (made begins p) Kept (Ran statements [] []) (Told statements) (each_ways Kept statements [] (made begins p) shut kept)
-    (λ exit s c q was. (was.1, was.2, exit, ap (λ (l : List Token). l ++ batch_done exit ∷ []) was.4, subst (λ (l : Commits). Run statements exit was.2 l) (sym was.5) was.6))
-
-batch_settled : (statements : List Served) (old new : SessionProgress) (exchanges : List Exchange) → old.is_open ≡ false → Held (batch statements) old exchanges tt new
-    → (new.is_open ≡ false) × (tokens : List Token) × (exit : Exit) × (new.tokens ≡ tokens ++ batch_done exit ∷ []) × Run statements exit tokens (commits_of exchanges)
-batch_settled statements old new exchanges shut held = ways_held (batch statements) none_open [] old Free (Told statements) exchanges tt new (batch_ways Free statements old shut (λ more whole. tt)) held
+ends_held : (exit : Exit) (p new : SessionProgress) (exchanges : List Exchange) (done : Unit {0}) → p.txn.doomed ≡ false → Held (ends exit) p exchanges done new → (exchanges ≡ []) × (new ≡ made (sends (batch_done (has_failed exit) ∷ [])) p)
+unfolding ends Held
+ends_held exit p new exchanges done sound held = by_doom p.txn.doomed sound held
+  where
+    by_doom : (doomed : Bool) → doomed ≡ false → Held (if doomed then ends_doomed else makes (sends (batch_done (has_failed exit) ∷ [])) (over tt)) p exchanges done new → (exchanges ≡ []) × (new ≡ made (sends (batch_done (has_failed exit) ∷ [])) p)
+    by_doom true is was = absurd (let no : true ≡ false = is in cc)
+    by_doom false is was = (was.0, was.2)
 
 pub batch_runs : BatchRuns
-batch_runs statements old new exchanges shut held = let was = batch_settled statements old new exchanges shut held in (was.1, was.2, was.3, was.4)
+unfolding batch Held
+batch_runs statements old new exchanges plain_all idle held =
+    let begun : SessionProgress = made (begins (vars_of statements)) old in
+    let on = held_apart (meaning statement_limit statements around_batch) ends begun new exchanges tt held in
+    let ran = run_held statement_limit around_batch statements begun on.mid on.front on.came plain_all (record { shut = idle.shut; closed = idle.closed; sound = idle.sound }) on.held in
+    by_ran begun on.front on.back on.mid on.came on.parts refl ran (ends_held on.came on.mid new on.back tt ran.2.sound on.rest)
+  where
+    by_ran : (begun : SessionProgress) (front back : List Exchange) (mid : SessionProgress) (exit : Exit) → exchanges ≡ front ++ back → begun ≡ made (begins (vars_of statements)) old → Ran statement_limit around_batch statements begun front exit mid
+        → (back ≡ []) × (new ≡ made (sends (batch_done (has_failed exit) ∷ [])) mid)
+        → ((tokens : List Token) × (exit : Exit) × (last : SessionProgress) × (new.tokens ≡ tokens ++ batch_done (has_failed exit) ∷ []) × Runs around_batch statements (made (begins (vars_of statements)) old) exit tokens (commits_of exchanges) exchanges last) × (progress_of exchanges ≡ none_open) × IsIdle new
+    by_ran begun front back mid exit parts same ran end =
+        let whole : front ≡ exchanges = sym (parts ∙ ap (λ (l : List Exchange). front ++ l) end.0 ∙ append-nil front) in
+        let started : begun.tokens ≡ [] = ap (λ (q : SessionProgress). q.tokens) same in (
+          (
+            ran.0.0,
+            exit,
+            mid,
+            ap (λ (q : SessionProgress). q.tokens) end.1 ∙ ap (λ (t : List Token). t ++ batch_done (has_failed exit) ∷ []) (ran.0.1 ∙ ap (λ (t : List Token). t ++ ran.0.0) started),
+            subst (λ (q : SessionProgress). Runs around_batch statements q exit ran.0.0 (commits_of exchanges) exchanges mid) same (subst (λ (l : List Exchange). Runs around_batch statements begun exit ran.0.0 (commits_of l) l mid) whole ran.0.2),
+          ),
+          subst (λ (l : List Exchange). progress_of l ≡ none_open) whole ran.1,
+          subst IsIdle (sym end.1) (record { shut = ran.2.shut; closed = ran.2.closed; sound = ran.2.sound }),
+        )
 
-pub batch_closes : BatchCloses
-batch_closes statements old new exchanges shut held = (batch_settled statements old new exchanges shut held).0
+-- ---- a text that is refused
 
--- What was left in the middle has committed whole statements alone.
-pub left_whole : LeftWhole
-left_whole statements old new exchanges shut left = ways_left (batch statements) none_open [] old (AreWhole statements) (Told statements) exchanges new (none_whole statements) (batch_ways (AreWhole statements) statements old shut (λ more whole. whole)) left
+at_once : (read : ReadText) (raised : Raised) → runs_text read ≡ makes (sends (error_token raised ∷ [])) (over End) → EndsAtOnce read raised
+unfolding batch ◌then◌ Held
+at_once read raised runs old new exchanges sound held =
+    let begun : SessionProgress = made (begins (vars_in_text read)) old in
+    let on : Held (ends End) (made (sends (error_token raised ∷ [])) begun) exchanges tt new = subst (λ (tree : Doing Exit). Held (tree then ends) begun exchanges tt new) runs held in
+    let end = ends_held End (made (sends (error_token raised ∷ [])) begun) new exchanges tt sound on in
+    (end.0, ap (λ (q : SessionProgress). q.tokens) end.1, ap (λ (q : SessionProgress). q.is_open) end.1)
+
+pub refused_ends : RefusedEnds
+refused_ends line code near = at_once (text.Refused line code near) (raised_at line (naming code near)) refl
+
+pub unbuilt_ends : UnbuiltEnds
+unbuilt_ends = at_once text.NotBuilt (raised_at (pos 1) (plain not_built)) refl

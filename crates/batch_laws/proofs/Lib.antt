@@ -1,8 +1,14 @@
 -- Read in this order; the comment behind a name says what the file is for.
 pub mod Dialogs  -- all ways that a dialog may go
-pub mod Ways  -- all ways that a tree may go
 pub mod Writes  -- what is read changes nothing, and changes stay whole or not at all
-pub mod Works  -- what a statement has written within a transaction
-pub mod Statements  -- what a statement has sent and committed
-pub mod Batches  -- what a batch has
-mod StandardFacts  -- worked plans
+pub mod Leaving  -- what exchanges leave of a transaction, part by part
+pub mod Statements  -- what a statement leaves of its transaction
+pub mod Idle  -- plain statements open no transaction
+pub mod Ending  -- how a statement ends, and what it has sent
+pub mod Turns  -- statements one after another
+pub mod Batches  -- a batch of plain statements
+pub mod Transactions  -- BEGIN TRANSACTION, COMMIT, ROLLBACK and SAVE TRANSACTION
+pub mod Lefts  -- plain statements that were left
+pub mod Telling  -- what a statement tells, and what only reads
+pub mod Paths  -- each commit ends the transaction of a statement
+mod StandardFacts  -- worked exchanges

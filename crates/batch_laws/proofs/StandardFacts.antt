@@ -1,15 +1,28 @@
--- What known plans commit, and what comes behind a text that is refused.
-use Rattle.std.proofs.Common.{◌≡◌, ℕ, ℤ, inl, inr, List, [], ◌∷◌, ◌++◌, Some, refl, ap, ◌∙◌, subst}
+-- What known exchanges leave and commit.
+use Rattle.std.proofs.Common.{◌≡◌, ℕ, Bool, true, false, List, [], ◌∷◌, ◌++◌, Some, None, Ok, refl}
 use Rattle.catalog_rows.specs.Definitions.{objects_name, object_key, row_of}
+use Rattle.tsql_tree.specs.declared.definition.TableTree.{TableTree}
+use Rattle.tsql_tree.specs.declared.statement.Form.{Form-F}
+use Rattle.error_table.specs.declared.action.Action.TheVariants as act
+use Rattle.step_model.specs.declared.change.Planned.{Planned}
+use Rattle.step_model.specs.declared.manner.Manner.{Manner}
+use Rattle.step_model.specs.declared.op.Op.TheVariants as ops
+use Rattle.step_model.specs.declared.reply.Reply.TheVariants as replies
+use Rattle.step_model.specs.Exchange.{Exchange}
 use Rattle.step_model.specs.Fits.{commit_of}
 use Rattle.step_model.specs.Net.{Net}
+use Rattle.step_model.specs.Own.{MarkedAt, Progress as Stand, none_open}
 use Rattle.constraint_check.specs.Reads.{rows_table}
-use Rattle.tds_tokens.specs.declared.token.Token.{Token}
-use Rattle.batch_meaning.specs.declared.exit.Exit.{Exit}
-use Rattle.batch_meaning.specs.declared.exit.Exit.TheVariants.{End}
-use Rattle.batch_meaning.specs.declared.form.Form.TheVariants as forms
-use Rattle.batch_meaning.specs.declared.form.Served.{Served}
-use Rattle.batch_laws.specs.Committing.{Commits, definition_put, Ends, IfOn, Nothing, Run}
+use Rattle.batch_meaning.specs.declared.exit.Exit.TheVariants.{On, End, Return, Raise}
+use Rattle.batch_meaning.specs.declared.raised.Raised.{Raised}
+use Rattle.batch_meaning.specs.Changing.{created}
+use Rattle.batch_meaning.specs.Progress.{first_progress}
+use Rattle.batch_meaning.specs.Raised.{error_token}
+use Rattle.batch_meaning.specs.Selecting.{no_effect}
+use Rattle.batch_meaning.specs.Tokens.{statement_failed}
+use Rattle.statement_paths.specs.Paths.{definition_put, replied}
+use Rattle.batch_laws.specs.Committing.{exit_for, is_plain, IsIdle, Leaves, StrikesBy}
+use Rattle.batch_laws.specs.Transactions.{CommitsBy, LeavesAll}
 
 -- a SELECT commits nothing
 select_commits : commit_of (Net []) ≡ []
@@ -19,18 +32,60 @@ select_commits = refl
 created_commits : (name text : List ℕ) → commit_of (Net (definition_put name text ∷ [])) ≡ (record { table = rows_table objects_name; key = object_key name; row = Some (row_of name text) } ∷ []) ∷ []
 created_commits name text = refl
 
--- a refused text
-abbrev refused : ℤ → ℕ → List ℕ → Served
-refused line code near = record { line = line; form = forms.Refused code near }
+-- before its first batch a session is idle
+first_idle : IsIdle first_progress
+first_idle = record { shut = refl; closed = refl; sound = refl }
 
--- it ends its batch, and commits nothing
-refused_ends : (line : ℤ) (code : ℕ) (near : List ℕ) (exit : Exit) (tokens : List Token) (commits : Commits) → Ends (refused line code near) exit tokens commits → (exit ≡ End) × (commits ≡ [])
-refused_ends line code near exit tokens commits (inl is) = absurd is.1.1
-refused_ends line code near exit tokens commits (inr is) = (is.1.2, is.1.1)
+-- CREATE TABLE is plain, and a block is not; RETURN leaves the batch
+create_plain : (table : TableTree) (text : List ℕ) → is_plain (Form-F.CreateTable table text) ≡ true
+create_plain table text = refl
 
--- nothing comes behind it
-refused_last : (line : ℤ) (code : ℕ) (near : List ℕ) (others : List Served) (exit : Exit) (tokens : List Token) (commits : Commits) → Run (refused line code near ∷ others) exit tokens commits → (exit ≡ End) × (commits ≡ [])
-refused_last line code near others exit tokens commits run =
-    let ended = refused_ends line code near run.0 run.1 run.3 run.7 in
-    let rest : (exit ≡ End) × Nothing run.2 run.4 = subst (λ (x : Exit). IfOn x (Run others exit run.2 run.4) ((exit ≡ End) × Nothing run.2 run.4)) ended.0 run.8 in
-    (rest.0, run.6 ∙ ap (λ (l : Commits). l ++ run.4) ended.1 ∙ rest.1.1)
+block_holds : is_plain (Form-F.Block []) ≡ false
+block_holds = refl
+
+return_leaves : exit_for (Form-F.Return None) ≡ Return
+return_leaves = refl
+
+module _ (manner : Manner) (name text : List ℕ) (mark place : ℕ) where
+  abbrev put : List Exchange
+  put = replied manner ops.Mark (replies.Marked mark) ∷ replied manner (created name text) replies.Done ∷ []
+
+  -- in a transaction of its own it is committed
+  own_created : Leaves false false none_open (replied manner ops.Begin replies.Began ∷ put ++ replied manner ops.Relax replies.Done ∷ replied manner ops.Commit (replies.Ended place) ∷ []) (definition_put name text ∷ [])
+  own_created = (refl, refl)
+
+  module _ (own : List Planned) (marks : List MarkedAt) where
+    abbrev opened : Stand
+    opened = record { is_open = true; own = own; marks = marks }
+
+    -- in an open one it stands behind what that had written
+    open_created : Leaves true true opened put (definition_put name text ∷ [])
+    open_created = (refl, refl, refl)
+
+    -- a transaction that is rolled back commits nothing
+    rolled_back : Leaves true false opened (put ++ replied manner ops.Rollback (replies.Ended place) ∷ []) []
+    rolled_back = (refl, refl)
+
+    -- what SAVE TRANSACTION has marked stands
+    saved : LeavesAll opened (replied manner ops.Mark (replies.Marked mark) ∷ [])
+    saved = (refl, refl)
+
+  -- where nothing was written COMMIT commits nothing
+  nothing_committed : CommitsBy (Ok true) (Ok no_effect) (record { is_open = true; own = []; marks = [] }) (replied manner ops.Commit (replies.Ended place) ∷ [])
+  nothing_committed = (refl, refl)
+
+  -- and else all that was
+  all_committed : CommitsBy (Ok true) (Ok no_effect) (record { is_open = true; own = definition_put name text ∷ []; marks = [] }) (replied manner ops.Commit (replies.Ended place) ∷ [])
+  all_committed = (refl, refl)
+
+-- an error that ends its statement is told, and the batch goes on
+told_on : (manner : Manner) (is_open : Bool) (serial command : ℕ) (raised : Raised) → StrikesBy manner false act.Statement is_open serial command raised On (error_token raised ∷ statement_failed command ∷ []) []
+told_on manner is_open serial command raised = (refl, refl, refl)
+
+-- one that is caught sends nothing
+caught_silent : (manner : Manner) (is_open : Bool) (serial command : ℕ) (raised : Raised) → StrikesBy manner true act.Statement is_open serial command raised (Raise raised) [] []
+caught_silent manner is_open serial command raised = (refl, refl, refl)
+
+-- one that would end a transaction ends the batch alone where none is open
+told_alone : (manner : Manner) (serial command : ℕ) (raised : Raised) → StrikesBy manner false act.BatchAndTransaction false serial command raised End (error_token raised ∷ []) []
+told_alone manner serial command raised = (refl, refl, refl)

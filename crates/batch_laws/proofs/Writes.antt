@@ -27,10 +27,11 @@ use Rattle.constraint_check.specs.Judged.{judge}
 use Rattle.dml_exec.specs.declared.refusal.Level.{Level}
 use Rattle.dml_exec.specs.declared.refusal.Refusal.{Refusal}
 use Rattle.dml_exec.specs.declared.refusal.Refusal.TheVariants.{Memory}
+use Rattle.dml_exec.specs.declared.written.Attempt.{Attempt}
 use Rattle.dml_exec.specs.declared.written.Written.{Written}
-use Rattle.dml_exec.specs.Asking.{on_ok, ◌>>=◌, with_room}
-use Rattle.dml_exec.specs.Reading.{TableRead, fits, fetch_of, past, fetches, reads_on, rows_from, rows_in, table_fetch, reads_table, images_from, images_of, reads_of}
-use Rattle.dml_exec.specs.Writing.{no_room, done_by, asks_deed, writes_one, writes_all, halted, is_one_key, rows_checked, broken_by, checks_one, checks_all, works, ends, marked, writes}
+use Rattle.dml_exec.specs.Asking.{on_ok, ◌>>=◌, with_room, with_room_if}
+use Rattle.dml_exec.specs.Reading.{TableRead, behind_gone, fits, fetch_of, fetches, from, is_short, key_width, reads_on, rows_from, rows_in, table_fetch, reads_table, images_from, images_of, reads_of}
+use Rattle.dml_exec.specs.Writing.{no_room, done_by, asks_deed, writes_one, writes_all, halted, is_one_key, rows_checked, broken_by, checks_one, checks_all, works, ends, marked, attempts, writes}
 use Rattle.dml_exec.proofs.Halts.{by_outcome}
 use Rattle.batch_laws.specs.Committing.{put_by}
 use Rattle.batch_laws.specs.Laws.{WritesWhole}
@@ -56,16 +57,23 @@ reads_bind {A = A} {B = B} {E = E} dialog go reads after = reads_then dialog (on
 reads_room : {A E : Type 0} (wanting : E) (dialog : Dialog (Result A E)) → Reads dialog → Reads (with_room wanting dialog)
 reads_room {A = A} {E = E} wanting dialog reads stand = λ enough. goes_if enough dialog (over (Err wanting)) stand (λ (a : Result A E) s. s ≡ stand) (λ is. reads stand) (λ is. refl)
 
+-- where memory is wanting in some case alone
+goes_room_if : {A E : Type 0} (wants : Bool) (wanting : E) (dialog : Dialog (Result A E)) (stand : Stand) (After : Result A E → Stand → Type 0)
+    → Goes dialog stand After → After (Err wanting) stand → Goes (with_room_if wants wanting dialog) stand After
+goes_room_if true wanting dialog stand After goes failed = λ enough. goes_if enough dialog (over (Err wanting)) stand After (λ is. goes) (λ is. failed)
+goes_room_if false wanting dialog stand After goes failed = goes
+
 -- one fetch
-reads_fetch : (keeps : Keeps) (table : TableName) (start : Start) (stop : Stop) (hold : Hold) (part : KeyPart) (so_far : Rows) → Reads (fetches keeps (ops.Fetch table start stop hold part) so_far)
-reads_fetch keeps table start stop hold part so_far stand = by_reply
+reads_fetch : (width : ℕ) (keeps : Keeps) (table : TableName) (start : Start) (stop : Stop) (hold : Hold) (part : KeyPart) (so_far : Rows) → Reads (fetches width keeps (ops.Fetch table start stop hold part) so_far)
+reads_fetch width keeps table start stop hold part so_far stand = by_reply
   where
     same : record stand { own = stand.own ++ [] } ≡ stand
     same = ap (λ (l : List Planned). record stand { own = l }) (append-nil stand.own)
 
-    by_reply : Goes (fetches keeps (ops.Fetch table start stop hold part) so_far) stand (λ (a : Result (Rows × Option (List Value)) Refusal) s. s ≡ stand)
-    by_reply (replies.Row key row at) can = λ enough. goes_if enough _ _ _ (λ (a : Result (Rows × Option (List Value)) Refusal) s. s ≡ stand) (λ is. same) (λ is. same)
-    by_reply (replies.Gone key at) can = same
+    by_reply : Goes (fetches width keeps (ops.Fetch table start stop hold part) so_far) stand (λ (a : Result (Rows × Option Start) Refusal) s. s ≡ stand)
+    by_reply (replies.Row key row at) can = λ enough. goes_if enough _ _ _ (λ (a : Result (Rows × Option Start) Refusal) s. s ≡ stand) (λ is. same) (λ is. same)
+    by_reply (replies.Gone key at) can =
+        goes_room_if (is_short width key) Memory (over (Ok (so_far, Some (behind_gone width key)))) (record stand { own = stand.own ++ [] }) (λ (a : Result (Rows × Option Start) Refusal) s. s ≡ stand) same same
     by_reply (replies.End at) can = same
     by_reply replies.Memory can = same
     by_reply (replies.TimedOut holder held asked on) can = same
@@ -73,32 +81,33 @@ reads_fetch keeps table start stop hold part so_far stand = by_reply
     by_reply reply can = tt
 
 -- any fetch
-reads_one : (keeps : Keeps) (fetch : Op) (so_far : Rows) → Reads (fetches keeps fetch so_far)
-reads_one keeps (ops.Fetch table start stop hold part) so_far = reads_fetch keeps table start stop hold part so_far
-reads_one keeps op so_far = λ stand. tt
+reads_one : (width : ℕ) (keeps : Keeps) (fetch : Op) (so_far : Rows) → Reads (fetches width keeps fetch so_far)
+reads_one width keeps (ops.Fetch table start stop hold part) so_far = reads_fetch width keeps table start stop hold part so_far
+reads_one width keeps op so_far = λ stand. tt
 
 -- behind a key
-reads_behind : (next : Rows → List Value → Dialog (Result Rows Refusal)) → ((more : Rows) (key : List Value) → Reads (next more key)) → (came : Rows × Option (List Value)) → Reads (reads_on next came)
+reads_behind : (next : Rows → Start → Dialog (Result Rows Refusal)) → ((more : Rows) (start : Start) → Reads (next more start)) → (came : Rows × Option Start) → Reads (reads_on next came)
 reads_behind next reads (more, None) = λ stand. refl
-reads_behind next reads (more, Some key) = reads more key
+reads_behind next reads (more, Some start) = reads more start
 
 -- the rest of a range
-reads_from : (keeps : Keeps) (left : ℕ) (fetch : Op) (so_far : Rows) → Reads (rows_from keeps left fetch so_far)
+reads_from : (width : ℕ) (keeps : Keeps) (left : ℕ) (fetch : Op) (so_far : Rows) → Reads (rows_from width keeps left fetch so_far)
 unfolding rows_from
-reads_from keeps zero fetch so_far = λ stand. refl
-reads_from keeps (suc left) fetch so_far = reads_bind (fetches keeps fetch so_far) (reads_on (λ more key. rows_from keeps left (past fetch key) more)) (reads_one keeps fetch so_far)
-    (reads_behind (λ more key. rows_from keeps left (past fetch key) more) (λ more key. reads_from keeps left (past fetch key) more))
+reads_from width keeps zero fetch so_far = λ stand. refl
+reads_from width keeps (suc left) fetch so_far =
+    reads_bind (fetches width keeps fetch so_far) (reads_on (λ more start. rows_from width keeps left (from start fetch) more)) (reads_one width keeps fetch so_far)
+    (reads_behind (λ more start. rows_from width keeps left (from start fetch) more) (λ more start. reads_from width keeps left (from start fetch) more))
 
-reads_rows : (keeps : Keeps) (one : Bool) (fetch : Op) → Reads (rows_in keeps one fetch)
+reads_rows : (shape : Option TableTree) (one : Bool) (fetch : Op) → Reads (rows_in shape one fetch)
 unfolding rows_in
-reads_rows keeps true fetch = reads_bind (fetches keeps fetch []) (λ came. over (Ok came.0)) (reads_one keeps fetch []) (λ came stand. refl)
-reads_rows keeps false fetch = reads_from keeps range_limit fetch []
+reads_rows shape true fetch = reads_bind (fetches (key_width shape) (fits shape) fetch []) (λ came. over (Ok came.0)) (reads_one (key_width shape) (fits shape) fetch []) (λ came stand. refl)
+reads_rows shape false fetch = reads_from (key_width shape) (fits shape) range_limit fetch []
 
 reads_images : (shapes : List TableTree) (level : Level) (images : List Rows) (reads : List TableRead) → Reads (images_from shapes level images reads)
 unfolding images_from reads_table
 reads_images shapes level images [] = λ stand. refl
 reads_images shapes level images (read ∷ reads) = reads_bind (reads_table shapes level read) (λ rows. with_room Memory (images_from shapes level (images ++ rows ∷ []) reads))
-    (reads_rows (fits (shape_of read.0 shapes)) false (table_fetch level read))
+    (reads_rows (shape_of read.0 shapes) false (table_fetch level read))
     (λ rows. reads_room Memory (images_from shapes level (images ++ rows ∷ []) reads) (reads_images shapes level (images ++ rows ∷ []) reads))
 
 -- the images of a statement
@@ -110,7 +119,7 @@ images_read shapes level of = reads_room Memory (images_from shapes level [] (re
 
 reads_checked : (shapes : List TableTree) (range : KeyRange) → Reads (rows_checked shapes range)
 unfolding rows_checked
-reads_checked shapes range = reads_room no_room _ (reads_then (rows_in (fits (shape_of range.table shapes)) (is_one_key range.start) (fetch_of range _ _)) halted (reads_rows _ _ _) by_came)
+reads_checked shapes range = reads_room no_room _ (reads_then (rows_in (shape_of range.table shapes) (is_one_key range.start) (fetch_of range _ _)) halted (reads_rows _ _ _) by_came)
   where
     by_came : (came : Result Rows Refusal) → Reads (halted came)
     by_came (Ok rows) = λ stand. refl
@@ -225,7 +234,7 @@ any_last mark own (first ∷ marks) = by_test (first.mark == mark) (any_last mar
     by_test false is = is
 
 -- the writes at a mark that was made last
-own_last : (mark : ℕ) (own : List Planned) (marks : List MarkedAt) → own_at mark (marks ++ record { mark = mark; own = own } ∷ []) ≡ own
+pub own_last : (mark : ℕ) (own : List Planned) (marks : List MarkedAt) → own_at mark (marks ++ record { mark = mark; own = own } ∷ []) ≡ own
 own_last mark own [] = rw (eq-eqb mark mark refl) refl
 own_last mark own (first ∷ marks) = rw (any_last mark own marks) (own_last mark own marks)
 
@@ -235,14 +244,17 @@ own_last mark own (first ∷ marks) = rw (any_last mark own marks) (own_last mar
 abbrev pub Whole : List Planned → Stand → Result Written Refusal → Stand → Type 0
 Whole changes stand result s = s.own ≡ stand.own ++ put_by result changes
 
-pub writes_go : (shapes : List TableTree) (changes : List Planned) (stand : Stand) → Goes (writes shapes changes) stand (Whole changes stand)
-unfolding writes
-writes_go shapes changes stand = by_reply
+abbrev pub WholeAttempt : List Planned → Stand → Attempt → Stand → Type 0
+WholeAttempt changes stand attempt s = Whole changes stand attempt.came s
+
+pub attempts_go : (shapes : List TableTree) (changes : List Planned) (stand : Stand) → Goes (attempts shapes changes) stand (WholeAttempt changes stand)
+unfolding attempts
+attempts_go shapes changes stand = by_reply
   where
     set : ℕ → Stand
     set mark = record stand { marks = stand.marks ++ record { mark = mark; own = stand.own } ∷ [] }
 
-    as_before : (mark : ℕ) (why : _) (s : Stand) → s.marks ≡ (set mark).marks → Goes (ends mark (Err why)) s (Whole changes stand)
+    as_before : (mark : ℕ) (why : _) (s : Stand) → s.marks ≡ (set mark).marks → Goes (ends mark (Err why)) s (WholeAttempt changes stand)
     as_before mark why s was replies.Done can = by_outcome (λ (r : Result Written Refusal). own_at mark s.marks ≡ stand.own ++ put_by r changes) (λ number name. back) (λ refusal. back) why
       where
         back : own_at mark s.marks ≡ stand.own ++ []
@@ -250,14 +262,18 @@ writes_go shapes changes stand = by_reply
     as_before mark why s was (replies.Ended place) can = absurd can
     as_before mark why s was reply can = tt
 
-    by_came : (mark : ℕ) (came : Result (Unit {0}) _) (s : Stand) → Made changes (set mark) came s → Goes (ends mark came) s (Whole changes stand)
+    by_came : (mark : ℕ) (came : Result (Unit {0}) _) (s : Stand) → Made changes (set mark) came s → Goes (ends mark came) s (WholeAttempt changes stand)
     by_came mark (Ok done) s was = was.1
     by_came mark (Err why) s was = as_before mark why s was
 
-    by_reply : Goes (asks ops.Mark tt (marked shapes changes)) stand (Whole changes stand)
-    by_reply (replies.Marked mark) can = goes_bind (works shapes changes) (ends mark) (set mark) (Made changes (set mark)) (Whole changes stand) (works_made shapes changes (set mark)) (by_came mark)
+    by_reply : Goes (asks ops.Mark tt (marked shapes changes)) stand (WholeAttempt changes stand)
+    by_reply (replies.Marked mark) can = goes_bind (works shapes changes) (ends mark) (set mark) (Made changes (set mark)) (WholeAttempt changes stand) (works_made shapes changes (set mark)) (by_came mark)
     by_reply replies.Memory can = refl
     by_reply reply can = tt
+
+pub writes_go : (shapes : List TableTree) (changes : List Planned) (stand : Stand) → Goes (writes shapes changes) stand (Whole changes stand)
+unfolding writes
+writes_go shapes changes stand = goes_bind (attempts shapes changes) (λ attempt. over attempt.came) stand (WholeAttempt changes stand) (Whole changes stand) (attempts_go shapes changes stand) (λ attempt s is. is)
 
 -- The changes of a write stay whole or not at all.
 pub writes_whole : WritesWhole

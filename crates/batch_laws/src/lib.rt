@@ -1,14 +1,18 @@
-//! Laws of batches: what the exchanges of a batch commit. A statement that succeeded has committed all that it planned, as
-//! one commit; one that failed has committed nothing; no transaction is open behind either.
+//! Laws of statements and batches: what they leave of their transaction and commit, and what they send. A statement that succeeded in an
+//! open transaction has left its changes behind what that had written; one in a transaction of its own has committed them, as one
+//! commit. One that failed has left its transaction as it was, or its error has ended it.
 //!
-//! Read `specs/Committing.antt` first: what a statement plans, sends and commits; then `specs/Laws.antt`. The functions do
-//! nothing: each one's contract is a law of the trees of `batch_meaning` and of the dialogs of `dml_exec`, for every reply
-//! that may come. They ask nothing of their caller; only the definitions that they cite say what they mean. That the
-//! commits of exchanges are those in the log is no part of it (`commits_once` of `step_model`), nor are the images that a
-//! plan is made on.
+//! Read `specs/Committing.antt` first, then `specs/Laws.antt` and `specs/Transactions.antt`; what a statement has asked is in
+//! `statement_paths`. The functions do nothing: each one's contract is a law of the trees of `batch_meaning` and of the dialogs of
+//! `dml_exec`, for every reply that may come. They ask nothing of their caller; only the definitions that they cite say what they
+//! mean. That the commits of exchanges are those in the log is no part of it (`commits_once` of `step_model`).
 #![tactic(auto)]
 
-ghost use Rattle.batch_laws.specs.Laws.{BatchCloses, BatchRuns, LeftWhole, StatementCloses, StatementEnds, WritesWhole};
+ghost use Rattle.std.specs.Prelude.{Bool};
+ghost use Rattle.batch_meaning.specs.declared.raised.Raised.{Raised};
+ghost use Rattle.batch_meaning.specs.Selecting.{Effect};
+ghost use Rattle.batch_laws.specs.Laws.{BatchCommits, BatchRuns, EachInTurn, EffectTells, FailureLeaves, LeftRun, MessageLeaves, PlainEnds, PlainRun, RefusedEnds, StatementEnds, TestLeaves, UnbuiltEnds, WorkLeaves, WorkTells, WritesWhole};
+ghost use Rattle.batch_laws.specs.Transactions.{BeginLeaves, CommitLeaves, RollbackLeaves, SaveLeaves};
 
 /// The changes of a write stay whole or not at all: where they were made and checked they stand behind what the
 /// transaction had written, and else that is as it was.
@@ -17,24 +21,79 @@ pub fn law_writes()
     ensures { WritesWhole }
 {}
 
-/// A statement that begins where no transaction is open has committed all that it planned, and sent what says so, or has
-/// sent its error and committed nothing; no transaction is open behind it.
-#[tactic(auto, using(crate::proofs::Batches::statement_ends, crate::proofs::Batches::statement_closes))]
+/// The work of a statement that succeeded leaves its changes in the open transaction, or they are committed in its own; where
+/// it failed, the transaction is as it was, or its error is that it can't be told.
+#[tactic(auto, using(crate::proofs::Statements::work_leaves, crate::proofs::Statements::failure_leaves))]
+pub fn law_work()
+    ensures done { WorkLeaves }
+    ensures failed { FailureLeaves }
+{}
+
+/// A statement that is done with its effect has done its work, sent what that came to and left its changes; or it has
+/// failed, its error has struck, and the transaction is as it was, or rolled back.
+#[tactic(auto, using(crate::proofs::Ending::statement_ends, crate::proofs::Turns::plain_ends))]
 pub fn law_statement()
-    ensures commits { StatementEnds }
-    ensures closed { StatementCloses }
+    ensures ends { StatementEnds }
+    ensures begun { PlainEnds }
 {}
 
-/// A batch that begins where no transaction is open has sent and committed what its statements have, one after another,
-/// and then sent its end; no transaction is open behind it.
-#[tactic(auto, using(crate::proofs::Batches::batch_runs, crate::proofs::Batches::batch_closes))]
+/// Whatever a statement does comes first, and then it goes on by what that came to, or its error strikes; one that is done
+/// with its effect sends its tokens.
+#[tactic(auto, using(crate::proofs::Telling::effect_tells))]
+pub fn law_told()
+    ensures works { WorkTells Effect }
+    ensures tests { WorkTells Bool }
+    ensures messages { WorkTells Raised }
+    ensures effect { EffectTells }
+{}
+
+/// A test and a message only read, and leave their transaction as it was.
+#[tactic(auto, using(crate::proofs::Telling::test_leaves, crate::proofs::Telling::message_leaves))]
+pub fn law_read()
+    ensures tests { TestLeaves }
+    ensures messages { MessageLeaves }
+{}
+
+/// BEGIN TRANSACTION, SAVE TRANSACTION and ROLLBACK commit nothing; the first two leave what the transaction has, and the last
+/// nothing, or what it had at a mark. The outermost COMMIT commits all that the transaction has, and an inner one nothing.
+#[tactic(auto, using(crate::proofs::Transactions::begin_leaves))]
+pub fn law_transactions()
+    ensures begins { BeginLeaves }
+    ensures commits { CommitLeaves }
+    ensures rolls_back { RollbackLeaves }
+    ensures saves { SaveLeaves }
+{}
+
+/// Of statements one after another each did what it means, from where the one before it had left its session, until one left
+/// the others.
+#[tactic(auto, using(crate::proofs::Turns::each_in_turn))]
+pub fn law_turns()
+    ensures { EachInTurn }
+{}
+
+/// Plain statements, and a batch of them, that begin where no transaction is open have sent and committed what each has, one
+/// after another; a batch then its end. No transaction is open behind them.
+#[tactic(auto, using(crate::proofs::Batches::plain_run, crate::proofs::Batches::batch_runs))]
 pub fn law_batch()
-    ensures commits { BatchRuns }
-    ensures closed { BatchCloses }
+    ensures statements { PlainRun }
+    ensures batch { BatchRuns }
 {}
 
-/// A batch that was left in the middle, for want of memory, has committed whole statements alone.
-#[tactic(auto, using(crate::proofs::Batches::left_whole))]
+/// A batch whose text is refused, or not built, asks nothing: its error is told, and its end.
+#[tactic(auto, using(crate::proofs::Batches::refused_ends, crate::proofs::Batches::unbuilt_ends))]
+pub fn law_refused()
+    ensures refused { RefusedEnds }
+    ensures unbuilt { UnbuiltEnds }
+{}
+
+/// A batch of plain statements that was left in the middle, for want of memory, has committed whole statements alone.
+#[tactic(auto, using(crate::proofs::Lefts::left_run))]
 pub fn law_left()
-    ensures { LeftWhole }
+    ensures { LeftRun }
+{}
+
+/// Each commit of such a batch, done or left, is the last exchange of a statement's own transaction, in which that did its
+/// work, and at whose beginning none was open.
+pub fn law_commits()
+    ensures { BatchCommits }
 {}

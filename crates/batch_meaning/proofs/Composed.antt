@@ -12,11 +12,8 @@ use Rattle.value_types.specs.declared.value.Value.{Value}
 use Rattle.catalog_rows.specs.Definitions.{IsDefinitionIn}
 use Rattle.batch_meaning.specs.Progress.{SessionProgress, SessionStep, made, asked}
 use Rattle.batch_meaning.specs.Doing.{Doing, over, reads, makes, defines, asks, room, never, ◌then◌, Held, Left, Came, Did, Exchanged, Leads}
-use Rattle.batch_meaning.specs.Meaning.{on_ok, ◌>>=◌, action_for, acted_by, acted}
-use Rattle.error_table.specs.declared.action.Action.{Action}
-use Rattle.batch_meaning.specs.declared.exit.Exit.{Exit}
+use Rattle.batch_meaning.specs.Asking.{on_ok, ◌>>=◌}
 use Rattle.batch_meaning.specs.declared.failure.Failure.{Failure}
-use Rattle.batch_meaning.specs.declared.form.Served.{Served}
 
 -- ---- fronts
 
@@ -106,13 +103,13 @@ pub does_asks : {before mid after : PortPast} {A : Type 0} {op : Op} {go : Reply
     → Exchanged before mid op p reply q → Did mid after (go reply) q result new → Did before after (asks op go) p result new
 unfolding Held Left
 does_asks {before = before} {mid = mid} {after = after} {A = A} {op = op} {go = go} {p = p} {q = q} {new = new} {reply = reply} {result = Ok a} first does = record {
-  exchanges = record { op = op; manner = p.manner; reply = reply } ∷ does.exchanges;
-  past = goes_further before mid after (record { op = op; manner = p.manner; reply = reply } ∷ []) does.exchanges first.past does.past;
+  exchanges = record { op = op; manner = p.settings.manner; reply = reply } ∷ does.exchanges;
+  past = goes_further before mid after (record { op = op; manner = p.settings.manner; reply = reply } ∷ []) does.exchanges first.past does.past;
   came = (refl, refl, first.can, subst (λ (x : SessionProgress). Held (go reply) x does.exchanges a new) first.same does.came);
 }
 does_asks {before = before} {mid = mid} {after = after} {A = A} {op = op} {go = go} {p = p} {q = q} {new = new} {reply = reply} {result = Err m} first does = record {
-  exchanges = record { op = op; manner = p.manner; reply = reply } ∷ does.exchanges;
-  past = goes_further before mid after (record { op = op; manner = p.manner; reply = reply } ∷ []) does.exchanges first.past does.past;
+  exchanges = record { op = op; manner = p.settings.manner; reply = reply } ∷ does.exchanges;
+  past = goes_further before mid after (record { op = op; manner = p.settings.manner; reply = reply } ∷ []) does.exchanges first.past does.past;
   came = (refl, refl, first.can, subst (λ (x : SessionProgress). Left (go reply) x does.exchanges new) first.same does.came);
 }
 
@@ -211,8 +208,3 @@ pub does_fail : {before mid : PortPast} {A B : Type 0} (tree : Doing (Result A F
     → IsErr result → IsErrAnd result (λ x. x ≡ failure) → Did before mid tree p (Ok (Err failure)) q → Did before mid (tree >>= go) p (Ok result) q
 does_fail tree go (Ok b) err same first = absurd (let no : false ≡ true = err in cc)
 does_fail {before = before} {mid = mid} {B = B} tree go {p = p} {q = q} (Err x) err same first = subst (λ (f : Failure). Did {A = Result B Failure} before mid (tree >>= go) p (Ok (Err f)) q) (sym same) (does_then tree (on_ok go) first (does_over refl))
-
--- an error, by what it ends
-pub does_acted : {before after : PortPast} (statement : Served) (failure : Failure) {action : Action} {p new : SessionProgress} {result : Result Exit Memory} → action ≡ action_for statement.form failure → Did before after (acted_by action statement failure) p result new → Did before after (acted statement failure) p result new
-unfolding acted
-does_acted {before = before} {after = after} statement failure {p = p} {new = new} {result = result} is does = subst (λ (a : Action). Did before after (acted_by a statement failure) p result new) is does

@@ -1,5 +1,3 @@
 pub mod Composed
-pub mod Holding
 pub mod OneReading
-pub mod StandardFacts
-pub mod Forms
+mod StandardFacts

@@ -17,11 +17,12 @@ use Rattle.step_model.specs.Ranges.{Rows, no_memory}
 use Rattle.constraint_check.specs.Reads.{rows_table, shape_of}
 use Rattle.dml_exec.specs.Planning.{Plan, Chg, erased_at, rows_told, table_written}
 use Rattle.tds_tokens.specs.Numbers.{command_insert, command_delete, command_update}
-use Rattle.tds_tokens.specs.declared.token.Token.{Token}
 use Rattle.batch_meaning.specs.declared.failure.Failure.{Failure}
+use Rattle.batch_meaning.specs.Raised.{Around}
 use Rattle.batch_meaning.specs.Failures.{plain, naming}
-use Rattle.batch_meaning.specs.Selecting.{bound_as, first_system}
-use Rattle.batch_meaning.specs.Tokens.{written_tokens}
+use Rattle.batch_meaning.specs.Progress.{SessionProgress, system_in, values_of}
+use Rattle.batch_meaning.specs.Selecting.{Effect, bound_as}
+use Rattle.batch_meaning.specs.Tokens.{statement_done}
 
 -- ---- INSERT, UPDATE and DELETE
 
@@ -35,19 +36,20 @@ planned_as (Err (Number number)) = Err (record { number = number; name = None })
 planned_as (Err (Named number name)) = Err (record { number = number; name = Some name })
 planned_as (Err Memory) = Err (plain no_memory)
 
--- by what the table's CHECKs are bound to
-abbrev pub planned_with : TableTree → BoundWrite → List Rows → Result (List BoundTest) Failure → Result (List Planned) Failure
-planned_with shape of images (Ok checks) = planned_as (Chg [] first_system shape checks of images)
-planned_with shape of images (Err failure) = Err failure
+module _ (around : Around) (p : SessionProgress) where
+  -- by what the table's CHECKs are bound to
+  abbrev pub planned_with : TableTree → BoundWrite → List Rows → Result (List BoundTest) Failure → Result (List Planned) Failure
+  planned_with shape of images (Ok checks) = planned_as (Chg (values_of p.vars) (system_in around p) shape checks of images)
+  planned_with shape of images (Err failure) = Err failure
 
--- by the shape of the table that is written, which is there where the write is bound
-abbrev pub planned_in : Option TableTree → BoundWrite → List Rows → Result (List Planned) Failure
-planned_in None of images = Err (plain unknown_table)
-planned_in (Some shape) of images = planned_with shape of images (bound_as (bind_checks shape))
+  -- by the shape of the table that is written, which is there where the write is bound
+  abbrev pub planned_in : Option TableTree → BoundWrite → List Rows → Result (List Planned) Failure
+  planned_in None of images = Err (plain unknown_table)
+  planned_in (Some shape) of images = planned_with shape of images (bound_as (bind_checks shape))
 
--- the changes of a write on these images, by the shapes of the tables that it names
-abbrev pub planned_over : List TableTree → BoundWrite → List Rows → Result (List Planned) Failure
-planned_over shapes of images = planned_in (shape_of (table_written of) shapes) of images
+  -- the changes of a write on these images, by the shapes of the tables that it names
+  abbrev pub planned_over : List TableTree → BoundWrite → List Rows → Result (List Planned) Failure
+  planned_over shapes of images = planned_in (shape_of (table_written of) shapes) of images
 
 -- the command that the DONE of a write names
 abbrev pub write_command : BoundWrite → ℕ
@@ -55,9 +57,9 @@ write_command (write.Insert table places given) = command_insert
 write_command (write.Update table sets filter inner) = command_update
 write_command (write.Delete table filter inner) = command_delete
 
--- what is sent for a write: how many rows it tells
-abbrev pub tokens_by : BoundWrite → List Planned → List Token
-tokens_by of changes = written_tokens (write_command of) (rows_told of changes)
+-- what a write tells: how many rows
+abbrev pub told_by : Bool → BoundWrite → List Planned → Effect
+told_by no_count of changes = record { sets = []; rows = rows_told of changes; tokens = statement_done no_count (write_command of) (rows_told of changes) ∷ [] }
 
 -- ---- CREATE TABLE
 
@@ -100,5 +102,5 @@ abbrev pub dropped_as : List ℕ → Result (List Planned) Failure → Result (L
 dropped_as name (Ok changes) = Ok (with_definition name changes)
 dropped_as name (Err failure) = Err failure
 
-abbrev pub dropped : TableTree → List ℕ → List Rows → Result (List Planned) Failure
-dropped shape name images = dropped_as name (planned_as (Chg [] first_system shape [] (whole name) images))
+abbrev pub dropped : Around → SessionProgress → TableTree → List ℕ → List Rows → Result (List Planned) Failure
+dropped around p shape name images = dropped_as name (planned_as (Chg (values_of p.vars) (system_in around p) shape [] (whole name) images))

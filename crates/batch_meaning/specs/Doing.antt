@@ -45,7 +45,7 @@ Held (reads look) p exchanges result new = Held (look p) p exchanges result new
 Held (makes step next) p exchanges result new = Held next (made step p) exchanges result new
 Held (defines row go) p exchanges result new = (found : Option Definition) × IsDefinitionIn row found × Held (go found) p exchanges result new
 Held (asks op go) p [] result new = ⊥
-Held (asks op go) p (x ∷ later) result new = (x.op ≡ op) × (x.manner ≡ p.manner) × CanReply op x.reply × Held (go x.reply) (asked op x.reply p) later result new
+Held (asks op go) p (x ∷ later) result new = (x.op ≡ op) × (x.manner ≡ p.settings.manner) × CanReply op x.reply × Held (go x.reply) (asked op x.reply p) later result new
 Held (room go) p exchanges result new = (enough : Bool) × Held (go enough) p exchanges result new
 Held never p exchanges result new = ⊥
 
@@ -57,7 +57,7 @@ Left (reads look) p exchanges new = Left (look p) p exchanges new
 Left (makes step next) p exchanges new = ((exchanges ≡ []) × (new ≡ p)) ⊎ Left next (made step p) exchanges new
 Left (defines row go) p exchanges new = ((exchanges ≡ []) × (new ≡ p)) ⊎ ((found : Option Definition) × IsDefinitionIn row found × Left (go found) p exchanges new)
 Left (asks op go) p [] new = new ≡ p
-Left (asks op go) p (x ∷ later) new = (x.op ≡ op) × (x.manner ≡ p.manner) × CanReply op x.reply × Left (go x.reply) (asked op x.reply p) later new
+Left (asks op go) p (x ∷ later) new = (x.op ≡ op) × (x.manner ≡ p.settings.manner) × CanReply op x.reply × Left (go x.reply) (asked op x.reply p) later new
 Left (room go) p exchanges new = (enough : Bool) × Left (go enough) p exchanges new
 Left never p exchanges new = (exchanges ≡ []) × (new ≡ p)
 
@@ -68,7 +68,7 @@ Came tree p exchanges (Err memory) new = Left tree p exchanges new
 
 -- one operation was asked, in the session's manner, and replied so
 pub record Exchanged (before after : PortPast) (op : Op) (old : SessionProgress) (reply : Reply) (new : SessionProgress) : Type 0 where
-  pub past : GoesOn before after (record { op = op; manner = old.manner; reply = reply } ∷ [])
+  pub past : GoesOn before after (record { op = op; manner = old.settings.manner; reply = reply } ∷ [])
   pub can : CanReply op reply
   pub same : new ≡ asked op reply old
 

@@ -1,9 +1,15 @@
 -- Read in this order; the comment behind a name says what the file is for.
-pub mod Statements  -- ReadsAs: which statements a text is read as
+pub mod Statements  -- ReadsAs: what a text is read as, and the variables that it declares
 pub mod Failures  -- plain, naming: why a statement failed
-pub mod Tokens  -- result_tokens, written_tokens, failure_tokens: the tokens of a statement, by what came of it
-pub mod Selecting  -- answered: what a query comes to, apart from what is asked for it
-pub mod Changing  -- planned_over: what a write comes to, apart from what is asked for it
+pub mod Raised  -- raised_at, is_caught_in: an error that is raised, what is told of it, and which TRY catches it
+pub mod Settings  -- set_option: what SET makes of the settings of a session
+pub mod Tokens  -- result_tokens, batch_done: the tokens of a statement and of a batch's end
 pub mod Progress  -- Ready: how far a session has come, and the steps by which that changes
 pub mod Doing  -- Did: what a session does, as a tree of steps and operations
-pub mod Meaning  -- batch: what statements ask, and what comes of the replies
+pub mod Values  -- raiserror_of, rows_assigned: what a statement makes of the values of its expressions
+pub mod Selecting  -- result_of: what a query comes to, apart from what is asked for it
+pub mod Changing  -- planned_over: what a write comes to, apart from what is asked for it
+pub mod Asking  -- looks_up, reads_images, applies: what the parts of a statement ask
+pub mod Working  -- works_form: what a statement that reads or writes tables asks, and what comes of it
+pub mod Transactions  -- begins_transaction: what the statements on transactions ask
+pub mod Meaning  -- batch: what statements ask, what they end, and what comes of the replies

@@ -1,399 +1,298 @@
--- Own: what a batch means: what its statements ask of the port, in order, and what comes of the replies.
--- A statement looks its names up in `objects`, each key's range held; it is bound, and goes on by what it is bound to. Its
--- tables are read row by row, at the level READ COMMITTED. Outside a transaction a statement that asks anything is one of
--- its own, committed where it succeeds and else rolled back. A meaning is a tree; the code asks the port, and goes on by its replies.
-use Rattle.std.specs.Prelude.{ℕ, zero, suc, ◌==◌, ◌++◌, not, Bool, true, false, nat_lt, is_ok, if◌then◌else◌, List, [], ◌∷◌, Option, None, Some, Result, Ok, Err}
-use Rattle.lock_modes.specs.declared.KeyPart.TheVariants.{S}
-use Rattle.value_types.specs.declared.value.Value.{Value}
-use Rattle.tsql_tree.specs.declared.definition.Definition.{Definition}
-use Rattle.tsql_tree.specs.declared.definition.Definition.TheVariants.{Table, Procedure, Trigger}
-use Rattle.tsql_tree.specs.declared.definition.TableTree.{TableTree}
+-- Own: what a batch means: its statements one after another, what each of them ends, and where an error goes. A statement's case is a
+-- function of what stands around it, of how far the session has come and of the meaning of the statements that it holds. A meaning
+-- is a tree; the code asks the port, and goes on by its replies.
+use Rattle.std.specs.Prelude.{ℕ, zero, suc, ℤ, pos, ◌==◌, ◌&&◌, Bool, true, false, nat_lt, if◌then◌else◌, List, [], ◌∷◌, Option, None, Some, Result, Ok, Err}
+use Rattle.tsql_tree.specs.declared.option.SessionOption.{SessionOption}
 use Rattle.tsql_tree.specs.declared.statement.Form.{Form-F}
-use Rattle.tsql_tree.specs.declared.statement.Statement.{Statement as StatementTree}
-use Rattle.bound_tree.specs.declared.query.BoundQuery.{BoundQuery}
-use Rattle.bound_tree.specs.declared.write.Bound.{Bound}
-use Rattle.bound_tree.specs.declared.write.Bound.TheVariants as bound
-use Rattle.bound_tree.specs.declared.write.BoundWrite.{BoundWrite}
-use Rattle.binder.specs.Names.{Layer, form_of, looked_up}
-use Rattle.catalog_rows.specs.Definitions.{objects_name, is_objects, object_key, tables_of}
+use Rattle.tsql_tree.specs.declared.statement.Statement.{Statement, out-Statement}
+use Rattle.binder.specs.Names.{Layer, form_of}
 use Rattle.error_table.specs.declared.action.Action.{Action}
-use Rattle.error_table.specs.declared.action.Action.TheVariants.{Statement, Batch, BatchAndTransaction, Doom}
-use Rattle.error_table.specs.declared.action.RaisedBy.TheVariants.{Engine}
-use Rattle.error_table.specs.Act.{action_of}
-use Rattle.step_model.specs.declared.change.Planned.{Planned}
-use Rattle.step_model.specs.declared.op.Hold.TheVariants as hold
-use Rattle.step_model.specs.declared.op.Op.{Op}
+use Rattle.error_table.specs.declared.action.Action.TheVariants as action
 use Rattle.step_model.specs.declared.op.Op.TheVariants as ops
-use Rattle.step_model.specs.declared.range.Start.{Start}
-use Rattle.step_model.specs.declared.range.Start.TheVariants.{First, At, Past}
-use Rattle.step_model.specs.declared.range.Stop.TheVariants.{Last, Within}
-use Rattle.step_model.specs.declared.reply.Reply.{Reply}
-use Rattle.step_model.specs.declared.reply.Reply.TheVariants as replies
-use Rattle.step_model.specs.Dialog as dialog
-use Rattle.step_model.specs.Dialog.{Dialog}
-use Rattle.step_model.specs.Ranges.{Rows, no_memory, range_full, range_limit, lock_timeout, deadlock}
-use Rattle.constraint_check.specs.Reads.{rows_table, shape_of}
-use Rattle.dml_exec.specs.declared.refusal.Level.{Level}
-use Rattle.dml_exec.specs.declared.refusal.Level.TheVariants.{ReadCommitted, Serializable}
-use Rattle.dml_exec.specs.declared.refusal.Refusal.{Refusal}
-use Rattle.dml_exec.specs.declared.refusal.Refusal.TheVariants as refusal
-use Rattle.dml_exec.specs.declared.written.Written.{Written}
-use Rattle.dml_exec.specs.declared.written.Written.TheVariants as written
-use Rattle.dml_exec.specs.Reading.{images_of}
-use Rattle.dml_exec.specs.Writing.{writes}
-use Rattle.batch_meaning.specs.declared.exit.Exit.{Exit}
-use Rattle.batch_meaning.specs.declared.exit.Exit.TheVariants.{On, End}
-use Rattle.batch_meaning.specs.declared.failure.Failure.{Failure}
-use Rattle.batch_meaning.specs.declared.form.Form.{Form}
-use Rattle.batch_meaning.specs.declared.form.Form.TheVariants as forms
-use Rattle.batch_meaning.specs.declared.form.Served.{Served}
-use Rattle.batch_meaning.specs.Failures.{plain, naming}
-use Rattle.batch_meaning.specs.Statements.{is_select}
-use Rattle.batch_meaning.specs.Selecting.{result_full, not_built, answered, bound_over}
-use Rattle.batch_meaning.specs.Changing.{object_present, not_there, planned_over, tokens_by, created, unless_referred, whole, dropped}
-use Rattle.batch_meaning.specs.Progress.{SessionProgress, begins, counts, touches, sends, size_of}
-use Rattle.batch_meaning.specs.Doing.{Doing, over, reads, makes, defines, asks, room, never, ◌then◌}
-use Rattle.batch_meaning.specs.Tokens.{failure_tokens, batch_done}
 use Rattle.tds_tokens.specs.declared.token.Token.{Token}
+use Rattle.batch_meaning.specs.declared.exit.Exit.{Exit}
+use Rattle.batch_meaning.specs.declared.exit.Exit.TheVariants.{On, Leave, Again, Return, Raise, End}
+use Rattle.batch_meaning.specs.declared.failure.Failure.{Failure}
+use Rattle.batch_meaning.specs.declared.form.ReadText.{ReadText}
+use Rattle.batch_meaning.specs.declared.form.ReadText.TheVariants as text
+use Rattle.batch_meaning.specs.declared.raised.Raised.{Raised}
+use Rattle.batch_meaning.specs.declared.settings.Settings.{Settings}
+use Rattle.batch_meaning.specs.Failures.{plain, naming}
+use Rattle.batch_meaning.specs.Raised.{Around, action_in, again, around_batch, error_token, in_catch, in_try, is_caught_in, raised_at}
+use Rattle.batch_meaning.specs.Settings.{outside_profile, set_option}
+use Rattle.batch_meaning.specs.Statements.{vars_of}
+use Rattle.batch_meaning.specs.Tokens.{batch_done, command_of, statement_failed, transaction_rolled_back}
+use Rattle.batch_meaning.specs.Progress.{SessionProgress, begins, counts, dooms, sends, sets, size_of, statement_limit, tells_error, tells_rows}
+use Rattle.batch_meaning.specs.Doing.{Doing, over, reads, makes, asks, ◌then◌}
+use Rattle.batch_meaning.specs.Selecting.{Effect, messages, no_effect, not_built, result_full, sending}
+use Rattle.batch_meaning.specs.Values.{is_message}
+use Rattle.session_vars.specs.declared.Variable.{Variable}
+use Rattle.batch_meaning.specs.Asking.{assigns_all, where_ended}
+use Rattle.batch_meaning.specs.Working.{composes, creates_table, tests, works}
+use Rattle.batch_meaning.specs.Transactions.{begins_transaction, commits_transaction, rolls_back_transaction, saves_transaction}
+
+abbrev pub Meaning : Type 0
+Meaning = Around → Doing Exit
+
+abbrev pub line_of : Statement → ℤ
+line_of statement = pos (out-Statement statement).line
+
+-- ---- errors
 
 abbrev pub statements_spent : ℕ
 statements_spent = 49001
 
--- ---- parts of a statement, which may fail
+abbrev pub doomed_at_end : ℕ
+doomed_at_end = 3998
 
--- an error that names nothing
-abbrev pub fails : {A : Type 0} → ℕ → Doing (Result A Failure)
-fails number = over (Err (plain number))
+abbrev pub doomed_write : ℕ
+doomed_write = 3930
 
--- one that names this, for which memory may be wanting
-abbrev pub fails_naming : {A : Type 0} → ℕ → List ℕ → Doing (Result A Failure)
-fails_naming number name = room λ enough. if enough then over (Err (naming number name)) else fails no_memory
-
--- going on where nothing failed
-abbrev pub on_ok : {A B : Type 0} → (A → Doing (Result B Failure)) → Result A Failure → Doing (Result B Failure)
-on_ok go (Ok a) = go a
-on_ok go (Err failure) = over (Err failure)
-
-infixl 10 ◌>>=◌
-abbrev pub ◌>>=◌ : {A B : Type 0} → Doing (Result A Failure) → (A → Doing (Result B Failure)) → Doing (Result B Failure)
-tree >>= go = tree then on_ok go
-
--- what wants memory first fails where there is none
-abbrev pub with_room : {A : Type 0} → Doing (Result A Failure) → Doing (Result A Failure)
-with_room tree = room λ enough. if enough then tree else fails no_memory
-
--- what wants memory for its result
-abbrev pub comes_to : {A : Type 0} → Result A Failure → Doing (Result A Failure)
-comes_to result = with_room (over result)
-
--- A reply that refuses the operation is the error of what was done: memory was wanting, another session's lock
--- stood in the way, or the session fell as a deadlock's victim.
-abbrev pub unless_refused : {A : Type 0} → (Reply → Doing (Result A Failure)) → Reply → Doing (Result A Failure)
-unless_refused go replies.Memory = fails no_memory
-unless_refused go (replies.TimedOut holder held wanted on) = fails lock_timeout
-unless_refused go (replies.Victim cycle) = fails deadlock
-unless_refused go reply = go reply
-
--- behind a reply that says that it is done
-abbrev pub where_done : {A : Type 0} → Doing A → Reply → Doing A
-where_done next replies.Done = next
-where_done next reply = never
-
--- ---- look-ups
-
--- what the row at a name's key in `objects` defines, or nothing
-abbrev pub known : Reply → Doing (Result (Option Definition) Failure)
-known (replies.Row key row at) = with_room (defines row (λ found. over (Ok found)))
-known (replies.Gone key at) = over (Ok None)
-known (replies.End at) = over (Ok None)
-known reply = never
-
--- the fetch of one whole key of `objects`, whose range is held
-abbrev pub definition_fetch : List ℕ → Op
-definition_fetch name = ops.Fetch (rows_table objects_name) (At (object_key name)) (Within (object_key name)) hold.Range S
-
--- the name is looked up; `objects` is no table of a batch, and nothing is asked of it
-unfoldable pub look_up : List ℕ → Doing (Result (Option Definition) Failure)
-look_up name = if is_objects name then over (Ok None) else with_room (asks (definition_fetch name) (unless_refused known))
-
--- what was found is a table
-abbrev pub is_table : Option Definition → Bool
-is_table None = false
-is_table (Some (Table table)) = true
-is_table (Some (Procedure procedure)) = false
-is_table (Some (Trigger trigger)) = false
-
--- a definition more, where there is one
-abbrev pub with_found : List Definition → Option Definition → List Definition
-with_found definitions None = definitions
-with_found definitions (Some definition) = definitions ++ definition ∷ []
-
--- names are looked up one after another, behind these definitions; the first that is no table's is the last
-unfoldable pub looks_up : List Definition → List (List ℕ) → Doing (Result (List Definition) Failure)
-looks_up definitions [] = over (Ok definitions)
-looks_up definitions (name ∷ names) = do
-  found ← look_up name
-  if is_table found then with_room (looks_up (with_found definitions found) names) else over (Ok definitions)
-
--- ---- all definitions
-
--- the fetch of `objects` from some key on, whose range is held
-abbrev pub objects_fetch : Start → Op
-objects_fetch start = ops.Fetch (rows_table objects_name) start Last hold.Range S
-
--- what a fetch's reply makes of the definitions so far, with the key to go on from, or none at the end
-abbrev pub defined_by : List Definition → Reply → Doing (Result (List Definition × Option (List Value)) Failure)
-defined_by so_far (replies.Row key row at) = with_room (defines row (λ found. with_room (over (Ok (with_found so_far found, Some key)))))
-defined_by so_far (replies.Gone key at) = over (Ok (so_far, Some key))
-defined_by so_far (replies.End at) = over (Ok (so_far, None))
-defined_by so_far reply = never
-
--- behind a key the range goes on
-abbrev pub defined_on : (List Definition → List Value → Doing (Result (List Definition) Failure)) → List Definition × Option (List Value) → Doing (Result (List Definition) Failure)
-defined_on next (so_far, None) = over (Ok so_far)
-defined_on next (so_far, Some key) = next so_far key
-
--- the rest of `objects`, behind these definitions; so many more keys may be looked at
-unfoldable pub defined_from : ℕ → Start → List Definition → Doing (Result (List Definition) Failure)
-defined_from zero start so_far = fails range_full
-defined_from (suc left) start so_far = asks (objects_fetch start) (unless_refused (defined_by so_far)) >>= defined_on (λ more key. defined_from left (Past key) more)
-
--- triggers, and tables that refer to the one that is written, are looked for among all definitions, which come in the order of their names
-unfoldable pub reads_definitions : Doing (Result (List Definition) Failure)
-reads_definitions = with_room (defined_from range_limit First [])
-
--- ---- dialogs
-
--- a dialog is held, and behind it another thing is done
-infixl 10 ◌gives◌
-unfoldable pub ◌gives◌ : {A B : Type 0} → Dialog A → (A → Doing B) → Doing B
-(dialog.over a) gives go = go a
-(dialog.asks op quiet next) gives go = asks op (λ reply. next reply gives go)
-(dialog.room next) gives go = room (λ enough. next enough gives go)
-dialog.never gives go = never
-
--- the same where a statement's end has to relax what the dialog asks
-abbrev pub holds : {A B : Type 0} → Dialog A → (A → Doing B) → Doing B
-holds of go = makes touches (of gives go)
-
--- why a dialog went no further
-abbrev pub number_of : Refusal → ℕ
-number_of refusal.Victim = deadlock
-number_of refusal.TimedOut = lock_timeout
-number_of refusal.Limit = range_full
-number_of refusal.Memory = no_memory
-
-abbrev pub unless_stopped : {A : Type 0} → Result A Refusal → Doing (Result A Failure)
-unless_stopped (Ok a) = over (Ok a)
-unless_stopped (Err why) = fails (number_of why)
-
-abbrev pub unless_broken : Result Written Refusal → Doing (Result (Unit {0}) Failure)
-unless_broken (Ok (written.Done mark)) = over (Ok tt)
-unless_broken (Ok (written.Refused number name)) = over (Err (record { number = number; name = Some name }))
-unless_broken (Err why) = fails (number_of why)
-
--- the tables that a statement reads
-unfoldable pub reads_images : List TableTree → Level → Bound → Doing (Result (List Rows) Failure)
-reads_images shapes level of = holds (images_of shapes level of) unless_stopped
-
--- changes are asked, and checked by these shapes
-unfoldable pub applies : List TableTree → List Planned → Doing (Result (Unit {0}) Failure)
-applies shapes changes = holds (writes shapes changes) unless_broken
-
--- ---- what each statement does within a transaction
-
--- the tables of a query are read, and it is answered
-unfoldable pub answers : List TableTree → BoundQuery → Doing (Result (List Token) Failure)
-answers shapes query = do
-  images ← reads_images shapes ReadCommitted (bound.Query query)
-  comes_to (answered query images)
-
--- the definitions are read, and the tables of a write; what it changes is planned, and asked
-unfoldable pub changes : List TableTree → BoundWrite → Doing (Result (List Token) Failure)
-changes shapes write = do
-  definitions ← reads_definitions
-  images ← reads_images shapes ReadCommitted (bound.Write write)
-  planned ← comes_to (planned_over shapes write images)
-  put ← with_room (applies (tables_of definitions) planned)
-  comes_to (Ok (tokens_by write planned))
-
--- taken back to the statement's mark, as it failed
-unfoldable pub takes_back : ℕ → Failure → Doing (Result (Unit {0}) Failure)
-takes_back mark failure = asks (ops.BackTo mark) (where_done (over (Err failure)))
-
--- what the insertion of a definition comes to; an object of that name is an error that names it
-abbrev pub inserted : ℕ → List ℕ → Reply → Doing (Result (Unit {0}) Failure)
-inserted mark name replies.Done = over (Ok tt)
-inserted mark name replies.Exists = room λ enough. takes_back mark (if enough then naming object_present name else plain no_memory)
-inserted mark name replies.Memory = takes_back mark (plain no_memory)
-inserted mark name (replies.TimedOut holder held wanted on) = takes_back mark (plain lock_timeout)
-inserted mark name (replies.Victim cycle) = takes_back mark (plain deadlock)
-inserted mark name reply = never
-
--- behind a mark
-abbrev pub marked : {A : Type 0} → (ℕ → Doing (Result A Failure)) → Reply → Doing (Result A Failure)
-marked next (replies.Marked mark) = next mark
-marked next reply = never
-
--- a table's definition is put into `objects`
-unfoldable pub creates : List ℕ → List ℕ → Doing (Result (List Token) Failure)
-creates name text = do
-  put ← with_room (asks ops.Mark (unless_refused (marked λ mark. asks (created name text) (inserted mark name))))
-  over (Ok [])
-
--- a table that is there: the definitions are read, of which no other may refer to it; then its rows, which are erased with its definition
-unfoldable pub drops : List TableTree → TableTree → List ℕ → Doing (Result (List Token) Failure)
-drops shapes shape name = do
-  definitions ← reads_definitions
-  free ← comes_to (unless_referred name (tables_of definitions))
-  images ← with_room (reads_images shapes Serializable (bound.Write (whole name)))
-  planned ← comes_to (dropped shape name images)
-  put ← applies [] planned
-  over (Ok [])
-
-abbrev pub drops_in : Option TableTree → List TableTree → List ℕ → Doing (Result (List Token) Failure)
-drops_in None shapes name = fails_naming not_there name
-drops_in (Some shape) shapes name = drops shapes shape name
-
--- `objects` is an object, which is none of a batch
-abbrev pub unless_objects : List ℕ → Doing (Result (List Token) Failure) → Doing (Result (List Token) Failure)
-unless_objects name tree = if is_objects name then fails_naming object_present name else tree
-
--- what is bound to nothing is done by its form
-abbrev pub done_for : Layer → List TableTree → Doing (Result (List Token) Failure)
-done_for (Form-F.CreateTable table text) shapes = unless_objects table.name (creates table.name text)
-done_for (Form-F.Drop kind name) shapes = drops_in (shape_of (rows_table name) shapes) shapes name
-done_for form shapes = fails not_built
-
--- by what a statement is bound to; a query of another statement than a SELECT is not built
-abbrev pub done_by : StatementTree → List TableTree → Bound → Doing (Result (List Token) Failure)
-done_by statement shapes (bound.Query query) = if is_select statement then answers shapes query else fails not_built
-done_by statement shapes (bound.Write write) = changes shapes write
-done_by statement shapes bound.Plain = done_for (form_of statement) shapes
-done_by statement shapes (bound.Assign query places) = fails not_built
-
--- it is bound over what was found
-unfoldable pub over_definitions : StatementTree → List Definition → Doing (Result (List Token) Failure)
-over_definitions statement definitions = do
-  of ← comes_to (bound_over definitions statement)
-  with_room (done_by statement (tables_of definitions) of)
-
--- what a statement names is looked up first
-unfoldable pub done : StatementTree → Doing (Result (List Token) Failure)
-done statement = do
-  definitions ← looks_up [] (looked_up statement)
-  over_definitions statement definitions
-
--- tokens that the batch may still send; too many bytes are an error of their statement
-abbrev pub if_bytes_left : List Token → Doing (Result (List Token) Failure)
-if_bytes_left tokens = reads λ p. if nat_lt p.bytes_left (size_of tokens) then fails result_full else over (Ok tokens)
-
--- ---- transactions
-
--- behind a reply that ends a transaction
-abbrev pub where_ended : {A : Type 0} → Doing A → Reply → Doing A
-where_ended next (replies.Ended place) = next
-where_ended next reply = never
-
--- the locks of the statement end, where something was fetched or written
-unfoldable pub relaxes : Doing (Unit {0})
-relaxes = reads λ p. if p.touched then asks ops.Relax (where_done (over tt)) else over tt
-
--- the statement's own transaction ends, by whether it succeeded
-unfoldable pub closes : Bool → Doing (Unit {0})
-closes true = asks ops.Commit (where_ended (over tt))
-closes false = asks ops.Rollback (where_ended (over tt))
-
--- behind a transaction's begin
-abbrev pub where_begun : {A : Type 0} → Doing (Result A Failure) → Reply → Doing (Result A Failure)
-where_begun next replies.Began = next
-where_begun next reply = never
-
--- done within the open transaction, or one of its own
-unfoldable pub own : {A : Type 0} → Doing (Result A Failure) → Doing (Result A Failure)
-own work = reads λ p. if p.is_open
-    then work then (λ came. relaxes then λ _. over came)
-    else asks ops.Begin (unless_refused (where_begun (work then λ came. relaxes then λ _. closes (is_ok came) then λ _. over came)))
-
--- an open transaction is rolled back
+-- an open transaction is rolled back, with all its BEGINs
 unfoldable pub rolls_back_open : Doing (Unit {0})
 rolls_back_open = reads λ p. if p.is_open then asks ops.Rollback (where_ended (over tt)) else over tt
 
--- ---- statements
+-- and that is told
+unfoldable pub rolls_back_told : Doing (Unit {0})
+rolls_back_told = reads λ p. if p.is_open then asks ops.Rollback (where_ended (makes (sends (transaction_rolled_back p.txn.serial ∷ [])) (over tt))) else over tt
 
--- something is asked where the first name is looked up
-abbrev pub asks_any : List (List ℕ) → Bool
-asks_any [] = false
-asks_any (name ∷ names) = not (is_objects name)
+-- what is told of an error, by what it ends: the end of its statement where the batch goes on
+abbrev pub told_tokens : Action → ℕ → Raised → List Token
+told_tokens action.Statement command raised = error_token raised ∷ statement_failed command ∷ []
+told_tokens action.Doom command raised = error_token raised ∷ statement_failed command ∷ []
+told_tokens action.Batch command raised = error_token raised ∷ []
+told_tokens action.BatchAndTransaction command raised = error_token raised ∷ []
 
--- a statement for which nothing is looked up, by its form: a table may be created
-abbrev pub plain_unasked : Layer → Doing (Result (List Token) Failure) → Doing (Result (List Token) Failure)
-plain_unasked (Form-F.CreateTable table text) work = unless_objects table.name work
-plain_unasked (Form-F.Drop kind name) work = fails_naming not_there name
-plain_unasked form work = fails not_built
-
--- and by what it is bound to: a query may be answered
-abbrev pub done_unasked : StatementTree → Bound → Doing (Result (List Token) Failure)
-done_unasked statement (bound.Query query) = if is_select statement then comes_to (answered query []) >>= if_bytes_left else fails not_built
-done_unasked statement bound.Plain = plain_unasked (form_of statement) (own (done statement >>= if_bytes_left))
-done_unasked statement (bound.Write write) = fails not_built
-done_unasked statement (bound.Assign query places) = fails not_built
-
--- a statement for which nothing is looked up is bound over nothing
-unfoldable pub unasked : StatementTree → Doing (Result (List Token) Failure)
-unasked statement = comes_to (bound_over [] statement) >>= done_unasked statement
-
--- what comes of a statement: the tokens that are sent for it, or why it failed
-unfoldable pub came_of : Form → Doing (Result (List Token) Failure)
-came_of (forms.Statement statement) = with_room (if asks_any (looked_up statement) then own (done statement >>= if_bytes_left) else unasked statement)
-came_of forms.NotBuilt = fails not_built
-came_of (forms.Refused code near) = fails code
-
--- what an error ends; where it ends the transaction one that is open is rolled back
+-- what it ends
 unfoldable pub ended_by : Action → Doing Exit
-ended_by Statement = over On
-ended_by Doom = over On
-ended_by Batch = over End
-ended_by BatchAndTransaction = rolls_back_open then λ _. over End
+ended_by action.Statement = over On
+ended_by action.Doom = over On
+ended_by action.Batch = over End
+ended_by action.BatchAndTransaction = rolls_back_told then λ _. over End
 
--- What an error of a statement ends: there is no TRY around, and XACT_ABORT is OFF. A text that is refused
--- has begun nothing: it ends its batch alone.
-abbrev pub action_for : Form → Failure → Action
-action_for (forms.Refused code near) failure = Batch
-action_for statement failure = action_of failure.number Engine false false
+abbrev pub told_as : Action → ℕ → Raised → Doing Exit
+told_as action command raised = makes (sends (told_tokens action command raised)) (ended_by action)
 
--- an error is sent, and ends what it ends
-abbrev pub acted_by : Action → Served → Failure → Doing Exit
-acted_by action statement failure = makes (sends (failure_tokens statement failure action)) (ended_by action)
+-- one that is caught is not told; it dooms the transaction where it would end it
+abbrev pub caught_as : Action → Raised → Doing Exit
+caught_as action.Doom raised = makes dooms (over (Raise raised))
+caught_as action raised = over (Raise raised)
 
-unfoldable pub acted : Served → Failure → Doing Exit
-acted statement failure = acted_by (action_for statement.form failure) statement failure
+-- where it is not caught, an error of more bytes than the batch may still send is one that says so
+abbrev pub or_full : Around → SessionProgress → ℕ → ℤ → Raised → Raised
+or_full around p command line raised = if is_caught_in around raised then raised
+    else if nat_lt p.bytes_left (size_of (told_tokens (action_in around p.settings.xact_abort raised) command raised)) then raised_at line (plain result_full)
+    else raised
 
--- an error of more bytes than the batch may still send is one that says so
-abbrev pub or_full : Served → Failure → SessionProgress → Failure
-or_full statement failure p = if nat_lt p.bytes_left (size_of (failure_tokens statement failure (action_for statement.form failure))) then plain result_full else failure
+-- where an error arises
+abbrev pub strikes : Around → Bool → ℕ → Raised → Doing Exit
+strikes around xact_abort command raised = makes (tells_error raised.number) (if is_caught_in around raised
+    then caught_as (action_in around xact_abort raised) raised
+    else told_as (action_in around xact_abort raised) command raised)
 
--- what is sent for a statement that came to this
-unfoldable pub finished : Served → Result (List Token) Failure → Doing Exit
-finished statement (Ok tokens) = makes (sends tokens) (over On)
-finished statement (Err failure) = reads λ p. acted statement (or_full statement failure p)
+unfoldable pub raises : Around → Statement → Raised → Doing Exit
+raises around statement raised = reads λ p.
+    strikes around p.settings.xact_abort (command_of (form_of statement)) (or_full around p (command_of (form_of statement)) (line_of statement) raised)
 
--- a statement
-unfoldable pub means : Served → Doing Exit
-means statement = came_of statement.form then finished statement
+-- ---- the end of a statement
+
+-- @@ROWCOUNT is left by IF, WHILE, BREAK, CONTINUE, DECLARE, blocks and TRY, and set by others
+abbrev pub leaves_rows : Layer → Bool
+leaves_rows (Form-F.If test so otherwise) = true
+leaves_rows (Form-F.While test body) = true
+leaves_rows Form-F.Break = true
+leaves_rows Form-F.Continue = true
+leaves_rows (Form-F.Block body) = true
+leaves_rows (Form-F.TryCatch body handler) = true
+leaves_rows (Form-F.Declare declarations) = true
+leaves_rows form = false
+
+abbrev pub counted : Layer → ℕ → Doing Exit → Doing Exit
+counted form rows next = if leaves_rows form then next else makes (tells_rows rows) next
+
+-- it failed
+unfoldable pub fails_for : Around → Statement → Failure → Doing Exit
+fails_for around statement failure = counted (form_of statement) 0 (raises around statement (raised_at (line_of statement) failure))
+
+-- what there is to send
+abbrev pub sends_some : List Token → Doing Exit → Doing Exit
+sends_some [] next = next
+sends_some (token ∷ tokens) next = makes (sends (token ∷ tokens)) next
+
+-- it succeeded: what it assigns, counts and sends
+unfoldable pub succeeds : Statement → Effect → Doing Exit → Doing Exit
+succeeds statement effect next =
+    assigns_all effect.sets (counted (form_of statement) effect.rows (makes (tells_error (pos 0)) (sends_some effect.tokens next)))
+
+-- it goes on by what it came to
+abbrev pub concluded : {A : Type 0} → Around → Statement → (A → Doing Exit) → Result A Failure → Doing Exit
+concluded around statement go (Ok a) = go a
+concluded around statement go (Err failure) = fails_for around statement failure
+
+unfoldable pub concludes : {A : Type 0} → Around → Statement → (A → Doing Exit) → Doing (Result A Failure) → Doing Exit
+concludes around statement go work = work then λ came. concluded around statement go came
+
+-- a statement that is done with its effect
+unfoldable pub does : Around → Statement → Exit → Doing (Result Effect Failure) → Doing Exit
+does around statement exit work = concludes around statement (λ effect. succeeds statement effect (over exit)) work
+
+-- ---- doomed transactions
+
+-- in one that is doomed nothing is written, begun, saved or committed
+abbrev pub is_refused_doomed : Layer → Bool
+is_refused_doomed (Form-F.Insert table columns rows) = true
+is_refused_doomed (Form-F.Update table assignments filter) = true
+is_refused_doomed (Form-F.Delete table filter) = true
+is_refused_doomed (Form-F.CreateTable table text) = true
+is_refused_doomed (Form-F.Drop kind name) = true
+is_refused_doomed (Form-F.BeginTransaction name) = true
+is_refused_doomed (Form-F.Commit name) = true
+is_refused_doomed (Form-F.Save name) = true
+is_refused_doomed form = false
+
+-- ---- messages and errors of a batch's own
+
+-- what is no error is sent, and the batch goes on; what is one is raised
+abbrev pub raises_or_tells : Around → Statement → Raised → Doing Exit
+raises_or_tells around statement raised = if is_message raised then succeeds statement (sending (messages raised)) (over On)
+    else counted (form_of statement) 0 (raises around statement raised)
+
+unfoldable pub tells : Around → Statement → Doing Exit
+tells around statement = concludes around statement (raises_or_tells around statement) (composes around statement)
+
+-- the error of the CATCH around, if there is one
+abbrev pub raises_again : Around → Statement → Option Raised → Doing Exit
+raises_again around statement None = fails_for around statement (plain outside_profile)
+raises_again around statement (Some raised) = counted (form_of statement) 0 (raises around statement (again raised))
+
+-- ---- options
+
+-- SET of an option
+abbrev pub set_by : Around → Statement → Result Settings Failure → Doing Exit
+set_by around statement (Ok settings) = makes (sets settings) (succeeds statement no_effect (over On))
+set_by around statement (Err failure) = fails_for around statement failure
+
+abbrev pub sets_option : Around → Statement → SessionOption → Doing Exit
+sets_option around statement option = reads λ p. set_by around statement (set_option option p.settings)
+
+-- ---- statements that hold statements
+
+-- behind a statement the next comes, unless it left them
+abbrev pub goes_on : Doing Exit → Exit → Doing Exit
+goes_on next On = next
+goes_on next exit = over exit
+
+-- one after another
+unfoldable pub each_of : (Statement → Meaning) → List Statement → Meaning
+each_of one [] around = over On
+each_of one (statement ∷ others) around = one statement around then λ exit. goes_on (each_of one others around) exit
+
+-- how a loop is left behind a turn of it, if it is
+abbrev pub turned : Exit → Option Exit
+turned On = None
+turned Again = None
+turned Leave = Some On
+turned exit = Some exit
+
+abbrev pub turns_again : Doing Exit → Option Exit → Doing Exit
+turns_again again None = again
+turns_again again (Some exit) = over exit
+
+-- an error on its way goes to CATCH
+abbrev pub handled : (Raised → Doing Exit) → Exit → Doing Exit
+handled handler (Raise raised) = handler raised
+handled handler exit = over exit
+
+-- a test says whether it is true, and sets @@ERROR
+unfoldable pub decides : Around → Statement → (Bool → Doing Exit) → Doing Exit
+decides around statement go = concludes around statement (λ holds. makes (tells_error (pos 0)) (go holds)) (tests around statement)
+
+-- by the meaning of one of the statements that a statement holds
+module _ (one : Statement → Meaning) where
+  -- by its test
+  abbrev pub branch : Around → Statement → Option Statement → Bool → Doing Exit
+  branch around so otherwise true = one so around
+  branch around so None false = over On
+  branch around so (Some statement) false = one statement around
+
+  -- each turn is a statement that begins: the WHILE again
+  abbrev pub turns : Around → Statement → Statement → Bool → Doing Exit
+  turns around statement body true = one body around then λ exit. turns_again (one statement around) (turned exit)
+  turns around statement body false = over On
+
+  -- an error of the first statements that is caught runs the others
+  unfoldable pub tries : Around → List Statement → List Statement → Doing Exit
+  tries around body handler = each_of one body (in_try around) then λ exit. handled (λ raised. each_of one handler (in_catch raised around)) exit
+
+  -- a case for each form
+  unfoldable pub mean_form : Around → Statement → Layer → Doing Exit
+  mean_form around statement (Form-F.If test so otherwise) = decides around statement (branch around so otherwise)
+  mean_form around statement (Form-F.While test body) = decides around statement (turns around statement body)
+  mean_form around statement Form-F.Break = makes (tells_error (pos 0)) (over Leave)
+  mean_form around statement Form-F.Continue = makes (tells_error (pos 0)) (over Again)
+  mean_form around statement (Form-F.Block body) = each_of one body around
+  mean_form around statement (Form-F.TryCatch body handler) = tries around body handler
+  mean_form around statement (Form-F.Print value) = tells around statement
+  mean_form around statement (Form-F.RaiseError value class state) = tells around statement
+  mean_form around statement (Form-F.Throw number value state) = tells around statement
+  mean_form around statement Form-F.ThrowAgain = raises_again around statement around.caught
+  -- RETURN leaves the batch
+  mean_form around statement (Form-F.Return value) = does around statement Return (works around statement)
+  mean_form around statement (Form-F.SetOption option) = sets_option around statement option
+  mean_form around statement (Form-F.BeginTransaction name) = does around statement On (begins_transaction statement name)
+  mean_form around statement (Form-F.Commit name) = does around statement On (commits_transaction statement)
+  mean_form around statement (Form-F.Rollback name) = does around statement On (rolls_back_transaction statement name)
+  mean_form around statement (Form-F.Save name) = does around statement On (saves_transaction statement name)
+  mean_form around statement (Form-F.CreateTable table text) = does around statement On (creates_table statement table.name text)
+  mean_form around statement form = does around statement On (works around statement)
+
+  -- what is refused in a doomed transaction is, before it is bound or asks anything
+  unfoldable pub mean_by : Statement → Meaning
+  mean_by statement around = reads λ p. if p.txn.doomed && is_refused_doomed (form_of statement)
+      then fails_for around statement (plain doomed_write)
+      else mean_form around statement (form_of statement)
+
+-- where no statement may begin any more
+abbrev pub spends : Statement → Meaning
+spends statement around = raises around statement (raised_at (line_of statement) (plain statements_spent))
+
+-- A statement counts as it begins. At a level so many may be open one in another; each of them has begun, so the last is never reached
+-- where fewer are left.
+unfoldable pub mean_of : ℕ → Statement → Meaning
+mean_of zero statement around = spends statement around
+mean_of (suc levels) statement around = reads λ p. if p.statements_left == 0 then spends statement around
+    else makes counts (mean_by (λ inner at. mean_of levels inner at) statement around)
+
+abbrev pub meaning : ℕ → List Statement → Meaning
+meaning levels statements around = each_of (λ inner at. mean_of levels inner at) statements around
 
 -- ---- batches
 
--- the next statement comes, unless the batch has ended
-abbrev pub goes_on : Doing Exit → Exit → Doing Exit
-goes_on next On = next
-goes_on next End = over End
+-- an error ended the batch
+abbrev pub has_failed : Exit → Bool
+has_failed End = true
+has_failed (Raise raised) = true
+has_failed exit = false
 
--- statements one after another; each counts as it begins
-unfoldable pub each_of : List Served → Doing Exit
-each_of [] = over On
-each_of (statement ∷ others) = reads λ p. if p.statements_left == 0 then finished statement (Err (plain statements_spent)) else makes counts (means statement then goes_on (each_of others))
+-- a transaction that is doomed at the end of its batch is rolled back, which is told at line 1
+unfoldable pub ends_doomed : Doing (Unit {0})
+ends_doomed = makes (sends (error_token (raised_at (pos 1) (plain doomed_at_end)) ∷ [])) (rolls_back_told then λ _. makes (sends (batch_done true ∷ [])) (over tt))
 
--- a batch; however it ends, that is told
-unfoldable pub batch : List Served → Doing (Unit {0})
-batch statements = makes begins (each_of statements then λ exit. makes (sends (batch_done exit ∷ [])) (over tt))
+-- however it ends, that is told
+unfoldable pub ends : Exit → Doing (Unit {0})
+ends exit = reads λ p. if p.txn.doomed then ends_doomed else makes (sends (batch_done (has_failed exit) ∷ [])) (over tt)
+
+-- a text that is refused has begun nothing: it ends its batch alone
+abbrev pub runs_text : ReadText → Doing Exit
+runs_text (text.Statements statements) = meaning statement_limit statements around_batch
+runs_text text.NotBuilt = makes (sends (error_token (raised_at (pos 1) (plain not_built)) ∷ [])) (over End)
+runs_text (text.Refused line code near) = makes (sends (error_token (raised_at line (naming code near)) ∷ [])) (over End)
+
+abbrev pub vars_in_text : ReadText → List Variable
+vars_in_text (text.Statements statements) = vars_of statements
+vars_in_text text.NotBuilt = []
+vars_in_text (text.Refused line code near) = []
+
+-- a batch
+unfoldable pub batch : ReadText → Doing (Unit {0})
+batch read = makes (begins (vars_in_text read)) (runs_text read then ends)

@@ -1,15 +1,25 @@
 -- Own: how far a session has come, and the named steps and the exchanges by which alone that changes. The
 -- code has it as a struct, with a method for each step.
-use Rattle.std.specs.Prelude.{◌≡◌, ℕ, ◌-◌, Bool, true, false, List, [], ◌∷◌, ◌++◌, length, pos}
-use Rattle.step_model.specs.declared.manner.Manner.{Manner}
-use Rattle.step_model.specs.declared.manner.Patience.TheVariants.{Forever}
+use Rattle.std.specs.Prelude.{◌≡◌, ℕ, ℤ, pos, ◌-◌, Bool, true, false, IsTrue, List, [], ◌∷◌, ◌++◌, length, map, min, Option, if◌then◌else◌, ◌==◌, not, Some, None, slice_get, slice_set}
+use Rattle.std.specs.List.{All}
+use Rattle.std.specs.List.{list_any}
+use Rattle.value_types.specs.declared.value.Value.{Value}
+use Rattle.value_types.specs.declared.value.Value.TheVariants.{Whole}
+use Rattle.session_vars.specs.declared.Variable.{Variable}
 use Rattle.step_model.specs.declared.op.Op.{Op}
 use Rattle.step_model.specs.declared.op.Op.TheVariants.{Begin, Fetch, Insert, Replace, Erase, Mark, BackTo, Relax, Commit, Rollback}
 use Rattle.step_model.specs.declared.reply.Reply.{Reply}
+use Rattle.step_model.specs.declared.reply.Reply.TheVariants.{Done, Ended}
 use Rattle.step_model.specs.Exchange.{Exchange, IsPriority}
 use Rattle.step_model.specs.Port.{PortPast, standing_after}
+use Rattle.txn_rules.specs.declared.savepoints.Savepoint.{Savepoint}
+use Rattle.txn_rules.specs.declared.state.TxnState.{TxnState}
+use Rattle.txn_rules.specs.State.{no_transaction, after_begin, after_commit, after_cut, after_end, after_save, is_closed, xact_state}
 use Rattle.tds_tokens.specs.declared.token.Token.{Token}
 use Rattle.tds_tokens.specs.Spelling.{TokenBytes}
+use Rattle.batch_meaning.specs.declared.settings.Settings.{Settings}
+use Rattle.batch_meaning.specs.Raised.{Around, error_values}
+use Rattle.batch_meaning.specs.Settings.{first_settings}
 
 -- how far a session has come
 pub record SessionProgress : Type 0 where
@@ -19,29 +29,52 @@ pub record SessionProgress : Type 0 where
   pub bytes_left : ℕ
   -- how many statements it may still begin
   pub statements_left : ℕ
+  -- its variables
+  pub vars : List Variable
+  -- @@ROWCOUNT and @@ERROR
+  pub row_count : ℕ
+  pub error : ℤ
+  -- what SET has set
+  pub settings : Settings
+  -- BEGIN TRANSACTION and what belongs to it
+  pub txn : TxnState
   -- whether a transaction is open at the port
   pub is_open : Bool
   -- whether something was fetched or written since that began, or since its last Relax
   pub touched : Bool
-  -- how the session asks
-  pub manner : Manner
-
--- a session waits for locks, and has the deadlock priority 0, until it says otherwise
-abbrev pub first_manner : Manner
-first_manner = record { patience = Forever; priority = pos 0 }
 
 -- before its first batch
 abbrev pub first_progress : SessionProgress
-first_progress = record { tokens = []; bytes_left = 0; statements_left = 0; is_open = false; touched = false; manner = first_manner }
+first_progress = record {
+  tokens = [];
+  bytes_left = 0;
+  statements_left = 0;
+  vars = [];
+  row_count = 0;
+  error = pos 0;
+  settings = first_settings;
+  txn = no_transaction;
+  is_open = false;
+  touched = false;
+}
 
 -- ---- steps
 
--- a batch begins; a statement of it begins; it asks what its end has to relax; it sends tokens
+-- A batch begins, with its variables; a statement of it begins; it asks what its end has to relax; it sends tokens; @@ROWCOUNT and @@ERROR
+-- are set; the variable at a place is assigned; SET sets; a transaction is begun, counted, given up or named in a savepoint.
 pub data SessionStep : Type 0 where
-  begins : SessionStep
+  begins : List Variable → SessionStep
   counts : SessionStep
   touches : SessionStep
   sends : List Token → SessionStep
+  tells_rows : ℕ → SessionStep
+  tells_error : ℤ → SessionStep
+  assigns : ℕ → Value → SessionStep
+  sets : Settings → SessionStep
+  opens : Option (List ℕ) → SessionStep
+  closes_one : SessionStep
+  saves : List ℕ → ℕ → SessionStep
+  dooms : SessionStep
 
 -- how many statements a batch may begin
 abbrev pub statement_limit : ℕ
@@ -59,12 +92,39 @@ end_size = 13
 abbrev pub size_of : List Token → ℕ
 size_of tokens = length (TokenBytes tokens)
 
+-- @@ROWCOUNT is an INT
+abbrev pub greatest_count : ℕ
+greatest_count = 2147483647
+
+-- a variable with this value
+abbrev pub with_value : Value → Variable → Variable
+with_value value variable = record variable { value = value }
+
+abbrev pub set_at : ℕ → Value → Option Variable → List Variable → List Variable
+set_at place value None vars = vars
+set_at place value (Some variable) vars = slice_set vars place (with_value value variable)
+
+abbrev pub assigned : ℕ → Value → List Variable → List Variable
+assigned place value vars = set_at place value (slice_get vars place) vars
+
+-- a transaction that is open can only be rolled back from then on
+abbrev pub after_doom : TxnState → TxnState
+after_doom txn = if is_closed txn then txn else record txn { doomed = true }
+
 -- the progress after a step
 abbrev pub made : SessionStep → SessionProgress → SessionProgress
-made begins p = record p { tokens = []; bytes_left = batch_limit - end_size; statements_left = statement_limit }
+made (begins vars) p = record p { tokens = []; bytes_left = batch_limit - end_size; statements_left = statement_limit; vars = vars }
 made counts p = record p { statements_left = p.statements_left - 1 }
 made touches p = record p { touched = true }
 made (sends tokens) p = record p { tokens = p.tokens ++ tokens; bytes_left = p.bytes_left - size_of tokens }
+made (tells_rows rows) p = record p { row_count = min rows greatest_count }
+made (tells_error number) p = record p { error = number }
+made (assigns place value) p = record p { vars = assigned place value p.vars }
+made (sets settings) p = record p { settings = settings }
+made (opens name) p = record p { txn = after_begin name p.txn }
+made closes_one p = record p { txn = after_commit p.txn }
+made (saves name mark) p = record p { txn = after_save name mark p.txn }
+made dooms p = record p { txn = after_doom p.txn }
 
 -- ---- exchanges
 
@@ -85,18 +145,51 @@ touched_after before Relax = false
 touched_after before Commit = false
 touched_after before Rollback = false
 
+-- what an exchange makes of BEGIN TRANSACTION's state: the transaction's end ends it, a return to a mark drops the savepoints behind that
+abbrev pub txn_after : TxnState → Op → Reply → TxnState
+txn_after txn op (Ended place) = after_end txn
+txn_after txn (BackTo mark) Done = after_cut mark txn
+txn_after txn op reply = txn
+
 -- the progress after one operation was asked and replied so
 abbrev pub asked : Op → Reply → SessionProgress → SessionProgress
-asked op reply p = record p { is_open = is_open_after p.is_open op reply; touched = touched_after p.touched op }
+asked op reply p = record p { is_open = is_open_after p.is_open op reply; touched = touched_after p.touched op; txn = txn_after p.txn op reply }
 
 -- the progress after these exchanges
 abbrev pub asked_all : List Exchange → SessionProgress → SessionProgress
 asked_all [] p = p
 asked_all (x ∷ later) p = asked_all later (asked x.op x.reply p)
 
+-- ---- what expressions read
+
+abbrev pub values_of : List Variable → List Value
+values_of vars = map (λ variable. variable.value) vars
+
+-- no cursor has been fetched from
+abbrev pub first_fetch_status : Value
+first_fetch_status = Whole (pos 0)
+
+-- @@TRANCOUNT, @@ERROR, @@ROWCOUNT, @@FETCH_STATUS, XACT_STATE(), and the values of the error of the CATCH around
+abbrev pub system_in : Around → SessionProgress → List Value
+system_in around p =
+    Whole (pos p.txn.count) ∷ Whole p.error ∷ Whole (pos p.row_count) ∷ first_fetch_status ∷ Whole (xact_state p.txn) ∷ error_values around.caught
+
 -- ---- the port
+
+-- the marks of the savepoints are live at the port
+abbrev pub AreLive : List Savepoint → List ℕ → Type 0
+AreLive points marks = All (λ savepoint. IsTrue (list_any (λ live. live == savepoint.mark) marks)) points
 
 -- session and port agree on what is open, and the session may ask
 pub record Ready (p : SessionProgress) (past : PortPast) : Type 0 where
   pub agree : p.is_open ≡ past.standing.is_open
-  pub priority : IsPriority p.manner.priority
+  pub live : AreLive p.txn.saves past.standing.marks
+  pub priority : IsPriority p.settings.manner.priority
+  -- what BEGIN TRANSACTION has opened is open at the port; a statement's own transaction may be, too
+  pub counted : is_closed p.txn ≡ false → p.is_open ≡ true
+  -- where it has opened none, there are no savepoints
+  pub idle : is_closed p.txn ≡ true → p.txn.saves ≡ []
+
+-- between two statements nothing else is
+abbrev pub IsSettled : SessionProgress → Type 0
+IsSettled p = p.is_open ≡ not (is_closed p.txn)

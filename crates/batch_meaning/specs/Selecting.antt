@@ -1,9 +1,11 @@
 -- Own: what a statement is bound to, and what a query comes to, apart from what is asked for it.
-use Rattle.std.specs.Prelude.{ℕ, pos, nat_le, if◌then◌else◌, List, [], ◌∷◌, length, map, Some, None, Result, Ok, Err}
+use Rattle.std.specs.Prelude.{ℕ, ℤ, Bool, nat_le, if◌then◌else◌, List, [], ◌∷◌, length, map, Some, None, Result, Ok, Err}
 use Rattle.value_types.specs.declared.value.Value.{Value}
-use Rattle.value_types.specs.declared.value.Value.TheVariants.{Null, Whole}
 use Rattle.tsql_tree.specs.declared.definition.Definition.{Definition}
+use Rattle.tsql_tree.specs.declared.statement.Form.{Form-F}
 use Rattle.tsql_tree.specs.declared.statement.Statement.{Statement}
+use Rattle.binder.specs.Names.{Layer}
+use Rattle.session_vars.specs.declared.Variable.{Variable}
 use Rattle.bound_tree.specs.declared.query.BoundQuery.{BoundQuery, out-BoundQuery}
 use Rattle.bound_tree.specs.declared.write.Bound.{Bound}
 use Rattle.bound_tree.specs.Outcomes as value
@@ -14,8 +16,12 @@ use Rattle.step_model.specs.Ranges.{Rows}
 use Rattle.tds_tokens.specs.declared.columns.ColumnInfo.{ColumnInfo}
 use Rattle.tds_tokens.specs.declared.token.Token.{Token}
 use Rattle.batch_meaning.specs.declared.failure.Failure.{Failure}
+use Rattle.batch_meaning.specs.declared.raised.Raised.{Raised}
+use Rattle.batch_meaning.specs.Raised.{Around, info_token}
 use Rattle.batch_meaning.specs.Failures.{plain}
+use Rattle.batch_meaning.specs.Progress.{SessionProgress, system_in, values_of}
 use Rattle.batch_meaning.specs.Tokens.{result_tokens}
+use Rattle.batch_meaning.specs.Values.{◌>>=◌, Assigned, assigned_to, given_names, is_message, printed, raiserror_of, return_of, throw_of}
 
 -- ---- the numbers of its errors
 
@@ -32,11 +38,19 @@ abbrev pub bound_as : {A : Type 0} → Outcome A → Result A Failure
 bound_as (Ok of) = Ok of
 bound_as (Err refusal) = Err (record { number = refusal.0; name = Some refusal.1 })
 
--- what a statement is bound to over these definitions, and over no variables
-abbrev pub bound_over : List Definition → Statement → Result Bound Failure
-bound_over definitions statement = bound_as (bind definitions [] statement)
+-- what a statement is bound to over these definitions and variables
+abbrev pub bound_over : List Definition → List Variable → Statement → Result Bound Failure
+bound_over definitions vars statement = bound_as (bind definitions vars statement)
 
 -- ---- the answer
+
+-- what a query answers on images, with the variables and the values of the session as they are
+abbrev pub answer_as : value.Outcome Rows → Result Rows Failure
+answer_as (Ok rows) = Ok rows
+answer_as (Err number) = Err (record { number = number; name = None })
+
+abbrev pub answer_in : Around → SessionProgress → BoundQuery → List Rows → Result Rows Failure
+answer_in around p query images = answer_as (Ans (values_of p.vars) (system_in around p) query images)
 
 -- how many rows a result has at most
 abbrev pub row_limit : ℕ
@@ -46,17 +60,46 @@ row_limit = 1000000
 abbrev pub columns_of : BoundQuery → List ColumnInfo
 columns_of query = map (λ item. record { kind = item.kind; name = item.name }) (out-BoundQuery query).items
 
--- the values of the session, of which none is named: no transaction is open, and no error was caught
-abbrev pub first_system : List Value
-first_system =
-    Whole (pos 0) ∷ Whole (pos 0) ∷ Whole (pos 0) ∷ Whole (pos 0) ∷ Whole (pos 0)
-    ∷ Null ∷ Null ∷ Null ∷ Null ∷ Null ∷ Null ∷ []
+-- what a statement comes to where it succeeds: the variables that it assigns, one after another, how many rows it counts, and what it sends
+pub record Effect : Type 0 where
+  pub sets : List Assigned
+  pub rows : ℕ
+  pub tokens : List Token
+
+-- nothing
+abbrev pub no_effect : Effect
+no_effect = record { sets = []; rows = 0; tokens = [] }
+
+abbrev pub sending : List Token → Effect
+sending tokens = record no_effect { tokens = tokens }
+
+abbrev pub assigning : List Assigned → Effect
+assigning sets = record no_effect { sets = sets }
 
 -- rows that are not too many for a result are sent
-abbrev pub answered_by : BoundQuery → value.Outcome Rows → Result (List Token) Failure
-answered_by query (Ok rows) = if nat_le (length rows) row_limit then Ok (result_tokens (columns_of query) rows) else Err (plain result_full)
-answered_by query (Err number) = Err (record { number = number; name = None })
+abbrev pub result_of : Bool → BoundQuery → Rows → Result Effect Failure
+result_of no_count query rows =
+    if nat_le (length rows) row_limit then Ok (record { sets = []; rows = length rows; tokens = result_tokens no_count (columns_of query) rows }) else Err (plain result_full)
 
--- what is sent for a query, by what it answers on images
-abbrev pub answered : BoundQuery → List Rows → Result (List Token) Failure
-answered query images = answered_by query (Ans [] first_system query images)
+-- ---- the values of expressions
+
+abbrev pub assigning_to : List Variable → List (List ℕ) → List Value → Result Effect Failure
+assigning_to vars names values = assigned_to vars names values >>= λ sets. Ok (assigning sets)
+
+-- what DECLARE, SET and RETURN make of them
+abbrev pub made_of : Layer → List Variable → List Value → Result Effect Failure
+made_of (Form-F.Declare declarations) vars values = assigning_to vars (given_names declarations) values
+made_of (Form-F.SetVariable name value) vars values = assigning_to vars (name ∷ []) values
+made_of (Form-F.Return value) vars values = return_of values >>= λ sets. Ok no_effect
+made_of form vars values = Err (plain not_built)
+
+-- what PRINT, RAISERROR and THROW make of them
+abbrev pub raised_by : Layer → ℤ → List Value → Result Raised Failure
+raised_by (Form-F.Print value) line values = printed line values
+raised_by (Form-F.RaiseError text class state) line values = raiserror_of line values
+raised_by (Form-F.Throw number text state) line values = throw_of line values
+raised_by form line values = Err (plain not_built)
+
+-- what is no error is sent
+abbrev pub messages : Raised → List Token
+messages raised = if is_message raised then info_token raised ∷ [] else []

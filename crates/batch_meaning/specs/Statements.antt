@@ -1,120 +1,106 @@
--- Own: which statements a text is read as, by the tree that it stands for. Any number of SELECT, INSERT, UPDATE, DELETE,
--- CREATE TABLE and DROP TABLE is served, one after another, unless the text names a value of the session. Every
--- other batch that reads is not built, and one that doesn't read is refused.
-use Rattle.std.specs.Prelude.{◌≡◌, ℕ, pos, ◌&&◌, ◌||◌, Bool, true, false, if◌then◌else◌, List, [], ◌∷◌, map, Result, Ok, Err}
+-- Own: what a text is read as: statements, all of which are built; or it is not built yet; or it is refused. Definitions of procedures
+-- and triggers, cursors and calls are not built. And the variables that a batch declares, in the order of the text.
+use Rattle.std.specs.Prelude.{◌≡◌, ℕ, pos, ◌&&◌, Bool, true, false, if◌then◌else◌, List, [], ◌∷◌, ◌++◌, length, map, nat_lt, Option, Some, None, Result, Ok, Err}
 use Rattle.std.specs.List.{list_all}
 use Rattle.tsql_tree.specs.declared.statement.Batch.{Batch}
-use Rattle.tsql_tree.specs.declared.statement.Batch.TheVariants.{Body}
-use Rattle.tsql_tree.specs.declared.statement.DropKind.{DropKind}
-use Rattle.tsql_tree.specs.declared.statement.DropKind.TheVariants as drop
+use Rattle.tsql_tree.specs.declared.statement.Batch.TheVariants.{Body, Definition}
+use Rattle.tsql_tree.specs.declared.statement.Declaration.{Declaration}
 use Rattle.tsql_tree.specs.declared.statement.Form.{Form-F}
-use Rattle.tsql_tree.specs.declared.statement.Statement.{Statement, out-Statement}
+use Rattle.tsql_tree.specs.declared.statement.Statement.{Statement, Statement-F, fold-Statement}
+use Rattle.session_vars.specs.declared.Variable.{Variable}
+use Rattle.session_vars.specs.Variables.{count_limit, fresh}
 use Rattle.query_parser.specs.declared.fault.ParseFault.{ParseFault}
 use Rattle.query_parser.specs.declared.fault.ParseFault.TheVariants as fault
-use Rattle.stmt_parser.specs.Parsed.{BatchOf, lexemes_of}
-use Rattle.tsql_lexer.specs.declared.lexeme.Sign.TheVariants.{Open}
-use Rattle.tsql_lexer.specs.declared.lexeme.Spanned.{Spanned}
-use Rattle.tsql_grammar.specs.declared.kind.Kind.{Kind}
-use Rattle.tsql_grammar.specs.declared.kind.Kind.TheVariants as kind
-use Rattle.tsql_grammar.specs.declared.kind.Function.{Function}
-use Rattle.tsql_grammar.specs.declared.kind.Function.TheVariants.{XactState, ErrorNumber, ErrorMessage, ErrorSeverity, ErrorState, ErrorLine, ErrorProcedure}
-use Rattle.tsql_grammar.specs.Words.{kind_of}
-use Rattle.binder.specs.Names.{Layer, form_of}
-use Rattle.batch_meaning.specs.declared.form.Form.TheVariants as forms
-use Rattle.batch_meaning.specs.declared.form.Served.{Served}
+use Rattle.stmt_parser.specs.Parsed.{BatchOf}
+use Rattle.batch_meaning.specs.declared.form.ReadText.{ReadText}
+use Rattle.batch_meaning.specs.declared.form.ReadText.TheVariants as text
 
--- ---- statements
+-- ---- what is built
 
-abbrev pub is_table_kind : DropKind → Bool
-is_table_kind drop.Table = true
-is_table_kind other = false
+abbrev pub or_built : Option Bool → Bool
+or_built None = true
+or_built (Some built) = built
 
--- a form that is served
-abbrev pub is_built : Layer → Bool
-is_built (Form-F.Select select) = true
-is_built (Form-F.Insert table columns rows) = true
-is_built (Form-F.Update table sets filter) = true
-is_built (Form-F.Delete table filter) = true
-is_built (Form-F.CreateTable table text) = true
-is_built (Form-F.Drop kind name) = is_table_kind kind
-is_built form = false
+abbrev pub all_built : List Bool → Bool
+all_built built = list_all (λ one. one) built
 
-abbrev pub is_served : Statement → Bool
-is_served statement = is_built (form_of statement)
+-- of a form, by whether what stands in it is
+abbrev pub built_form : Form-F Bool Bool → Bool
+built_form (Form-F.If test so otherwise) = so && or_built otherwise
+built_form (Form-F.While test body) = body
+built_form (Form-F.Block body) = all_built body
+built_form (Form-F.TryCatch body handler) = all_built body && all_built handler
+built_form (Form-F.DeclareCursor name select) = false
+built_form (Form-F.OpenCursor name) = false
+built_form (Form-F.Fetch name variables) = false
+built_form (Form-F.CloseCursor name) = false
+built_form (Form-F.Deallocate name) = false
+built_form (Form-F.Execute status name arguments) = false
+built_form form = true
 
-abbrev pub is_select_form : Layer → Bool
-is_select_form (Form-F.Select select) = true
-is_select_form form = false
+abbrev pub built_statement : Statement-F Bool Bool → Bool
+built_statement statement = statement.form
 
-abbrev pub is_select : Statement → Bool
-is_select statement = is_select_form (form_of statement)
+abbrev pub is_built : Statement → Bool
+is_built = fold-Statement Bool Bool built_form built_statement
 
--- what is not built says so at line 1
-abbrev pub not_built_statement : Served
-not_built_statement = record { line = pos 1; form = forms.NotBuilt }
+-- ---- variables
 
-abbrev pub statement_at : Statement → Served
-statement_at statement = record { line = pos (out-Statement statement).line; form = forms.Statement statement }
+-- what is declared behind variables; beyond the limit nothing is
+abbrev pub Declaring : Type 0
+Declaring = List Variable → List Variable
 
--- statements that are all served, where their text names no value of the session
-abbrev pub served_of : Bool → List Statement → List Served
-served_of of_session statements = if of_session then not_built_statement ∷ [] else map statement_at statements
+-- a variable that is declared has no value at first
+abbrev pub declares_one : Declaration → Declaring
+declares_one of vars = if nat_lt (length vars) count_limit then vars ++ fresh of.name of.kind ∷ [] else vars
 
--- The statements of a batch, by whether its text names a value of the session.
-abbrev pub statements_of : Bool → Batch → List Served
-statements_of of_session (Body statements) = if list_all is_served statements then served_of of_session statements else not_built_statement ∷ []
-statements_of of_session batch = not_built_statement ∷ []
+abbrev pub declares_all : List Declaration → Declaring
+declares_all [] vars = vars
+declares_all (of ∷ rest) vars = declares_all rest (declares_one of vars)
 
--- ---- values of the session
+-- one after another
+abbrev pub in_turn : List Declaring → Declaring
+in_turn [] vars = vars
+in_turn (one ∷ rest) vars = in_turn rest (one vars)
 
--- a system value
-abbrev pub is_system : Kind → Bool
-is_system kind.TranCount = true
-is_system kind.Error = true
-is_system kind.RowCount = true
-is_system kind.FetchStatus = true
-is_system other = false
+abbrev pub if_there : Option Declaring → Declaring
+if_there None vars = vars
+if_there (Some one) vars = one vars
 
--- XACT_STATE, and the functions of an error
-abbrev pub is_of_session : Function → Bool
-is_of_session XactState = true
-is_of_session ErrorNumber = true
-is_of_session ErrorMessage = true
-is_of_session ErrorSeverity = true
-is_of_session ErrorState = true
-is_of_session ErrorLine = true
-is_of_session ErrorProcedure = true
-is_of_session other = false
+-- of a form, by what stands in it
+abbrev pub vars_form : Form-F Declaring Declaring → Declaring
+vars_form (Form-F.Declare declarations) vars = declares_all declarations vars
+vars_form (Form-F.If test so otherwise) vars = if_there otherwise (so vars)
+vars_form (Form-F.While test body) vars = body vars
+vars_form (Form-F.Block body) vars = in_turn body vars
+vars_form (Form-F.TryCatch body handler) vars = in_turn handler (in_turn body vars)
+vars_form form vars = vars
 
-abbrev pub is_session_function : Kind → Bool
-is_session_function (kind.Function function) = is_of_session function
-is_session_function other = false
+abbrev pub vars_statement : Statement-F Declaring Declaring → Declaring
+vars_statement statement = statement.form
 
-abbrev pub is_open : Kind → Bool
-is_open (kind.Sign Open) = true
-is_open other = false
+abbrev pub vars_in : Statement → Declaring
+vars_in = fold-Statement Declaring Declaring vars_form vars_statement
 
--- One stands among lexemes: a system value, or such a function's name and its parenthesis; such a name, or
--- another lexeme, stands before them.
-abbrev pub names_session_behind : Bool → List Spanned → Bool
-names_session_behind named [] = false
-names_session_behind named (l ∷ rest) =
-    let of = kind_of l.lexeme in
-    (is_system of || (named && is_open of)) || names_session_behind (is_session_function of) rest
-
--- a text names a value of the session
-abbrev pub names_session : List ℕ → Bool
-names_session text = names_session_behind false (lexemes_of text)
+-- the variables of a batch, all of which stand from its beginning, also those of a DECLARE that is never reached
+abbrev pub vars_of : List Statement → List Variable
+vars_of statements = in_turn (map vars_in statements) []
 
 -- ---- texts
 
--- what parsing gave, as statements; a text that is refused is the one statement that tells why
-abbrev pub AreRead : List ℕ → Result Batch ParseFault → List Served → Type 0
-AreRead text (Ok batch) statements = statements ≡ statements_of (names_session text) batch
-AreRead text (Err (fault.Refused number line near)) statements =
-    (code : ℕ) × (number ≡ pos code) × (statements ≡ record { line = pos line; form = forms.Refused code near } ∷ [])
-AreRead text (Err fault.Memory) statements = ⊥
+abbrev pub body_of : List Statement → ReadText
+body_of statements = if all_built (map is_built statements) then text.Statements statements else text.NotBuilt
 
--- The text is read as these statements.
-abbrev pub ReadsAs : List ℕ → List Served → Type 0
-ReadsAs text statements = (outcome : Result Batch ParseFault) × BatchOf text outcome × AreRead text outcome statements
+abbrev pub text_of : Batch → ReadText
+text_of (Body statements) = body_of statements
+text_of (Definition line of units) = text.NotBuilt
+
+-- what parsing gave; a text that is refused tells why
+abbrev pub IsRead : Result Batch ParseFault → ReadText → Type 0
+IsRead (Ok batch) read = read ≡ text_of batch
+IsRead (Err (fault.Refused number line near)) read = (code : ℕ) × (number ≡ pos code) × (read ≡ text.Refused (pos line) code near)
+IsRead (Err fault.Memory) read = ⊥
+
+-- The text is read as this.
+abbrev pub ReadsAs : List ℕ → ReadText → Type 0
+ReadsAs units read = (outcome : Result Batch ParseFault) × BatchOf units outcome × IsRead outcome read

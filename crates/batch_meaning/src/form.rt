@@ -1,29 +1,20 @@
-//! What a text is read as: statements that are served, or why it is not.
+//! What a text is read as: statements, or why there are none.
 
+use sqlite_items::Items;
 use tsql_tree::Statement;
 use value_types::Units;
 
-/// A statement, and its line.
+/// What a text is read as.
 #[derive(Drop)]
-pub struct Served {
-    /// The line that its errors tell, from 1.
-    pub line: i32,
-    /// What it says.
-    pub form: Form,
-}
-
-/// The forms that a statement may have.
-#[derive(Drop)]
-pub enum Form {
-    /// A statement that is served.
-    Statement {
-        /// Its tree.
-        statement: Statement,
-    },
-    /// What is not built yet.
+pub enum ReadText {
+    /// Statements, all of which are built.
+    Statements(Items<Statement>),
+    /// A batch of which something is not built.
     NotBuilt,
     /// A text that is refused: nothing of it runs.
     Refused {
+        /// The line of its error, from 1.
+        line: i32,
         /// The number of its error.
         code: u16,
         /// What is shown of the text's place.

@@ -1,16 +1,18 @@
-//! What a batch means: which statements a text is read as, what statements ask of a port and make of its
-//! replies, and what they send. Definitions, the types that they speak of, and laws; nothing here runs a batch.
-//!
-//! Read `specs/Lib.antt`: it names the definitions in order. The layers above rely on the tree `batch`, whose
-//! words are those of `specs/Doing`, and on a law: a text is read as one list of statements ([`law_reading`]).
+//! What a batch means. Definitions, and the types that they speak of; nothing here runs a batch.
 #![tactic(auto)]
 
 mod exit;
 mod failure;
 mod form;
+mod home;
 mod laws;
+mod raised;
+mod settings;
 
 pub use exit::Exit;
 pub use failure::Failure;
-pub use form::{Form, Served};
+pub use form::ReadText;
+pub use home::Home;
 pub use laws::law_reading;
+pub use raised::Raised;
+pub use settings::Settings;

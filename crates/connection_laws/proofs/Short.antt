@@ -18,12 +18,14 @@ use Rattle.tds_login.specs.declared.prelogin.PreloginFault.{PreloginFault}
 use Rattle.tds_login.specs.Prelogin.{prelogin_of}
 use Rattle.tds_login.specs.Login.{login_of}
 use Rattle.tds_login.specs.Verdict.{judge_login}
-use Rattle.batch_meaning.specs.declared.form.Served.{Served}
+use Rattle.batch_meaning.specs.declared.form.ReadText.{ReadText}
+use Rattle.batch_meaning.specs.declared.form.ReadText.TheVariants.{Statements}
 use Rattle.session_server.specs.declared.end.BatchFault.{BatchFault}
 use Rattle.session_server.specs.declared.end.End.{End}
-use Rattle.session_server.specs.Talk.{Handling, responds, runs, refuses, ends, first_state, next_of, handle_prelogin, handle_verdict, handle_login, headers_length, batch_fault, text_of, handle_batch, handle, Walk, with_handling, walk_on, walk_by, with_message, first_walk, walk_of, Request, AreStatements, IsRequest, handling_in, AreRequests}
-use Rattle.sound_laws.proofs.ReadingBack.{texts_back}
-use Rattle.connection_laws.specs.Batches.{Batch, ReadBack, batches_of, with_batch}
+use Rattle.session_server.specs.Talk.{Handling, responds, runs, refuses, ends, first_state, next_of, handle_prelogin, handle_verdict, handle_login, headers_length, batch_fault, text_of, handle_batch, handle, Walk, with_handling, walk_on, walk_by, with_message, first_walk, walk_of, Request, IsReadAs, IsRequest, handling_in, AreRequests}
+use Rattle.text_laws.specs.Laws.{TextReadsBack}
+use Rattle.text_laws.proofs.Served.{served_text}
+use Rattle.connection_laws.specs.Batches.{batches_of, with_batch}
 
 -- ---- one message
 
@@ -147,26 +149,26 @@ module _ (config : Config) where
 
 -- ---- requests
 
-nothing_back : (statements : List Served) → statements ≡ [] → ReadBack statements
-nothing_back statements none = subst ReadBack (sym none) tt
+nothing_back : (read_as : ReadText) → read_as ≡ Statements [] → TextReadsBack read_as
+nothing_back read_as none = subst TextReadsBack (sym none) tt
 
-pub statements_back : (handling : Handling) (statements : List Served) → IsShort handling → AreStatements handling statements → ReadBack statements
-statements_back (runs size text) statements short reads = texts_back text statements reads short
-statements_back (responds response next) statements short none = nothing_back statements none
-statements_back (refuses response number) statements short none = nothing_back statements none
-statements_back (ends end) statements short none = nothing_back statements none
+pub text_back : (handling : Handling) (read_as : ReadText) → IsShort handling → IsReadAs handling read_as → TextReadsBack read_as
+text_back (runs size text) read_as short reads = served_text text read_as reads short
+text_back (responds response next) read_as short none = nothing_back read_as none
+text_back (refuses response number) read_as short none = nothing_back read_as none
+text_back (ends end) read_as short none = nothing_back read_as none
 
-with_back : (handling : Handling) (statements : List Served) (others : List Batch) → IsShort handling → AreStatements handling statements → AllByRecursion ReadBack others → AllByRecursion ReadBack (with_batch handling statements others)
-with_back (runs size text) statements others short reads back = (texts_back text statements reads short, back)
-with_back (responds response next) statements others short none back = back
-with_back (refuses response number) statements others short none back = back
-with_back (ends end) statements others short none back = back
+with_back : (handling : Handling) (read_as : ReadText) (others : List ReadText) → IsShort handling → IsReadAs handling read_as → AllByRecursion TextReadsBack others → AllByRecursion TextReadsBack (with_batch handling read_as others)
+with_back (runs size text) read_as others short reads back = (served_text text read_as reads short, back)
+with_back (responds response next) read_as others short none back = back
+with_back (refuses response number) read_as others short none back = back
+with_back (ends end) read_as others short none back = back
 
-each_back : (requests : List Request) → AreShort (map handling_in requests) → All IsRequest requests → AllByRecursion ReadBack (batches_of requests)
+each_back : (requests : List Request) → AreShort (map handling_in requests) → All IsRequest requests → AllByRecursion TextReadsBack (batches_of requests)
 each_back [] short are = tt
 each_back (request ∷ requests) short are =
-    with_back request.handling request.statements (batches_of requests) short.0 (All-head IsRequest request requests are) (each_back requests short.1 (All-tail IsRequest request requests are))
+    with_back request.handling request.read_as (batches_of requests) short.0 (All-head IsRequest request requests are) (each_back requests short.1 (All-tail IsRequest request requests are))
 
 -- the batches of requests that were handled so
-pub batches_back : (handled : List Handling) (requests : List Request) → AreShort handled → AreRequests handled requests → AllByRecursion ReadBack (batches_of requests)
+pub batches_back : (handled : List Handling) (requests : List Request) → AreShort handled → AreRequests handled requests → AllByRecursion TextReadsBack (batches_of requests)
 batches_back handled requests short are = each_back requests (subst AreShort (sym are.handlings) short) are.are

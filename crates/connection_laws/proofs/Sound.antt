@@ -1,5 +1,5 @@
--- Where sessions have asked what connections ask, each database of the log is intact.
-use Rattle.std.proofs.Common.{◌≡◌, ◌≢◌, ◌⊎◌, inl, inr, ℕ, false, List, [], ◌∷◌, refl, sym, ap, ◌∙◌, subst, append-nil, eq-eqb}
+-- Where sessions have asked what connections ask, each commit keeps its database intact, and each database of the log is.
+use Rattle.std.proofs.Common.{◌≡◌, ◌≢◌, ◌⊎◌, inl, inr, ℕ, false, List, [], ◌∷◌, refl, sym, ap, ◌∙◌, subst, eq-eqb}
 use Rattle.std.specs.List.{AllByRecursion}
 use Rattle.step_model.specs.Exchange.{Exchange}
 use Rattle.step_model.specs.Fits.{is_wait, without_waits}
@@ -8,14 +8,10 @@ use Rattle.step_model.specs.State.{Engine}
 use Rattle.history_laws.proofs.Sessions.{apart, same_or_not}
 use Rattle.engine_core.specs.Solo.{asked_by}
 use Rattle.engine_core.proofs.Fitting.{run_known}
-use Rattle.sound_laws.proofs.Coming.{runs_come}
 use Rattle.sound_laws.proofs.Runs.{run_sound}
-use Rattle.connection_laws.specs.Laws.{AreConnections, ConnectionSound, ConnectionsSound, IsConnection}
-use Rattle.connection_laws.proofs.Several.{several_served}
-
-pub connections_sound : ConnectionsSound
-connections_sound asked engine run connections place =
-    run_sound asked engine run (λ session. several_served (without_waits (mine_of session asked)) (runs_come session asked engine run) (connections session)) place
+use Rattle.sound_laws.proofs.Serving.{all_keep}
+use Rattle.connection_laws.specs.Laws.{AreConnections, ConnectionSound, ConnectionsKeep, ConnectionsSound, IsConnection}
+use Rattle.connection_laws.proofs.Served.{alone, several_served}
 
 -- ---- one session alone
 
@@ -35,16 +31,21 @@ none_waits (x ∷ exchanges) none = rw none.0 (ap (λ (l : List Exchange). x ∷
 no_connections : AreConnections []
 no_connections = record { each = []; split = refl; connections = tt }
 
-alone : (session : ℕ) (exchanges : List Exchange) (engine : Engine) → IsConnection exchanges → Run opening (asked_by session exchanges) engine → (other : ℕ) → AreConnections (without_waits (mine_of other (asked_by session exchanges)))
-alone session exchanges engine connection run other = by_session (same_or_not session other)
+only : (session : ℕ) (exchanges : List Exchange) (engine : Engine) → IsConnection exchanges → Run opening (asked_by session exchanges) engine → (other : ℕ) → AreConnections (without_waits (mine_of other (asked_by session exchanges)))
+only session exchanges engine connection run other = by_session (same_or_not session other)
   where
-    here : AreConnections exchanges
-    here = record { each = exchanges ∷ []; split = sym (append-nil exchanges); connections = (connection, tt) }
-
     by_session : (session ≡ other) ⊎ (session ≢ other) → AreConnections (without_waits (mine_of other (asked_by session exchanges)))
     by_session (inl same) = subst (λ (s : ℕ). AreConnections (without_waits (mine_of s (asked_by session exchanges)))) same
-        (subst AreConnections (sym (ap without_waits (all_mine session exchanges) ∙ none_waits exchanges (run_known session exchanges engine run).none)) here)
+        (subst AreConnections (sym (ap without_waits (all_mine session exchanges) ∙ none_waits exchanges (run_known session exchanges engine run).none)) (alone exchanges connection))
     by_session (inr differ) = subst AreConnections (sym (ap without_waits (none_mine other session exchanges differ))) no_connections
 
+-- ---- the laws
+
+pub connections_keep : ConnectionsKeep
+connections_keep session begin log mine tied connections = all_keep session begin log mine tied (several_served mine connections)
+
+pub connections_sound : ConnectionsSound
+connections_sound asked engine run connections place = run_sound asked engine run (λ session. several_served (without_waits (mine_of session asked)) (connections session)) place
+
 pub connection_sound : ConnectionSound
-connection_sound session exchanges engine connection run place = connections_sound (asked_by session exchanges) engine run (alone session exchanges engine connection run) place
+connection_sound session exchanges engine connection run place = connections_sound (asked_by session exchanges) engine run (only session exchanges engine connection run) place

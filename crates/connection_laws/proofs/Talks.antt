@@ -1,14 +1,15 @@
 -- A talk is taken apart: the batches of its requests were done, one behind another.
 use Rattle.std.proofs.Common.{◌≡◌, ℕ, List, [], ◌∷◌, ◌++◌, fold, refl, sym, ap, ◌∙◌, subst, append-nil, append_assoc}
 use Rattle.step_model.specs.Exchange.{Exchange}
-use Rattle.batch_meaning.specs.declared.form.Served.{Served}
+use Rattle.batch_meaning.specs.declared.form.ReadText.{ReadText}
 use Rattle.batch_meaning.specs.Doing.{Doing, over, reads, ◌then◌, Held}
 use Rattle.batch_meaning.specs.Meaning.{batch}
 use Rattle.batch_meaning.specs.Progress.{SessionProgress, first_progress}
 use Rattle.statement_paths.proofs.Apart.{held_apart}
 use Rattle.session_server.specs.Response.{Response, tabular}
 use Rattle.session_server.specs.Talk.{Handling, responds, runs, refuses, ends, batch_response, response_to, talk_more, with_request, Request, talk_of}
-use Rattle.connection_laws.specs.Batches.{AreDone, Batch, batches_of, with_batch}
+use Rattle.sound_laws.specs.Runs.{AreDone}
+use Rattle.connection_laws.specs.Batches.{batches_of, with_batch}
 
 -- where nothing is asked behind a tree, the exchanges are the tree's
 pub held_whole : {A : Type 0} (tree : Doing A) (p mid new : SessionProgress) (exchanges front back : List Exchange) (a : A) → Held tree p front a mid → exchanges ≡ front ++ back → back ≡ [] → new ≡ mid → Held tree p exchanges a new
@@ -22,23 +23,23 @@ held_whole tree p mid new exchanges front back a held parts none same =
 abbrev pub gives_tokens : ℕ → Unit {0} → Doing Response
 gives_tokens size nothing = reads λ p. over (tabular size p.tokens)
 
-batch_done : (size : ℕ) (statements : List Served) (old new : SessionProgress) (exchanges : List Exchange) (response : Response) → Held (batch_response size statements) old exchanges response new → Held (batch statements) old exchanges tt new
+batch_done : (size : ℕ) (read_as : ReadText) (old new : SessionProgress) (exchanges : List Exchange) (response : Response) → Held (batch_response size read_as) old exchanges response new → Held (batch read_as) old exchanges tt new
 unfolding batch_response Held
-batch_done size statements old new exchanges response held =
-    let on = held_apart (batch statements) (gives_tokens size) old new exchanges response held in
-    held_whole (batch statements) old on.mid new exchanges on.front on.back tt on.held on.parts on.rest.0 on.rest.2
+batch_done size read_as old new exchanges response held =
+    let on = held_apart (batch read_as) (gives_tokens size) old new exchanges response held in
+    held_whole (batch read_as) old on.mid new exchanges on.front on.back tt on.held on.parts on.rest.0 on.rest.2
 
-module _ (others : List Batch) (old mid new : SessionProgress) (first later : List Exchange) (response : Response) (done : AreDone others mid later new) where
+module _ (others : List ReadText) (old mid new : SessionProgress) (first later : List Exchange) (response : Response) (done : AreDone others mid later new) where
   -- a request that runs no batch asks nothing
   still_done : first ≡ [] → mid ≡ old → AreDone others old (first ++ later) new
   still_done none same = subst (λ (l : List Exchange). AreDone others old (l ++ later) new) (sym none) (subst (λ (q : SessionProgress). AreDone others q later new) same done)
 
-  request_done : (handling : Handling) (statements : List Served) → Held (response_to handling statements) old first response mid → AreDone (with_batch handling statements others) old (first ++ later) new
+  request_done : (handling : Handling) (read_as : ReadText) → Held (response_to handling read_as) old first response mid → AreDone (with_batch handling read_as others) old (first ++ later) new
   unfolding Held
-  request_done (responds answer next) statements held = still_done held.0 held.2
-  request_done (runs size text) statements held = (mid, first, later, refl, batch_done size statements old mid first response held, done)
-  request_done (refuses answer number) statements held = still_done held.0 held.2
-  request_done (ends end) statements held = absurd held
+  request_done (responds answer next) read_as held = still_done held.0 held.2
+  request_done (runs size text) read_as held = (mid, first, later, refl, batch_done size read_as old mid first response held, done)
+  request_done (refuses answer number) read_as held = still_done held.0 held.2
+  request_done (ends end) read_as held = absurd held
 
 -- ---- all requests
 
@@ -91,7 +92,7 @@ behind [] talk p new exchanges responses held = record {
 }
 behind (request ∷ others) talk p new exchanges responses held =
     let on = behind others (with_request talk request) p new exchanges responses held in
-    let more = more_apart talk (response_to request.handling request.statements) p on.mid on.front on.earlier on.talked in
+    let more = more_apart talk (response_to request.handling request.read_as) p on.mid on.front on.earlier on.talked in
     record {
       front = more.front;
       back = more.back ++ on.back;
@@ -99,7 +100,7 @@ behind (request ∷ others) talk p new exchanges responses held =
       mid = more.mid;
       parts = on.parts ∙ ap (λ (l : List Exchange). l ++ on.back) more.parts ∙ append_assoc more.front more.back on.back;
       talked = more.talked;
-      done = request_done (batches_of others) more.mid on.mid new more.back on.back more.response on.done request.handling request.statements more.responded;
+      done = request_done (batches_of others) more.mid on.mid new more.back on.back more.response on.done request.handling request.read_as more.responded;
     }
 
 -- What was asked for the responses to requests is what their batches ask.

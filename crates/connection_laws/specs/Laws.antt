@@ -1,13 +1,13 @@
 -- Own: the laws of connections. A connection asks what its messages mean; here it is said that these are batches, and what
 -- follows of it for the log of commits.
-use Rattle.std.specs.Prelude.{◌≡◌, ℕ, List, take}
+use Rattle.std.specs.Prelude.{◌≡◌, ℕ, List, [], take}
 use Rattle.std.specs.List.{AllByRecursion, flat_map}
 use Rattle.tds_login.specs.declared.config.Config.{Config}
 use Rattle.tds_packets.specs.declared.message.Message.{Message}
 use Rattle.tds_packets.specs.Stream.{Splits}
 use Rattle.step_model.specs.Exchange.{Exchange}
 use Rattle.step_model.specs.Fits.{without_waits}
-use Rattle.step_model.specs.Log.{State}
+use Rattle.step_model.specs.Log.{Commit as Logged, State}
 use Rattle.step_model.specs.Runs.{Asked, Run, mine_of, opening}
 use Rattle.step_model.specs.State.{Engine}
 use Rattle.engine_core.specs.Solo.{asked_by}
@@ -15,8 +15,9 @@ use Rattle.session_server.specs.Conversation.{IsAsked}
 use Rattle.session_server.specs.Ends.{Cause}
 use Rattle.session_server.specs.Response.{Response}
 use Rattle.session_server.specs.Talk.{Request}
-use Rattle.sound_laws.specs.Laws.{Intact}
 use Rattle.sound_laws.specs.Runs.{AreServed}
+use Rattle.sound_laws.specs.Stands.{CommitsKeep, Intact}
+use Rattle.sound_laws.specs.Tied.{Tied}
 use Rattle.connection_laws.specs.Batches.{AsksBatches, batches_of}
 
 -- These exchanges are what one connection has asked for the messages that it took, until it ended.
@@ -31,7 +32,8 @@ pub record IsConnection (exchanges : List Exchange) : Type 0 where
   pub split : Splits taken messages rest
   pub asked : IsAsked config messages requests exchanges responses cause
 
--- They are those of the batches of its requests, one behind another, and at the end those of one that was left, if one was.
+-- They are those of the batches of its requests, one behind another, and at the end those of one that was left, if one was. A transaction
+-- may go over batches; what is open at the end is rolled back.
 abbrev pub ConnectionAsks : Type 0
 ConnectionAsks = (exchanges : List Exchange) (connection : IsConnection exchanges) → AsksBatches connection.cause (batches_of connection.requests) exchanges
 
@@ -44,6 +46,10 @@ pub record AreConnections (mine : List Exchange) : Type 0 where
   pub each : List (List Exchange)
   pub split : mine ≡ flat_map (λ exchanges. exchanges) each
   pub connections : AllByRecursion IsConnection each
+
+-- Each commit among those of a session keeps its database intact.
+abbrev pub ConnectionsKeep : Type 0
+ConnectionsKeep = (session : ℕ) (begin log : List Logged) (mine : List Exchange) → Tied session begin log mine → AreConnections mine → CommitsKeep log [] mine
 
 -- Where each session has served connections, every database that the first commits of the log leave is intact.
 abbrev pub ConnectionsSound : Type 0

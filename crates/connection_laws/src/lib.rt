@@ -1,20 +1,27 @@
 //! Laws of connections: what one connection asks of its port are batches, one behind another, and what texts of its messages
-//! keep reads back; so in every run of sessions that serve connections each database that the commits of the log leave is
-//! sound.
+//! keep reads back; a transaction may go over batches, and what is open at the end is rolled back. So each commit of a session
+//! that serves connections keeps its database sound, and in every run of such sessions each database that the commits of the
+//! log leave is sound.
 //!
 //! Read `specs/Batches.antt` first, then `specs/Laws.antt`. The functions do nothing: each one's contract is a law of what
 //! messages ask (`session_server`), for every reply that may come, and of runs of the engine (`step_model`). They ask nothing
 //! of their caller; only the definitions that they cite say what they mean.
 #![tactic(auto)]
 
-ghost use Rattle.connection_laws.specs.Laws.{ConnectionAsks, ConnectionServed, ConnectionSound, ConnectionsSound};
+ghost use Rattle.connection_laws.specs.Laws.{ConnectionAsks, ConnectionServed, ConnectionSound, ConnectionsKeep, ConnectionsSound};
 
-/// What a connection has asked is what the batches of its requests ask, one behind another, each done; then, where the last
-/// response was not made, a front of what one more asks, and the rollback of what that left open. These are served batches,
-/// as the laws of soundness ask for them.
+/// What a connection has asked is what the batches of its requests ask, one behind another, each done, and each from where the
+/// one before it has come to; then, where the last response was not made, a front of what one more asks, and the rollback of
+/// what they left open. This is served, as the laws of soundness ask for it.
 pub fn law_served_connection()
     ensures asks { ConnectionAsks }
     ensures served { ConnectionServed }
+{}
+
+/// Each commit of a session that has served connections, one behind another, keeps its database sound, if no trigger is
+/// defined in it.
+pub fn law_connections_keep()
+    ensures { ConnectionsKeep }
 {}
 
 /// In every run of any sessions that have served connections, one behind another, every database that the first commits of

@@ -2,10 +2,10 @@
 use Rattle.std.proofs.Common.{◌≡◌, Bool, if◌then◌else◌, ℕ, zero, suc, ◌+◌, ◌-◌, ◌<◌, ◌≤◌, true, false, List, [], ◌∷◌, ◌++◌, length, drop, get_or, Option, Some, None, Result, Ok, Err, refl, sym, ap, ◌∙◌, subst, arith}
 use Rattle.std.proofs.lemmas.List.{drop_more, length-drop}
 use Rattle.tsql_tree.specs.declared.definition.TableTree.{TableTree}
-use Rattle.value_types.specs.declared.value.Value.{Value}
 use Rattle.step_model.specs.declared.manner.Manner.{Manner}
 use Rattle.step_model.specs.declared.op.Op.{Op}
 use Rattle.step_model.specs.declared.op.Op.TheVariants.{Fetch}
+use Rattle.step_model.specs.declared.range.Start.{Start}
 use Rattle.step_model.specs.declared.reply.Reply.{Reply}
 use Rattle.step_model.specs.declared.reply.Reply.TheVariants as replies
 use Rattle.step_model.specs.Exchange.{CanReply, IsPartOfFetch, MayCome, Standing}
@@ -16,18 +16,28 @@ use Rattle.dml_exec.specs.declared.refusal.Refusal.{Refusal}
 use Rattle.dml_exec.specs.declared.refusal.Refusal.TheVariants.{Limit, Memory}
 use Rattle.dml_exec.specs.declared.refusal.Level.{Level}
 use Rattle.dml_exec.specs.declared.written.Halt.{Halt}
-use Rattle.dml_exec.specs.Asking.{MayWork, on_ok, ◌>>=◌, with_room}
-use Rattle.dml_exec.specs.Reading.{IsFetch, TableRead, fetches, images_from, part_of, past, read_by, reads_on, reads_table, rows_from}
+use Rattle.dml_exec.specs.Asking.{MayWork, on_ok, ◌>>=◌, with_room, with_room_if}
+use Rattle.dml_exec.specs.Reading.{IsFetch, TableRead, fetches, from, images_from, part_of, read_by, reads_on, reads_table, rows_from}
 use Rattle.dml_exec.proofs.Held.{asks_behind, asks_failed, asks_one, asks_over, asks_room, leads_then, leads_to}
 use Rattle.step_model.proofs.Dialogs.{front_room}
 use Rattle.dml_exec.proofs.Pairs.{none_of}
 
 -- ---- a fetch
 
-pub fetched : {before mid after : PortPast} {manner : Manner} (keeps : Keeps) (op : Op) (so_far : Rows) (reply : Reply) {result : Result (Rows × Option (List Value)) Refusal}
-    → IsFetch op → GoesOn before mid (record { op = op; manner = manner; reply = reply } ∷ []) → CanReply op reply → Asks mid after manner (read_by keeps so_far reply) result → Asks before after manner (fetches keeps op so_far) result
-fetched keeps (Fetch table start stop hold part) so_far reply is went can was = asks_one tt (read_by keeps so_far) reply went can was
-fetched keeps op so_far reply is went can was = absurd is
+pub fetched : {before mid after : PortPast} {manner : Manner} (width : ℕ) (keeps : Keeps) (op : Op) (so_far : Rows) (reply : Reply) {result : Result (Rows × Option Start) Refusal}
+    → IsFetch op → GoesOn before mid (record { op = op; manner = manner; reply = reply } ∷ []) → CanReply op reply → Asks mid after manner (read_by width keeps so_far reply) result → Asks before after manner (fetches width keeps op so_far) result
+fetched width keeps (Fetch table start stop hold part) so_far reply is went can was = asks_one tt (read_by width keeps so_far) reply went can was
+fetched width keeps op so_far reply is went can was = absurd is
+
+-- behind a key without a row it is known where to go on, or memory is wanting for a longer key
+module _ {now : PortPast} {manner : Manner} {A : Type 0} where
+  pub asks_known : (wants : Bool) (dialog : Dialog (Result A Refusal)) {result : Result A Refusal} → Asks now now manner dialog result → Asks now now manner (with_room_if wants Memory dialog) result
+  asks_known true dialog was = asks_room true _ was
+  asks_known false dialog was = was
+
+  pub asks_unknown : (wants : Bool) (dialog : Dialog (Result A Refusal)) → (wants ≡ false → false ≡ true) → Asks now now manner (with_room_if wants Memory dialog) (Err Memory)
+  asks_unknown true dialog wanted = asks_room false _ (asks_over refl)
+  asks_unknown false dialog wanted = let is : false ≡ true = wanted refl in absurd (cc)
 
 -- it may come, and leaves the session where it stands
 pub fetch_may : (standing : Standing) (op : Op) → IsFetch op → standing.is_open ≡ true → MayCome standing op
@@ -39,10 +49,10 @@ fetch_stays before (Fetch table start stop hold part) (replies.Ended place) is c
 fetch_stays before (Fetch table start stop hold part) reply is can = refl
 fetch_stays before op reply is can = absurd is
 
--- what is behind a key of its range is a fetch, too
-pub past_fetches : (op : Op) (key : List Value) → IsFetch op → IsFetch (past op key)
-past_fetches (Fetch table start stop hold part) key is = is
-past_fetches op key is = absurd is
+-- from another start it is a fetch, too
+pub from_fetches : (start : Start) (op : Op) → IsFetch op → IsFetch (from start op)
+from_fetches start (Fetch table earlier stop hold part) is = is
+from_fetches start op is = absurd is
 
 -- where the session stands as before it may go on
 pub may_on : {before after : PortPast} {manner : Manner} → MayWork before manner → after.standing ≡ before.standing → MayWork after manner
@@ -50,35 +60,35 @@ may_on may same = record { begun = ap (λ (s : Standing). s.is_open) same ∙ ma
 
 -- ---- a range
 
-module _ {before now : PortPast} {manner : Manner} {whole : Dialog (Result Rows Refusal)} (keeps : Keeps) (fetch : Op) (so_far : Rows) where
+module _ {before now : PortPast} {manner : Manner} {whole : Dialog (Result Rows Refusal)} (width : ℕ) (keeps : Keeps) (fetch : Op) (so_far : Rows) where
   -- no key more is looked at
-  pub range_limited : (left : ℕ) → left ≡ 0 → Leads before now manner whole (rows_from keeps left fetch so_far) → Asks before now manner whole (Err Limit)
+  pub range_limited : (left : ℕ) → left ≡ 0 → Leads before now manner whole (rows_from width keeps left fetch so_far) → Asks before now manner whole (Err Limit)
   unfolding rows_from
   range_limited zero none leads = leads_to leads (asks_over refl)
   range_limited (suc left) none leads = absurd (omega (arith, none))
 
   -- it failed
-  pub range_failed : {next : PortPast} (left : ℕ) (refusal : Refusal) → 0 < left → Leads before now manner whole (rows_from keeps left fetch so_far) → Asks now next manner (fetches keeps fetch so_far) (Err refusal) → Asks before next manner whole (Err refusal)
+  pub range_failed : {next : PortPast} (left : ℕ) (refusal : Refusal) → 0 < left → Leads before now manner whole (rows_from width keeps left fetch so_far) → Asks now next manner (fetches width keeps fetch so_far) (Err refusal) → Asks before next manner whole (Err refusal)
   unfolding rows_from
   range_failed zero refusal some leads was = absurd (omega (arith, some))
-  range_failed (suc left) refusal some leads was = leads_to leads (asks_failed (fetches keeps fetch so_far) (reads_on (λ more key. rows_from keeps left (past fetch key) more)) refusal was)
+  range_failed (suc left) refusal some leads was = leads_to leads (asks_failed (fetches width keeps fetch so_far) (reads_on (λ more start. rows_from width keeps left (from start fetch) more)) refusal was)
 
   -- it was answered by the end
-  pub range_ended : {next : PortPast} (left : ℕ) (more : Rows) → 0 < left → Leads before now manner whole (rows_from keeps left fetch so_far) → Asks now next manner (fetches keeps fetch so_far) (Ok (more, None)) → Asks before next manner whole (Ok more)
+  pub range_ended : {next : PortPast} (left : ℕ) (more : Rows) → 0 < left → Leads before now manner whole (rows_from width keeps left fetch so_far) → Asks now next manner (fetches width keeps fetch so_far) (Ok (more, None)) → Asks before next manner whole (Ok more)
   unfolding rows_from
   range_ended zero more some leads was = absurd (omega (arith, some))
   range_ended (suc left) more some leads was =
-      leads_to leads (asks_behind (fetches keeps fetch so_far) (reads_on (λ found key. rows_from keeps left (past fetch key) found)) (more, None) (Ok more) was (asks_over refl))
+      leads_to leads (asks_behind (fetches width keeps fetch so_far) (reads_on (λ found start. rows_from width keeps left (from start fetch) found)) (more, None) (Ok more) was (asks_over refl))
 
   -- it was answered by a key
-  pub range_next : {next : PortPast} (left : ℕ) (more : Rows) (key : List Value) → 0 < left → Leads before now manner whole (rows_from keeps left fetch so_far) → Asks now next manner (fetches keeps fetch so_far) (Ok (more, Some key))
-      → Leads before next manner whole (rows_from keeps (left - 1) (past fetch key) more)
+  pub range_next : {next : PortPast} (left : ℕ) (more : Rows) (start : Start) → 0 < left → Leads before now manner whole (rows_from width keeps left fetch so_far) → Asks now next manner (fetches width keeps fetch so_far) (Ok (more, Some start))
+      → Leads before next manner whole (rows_from width keeps (left - 1) (from start fetch) more)
   unfolding rows_from
-  range_next zero more key some leads was = absurd (omega (arith, some))
-  range_next {next = next} (suc left) more key some leads was =
+  range_next zero more start some leads was = absurd (omega (arith, some))
+  range_next {next = next} (suc left) more start some leads was =
       let fewer : suc left - 1 ≡ left = omega arith in
-      subst (λ n. Leads before next manner whole (rows_from keeps n (past fetch key) more)) (sym fewer)
-      (leads_then (fetches keeps fetch so_far) (on_ok (reads_on (λ found last. rows_from keeps left (past fetch last) found))) leads was)
+      subst (λ n. Leads before next manner whole (rows_from width keeps n (from start fetch) more)) (sym fewer)
+      (leads_then (fetches width keeps fetch so_far) (on_ok (reads_on (λ found next. rows_from width keeps left (from next fetch) found))) leads was)
 
 -- ---- parts one after another
 

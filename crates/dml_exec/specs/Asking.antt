@@ -1,5 +1,5 @@
 -- Own: parts of a dialog that may fail, one behind another: the first failure ends them. And what a reply of the port refuses.
-use Rattle.std.specs.Prelude.{◌≡◌, true, List, Result, Ok, Err, if◌then◌else◌}
+use Rattle.std.specs.Prelude.{◌≡◌, Bool, true, false, List, Result, Ok, Err, if◌then◌else◌}
 use Rattle.std.specs.declared.vec.Vec.{Vec}
 use Rattle.std.specs.declared.alloc.Global.{Global}
 use Rattle.step_model.specs.declared.manner.Manner.{Manner}
@@ -19,6 +19,11 @@ tree >>= go = tree then on_ok go
 -- what wants memory first fails so where there is none
 abbrev pub with_room : {A E : Type 0} → E → Dialog (Result A E) → Dialog (Result A E)
 with_room wanting tree = room λ enough. if enough then tree else over (Err wanting)
+
+-- what wants memory first in this case alone
+abbrev pub with_room_if : {A E : Type 0} → Bool → E → Dialog (Result A E) → Dialog (Result A E)
+with_room_if true wanting tree = with_room wanting tree
+with_room_if false wanting tree = tree
 
 -- a transaction is open, and the priority may be asked
 pub record MayWork (past : PortPast) (manner : Manner) : Type 0 where

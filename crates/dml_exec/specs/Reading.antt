@@ -1,12 +1,13 @@
--- Own: how the rows of a range are fetched: from its start, and then past the last key, until End. A range of one whole key is
+-- Own: how the rows of a range are fetched: from its start, and then from behind the last key, until End. A range of one whole key is
 -- one fetch. A range that was answered by so many keys is read no further. The code goes on in a loop; here the rest of the
 -- range is a dialog again.
-use Rattle.std.specs.Prelude.{ℕ, zero, suc, Bool, true, false, List, [], ◌∷◌, ◌++◌, map, Option, Some, None, Result, Ok, Err}
+use Rattle.std.specs.Prelude.{ℕ, zero, suc, nat_lt, Bool, true, false, if◌then◌else◌, List, [], ◌∷◌, ◌++◌, length, map, Option, Some, None, Result, Ok, Err}
 use Rattle.std.specs.List.{flat_map}
 use Rattle.lock_modes.specs.declared.KeyPart.{KeyPart}
 use Rattle.lock_modes.specs.declared.KeyPart.TheVariants.{S, U}
 use Rattle.value_types.specs.declared.table_name.TableName.{TableName}
 use Rattle.value_types.specs.declared.value.Value.{Value}
+use Rattle.value_types.specs.declared.value.Value.TheVariants.{Null}
 use Rattle.tsql_tree.specs.declared.definition.TableTree.{TableTree}
 use Rattle.bound_tree.specs.declared.query.BoundQuery.{BoundQuery}
 use Rattle.bound_tree.specs.declared.query.InnerQuery.{InnerQuery, out-InnerQuery}
@@ -16,13 +17,15 @@ use Rattle.bound_tree.specs.declared.write.BoundRows.{BoundRows}
 use Rattle.bound_tree.specs.declared.write.BoundRows.TheVariants as rows
 use Rattle.bound_tree.specs.declared.write.BoundWrite.{BoundWrite}
 use Rattle.bound_tree.specs.declared.write.BoundWrite.TheVariants as write
+use Rattle.clause_binder.specs.Scope.{key_places}
 use Rattle.query_eval.specs.Given.{tables_read}
 use Rattle.step_model.specs.declared.op.Hold.{Hold}
 use Rattle.step_model.specs.declared.op.Hold.TheVariants as hold
 use Rattle.step_model.specs.declared.op.Op.{Op}
 use Rattle.step_model.specs.declared.op.Op.TheVariants.{Fetch}
 use Rattle.step_model.specs.declared.range.KeyRange.{KeyRange}
-use Rattle.step_model.specs.declared.range.Start.TheVariants.{First, Past}
+use Rattle.step_model.specs.declared.range.Start.{Start}
+use Rattle.step_model.specs.declared.range.Start.TheVariants.{First, At, Past}
 use Rattle.step_model.specs.declared.range.Stop.TheVariants.{Last}
 use Rattle.step_model.specs.declared.reply.Reply.{Reply}
 use Rattle.step_model.specs.declared.reply.Reply.TheVariants as replies
@@ -35,7 +38,7 @@ use Rattle.dml_exec.specs.declared.refusal.Refusal.{Refusal}
 use Rattle.dml_exec.specs.declared.refusal.Refusal.TheVariants.{Victim, TimedOut, Limit, Memory}
 use Rattle.dml_exec.specs.declared.refusal.Level.{Level}
 use Rattle.dml_exec.specs.declared.refusal.Level.TheVariants.{ReadCommitted, Serializable}
-use Rattle.dml_exec.specs.Asking.{◌>>=◌, with_room}
+use Rattle.dml_exec.specs.Asking.{◌>>=◌, with_room, with_room_if}
 
 -- ---- one range
 
@@ -48,45 +51,60 @@ fits (Some shape) row = row_fits shape 0 row.0 row.1
 abbrev pub fetch_of : KeyRange → Hold → KeyPart → Op
 fetch_of range hold part = Fetch range.table range.start range.stop hold part
 
--- that of what is behind a key of it
-abbrev pub past : Op → List Value → Op
-past (Fetch table start stop hold part) key = Fetch table (Past key) stop hold part
-past op key = op
+-- that of the same range from another start
+abbrev pub from : Start → Op → Op
+from start (Fetch table earlier stop hold part) = Fetch table start stop hold part
+from start op = op
+
+-- how many values the keys of a table of this shape have
+abbrev pub key_width : Option TableTree → ℕ
+key_width shape = length (key_places shape)
+
+-- whether keys of so many values may begin with a key
+abbrev pub is_short : ℕ → List Value → Bool
+is_short width key = nat_lt (length key) width
+
+-- Where a range goes on behind a key without a row. That may be one of an earlier table of the name, which the transaction itself has
+-- dropped: where it has fewer values than the keys of this table, keys of this one may begin with it, and the range goes on at the first
+-- of these.
+abbrev pub behind_gone : ℕ → List Value → Start
+behind_gone width key = if is_short width key then At (key ++ Null ∷ []) else Past key
 
 -- a fetch with a part that it may have
 abbrev pub IsFetch : Op → Type 0
 IsFetch (Fetch table start stop hold part) = IsPartOfFetch part
 IsFetch op = ⊥
 
--- What a fetch's reply makes of the rows so far: with them the key to go on from, or none at the end. Row adds its row, if it is
--- kept, for which memory may be wanting; Gone adds none.
-abbrev pub read_by : Keeps → Rows → Reply → Dialog (Result (Rows × Option (List Value)) Refusal)
-read_by keeps so_far (replies.Row key row at) = with_room Memory (over (Ok (with_row keeps so_far key row, Some key)))
-read_by keeps so_far (replies.Gone key at) = over (Ok (so_far, Some key))
-read_by keeps so_far (replies.End at) = over (Ok (so_far, None))
-read_by keeps so_far replies.Memory = over (Err Memory)
-read_by keeps so_far (replies.TimedOut holder held asked on) = over (Err TimedOut)
-read_by keeps so_far (replies.Victim cycle) = over (Err Victim)
-read_by keeps so_far reply = never
+-- What a fetch's reply makes of the rows so far: with them where to go on, or nothing at the end. Row adds its row, if it is
+-- kept, for which memory may be wanting; Gone adds none, and memory may be wanting for a longer key. The keys of the table have so many
+-- values.
+abbrev pub read_by : ℕ → Keeps → Rows → Reply → Dialog (Result (Rows × Option Start) Refusal)
+read_by width keeps so_far (replies.Row key row at) = with_room Memory (over (Ok (with_row keeps so_far key row, Some (Past key))))
+read_by width keeps so_far (replies.Gone key at) = with_room_if (is_short width key) Memory (over (Ok (so_far, Some (behind_gone width key))))
+read_by width keeps so_far (replies.End at) = over (Ok (so_far, None))
+read_by width keeps so_far replies.Memory = over (Err Memory)
+read_by width keeps so_far (replies.TimedOut holder held asked on) = over (Err TimedOut)
+read_by width keeps so_far (replies.Victim cycle) = over (Err Victim)
+read_by width keeps so_far reply = never
 
-abbrev pub fetches : Keeps → Op → Rows → Dialog (Result (Rows × Option (List Value)) Refusal)
-fetches keeps (Fetch table start stop hold part) so_far = asks (Fetch table start stop hold part) tt (read_by keeps so_far)
-fetches keeps op so_far = never
+abbrev pub fetches : ℕ → Keeps → Op → Rows → Dialog (Result (Rows × Option Start) Refusal)
+fetches width keeps (Fetch table start stop hold part) so_far = asks (Fetch table start stop hold part) tt (read_by width keeps so_far)
+fetches width keeps op so_far = never
 
 -- behind a key the range goes on
-abbrev pub reads_on : (Rows → List Value → Dialog (Result Rows Refusal)) → Rows × Option (List Value) → Dialog (Result Rows Refusal)
+abbrev pub reads_on : (Rows → Start → Dialog (Result Rows Refusal)) → Rows × Option Start → Dialog (Result Rows Refusal)
 reads_on next (so_far, None) = over (Ok so_far)
-reads_on next (so_far, Some key) = next so_far key
+reads_on next (so_far, Some start) = next so_far start
 
 -- the rest of a range, behind these rows; so many more keys may be looked at
-unfoldable pub rows_from : Keeps → ℕ → Op → Rows → Dialog (Result Rows Refusal)
-rows_from keeps zero fetch so_far = over (Err Limit)
-rows_from keeps (suc left) fetch so_far = fetches keeps fetch so_far >>= reads_on (λ more key. rows_from keeps left (past fetch key) more)
+unfoldable pub rows_from : ℕ → Keeps → ℕ → Op → Rows → Dialog (Result Rows Refusal)
+rows_from width keeps zero fetch so_far = over (Err Limit)
+rows_from width keeps (suc left) fetch so_far = fetches width keeps fetch so_far >>= reads_on (λ more start. rows_from width keeps left (from start fetch) more)
 
--- the rows of a range; of one whole key, the row at it, or none
-unfoldable pub rows_in : Keeps → Bool → Op → Dialog (Result Rows Refusal)
-rows_in keeps true fetch = fetches keeps fetch [] >>= λ came. over (Ok came.0)
-rows_in keeps false fetch = rows_from keeps range_limit fetch []
+-- the rows of a range of a table of this shape; of one whole key, the row at it, or none
+unfoldable pub rows_in : Option TableTree → Bool → Op → Dialog (Result Rows Refusal)
+rows_in shape true fetch = fetches (key_width shape) (fits shape) fetch [] >>= λ came. over (Ok came.0)
+rows_in shape false fetch = rows_from (key_width shape) (fits shape) range_limit fetch []
 
 -- ---- the images of a statement
 
@@ -134,7 +152,7 @@ abbrev pub table_fetch : Level → TableRead → Op
 table_fetch level read = Fetch read.0 First Last (hold_at level) (part_of read.1)
 
 unfoldable pub reads_table : List TableTree → Level → TableRead → Dialog (Result Rows Refusal)
-reads_table shapes level read = rows_in (fits (shape_of read.0 shapes)) false (table_fetch level read)
+reads_table shapes level read = rows_in (shape_of read.0 shapes) false (table_fetch level read)
 
 -- tables are read one after another, behind these images
 unfoldable pub images_from : List TableTree → Level → List Rows → List TableRead → Dialog (Result (List Rows) Refusal)

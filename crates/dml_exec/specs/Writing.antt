@@ -25,12 +25,13 @@ use Rattle.constraint_check.specs.Reads.{reads_for, shape_of}
 use Rattle.constraint_check.specs.Judged.{duplicate, judge}
 use Rattle.dml_exec.specs.declared.refusal.Refusal.{Refusal}
 use Rattle.dml_exec.specs.declared.refusal.Refusal.TheVariants.{Victim, TimedOut, Memory}
+use Rattle.dml_exec.specs.declared.written.Attempt.{Attempt}
 use Rattle.dml_exec.specs.declared.written.Halt.{Halt}
 use Rattle.dml_exec.specs.declared.written.Halt.TheVariants as halt
 use Rattle.dml_exec.specs.declared.written.Written.{Written}
 use Rattle.dml_exec.specs.declared.written.Written.TheVariants as written
 use Rattle.dml_exec.specs.Asking.{◌>>=◌, with_room}
-use Rattle.dml_exec.specs.Reading.{fetch_of, fits, rows_in}
+use Rattle.dml_exec.specs.Reading.{fetch_of, rows_in}
 
 -- memory is wanting
 abbrev pub no_room : Halt
@@ -116,7 +117,7 @@ is_one_key start = false
 
 -- the rows are read
 unfoldable pub rows_checked : List TableTree → KeyRange → Dialog (Result Rows Halt)
-rows_checked shapes range = with_room no_room (rows_in (fits (shape_of range.table shapes)) (is_one_key range.start) (fetch_of range hold.Range S) then halted)
+rows_checked shapes range = with_room no_room (rows_in (shape_of range.table shapes) (is_one_key range.start) (fetch_of range hold.Range S) then halted)
 
 -- the error that rows that were read give
 abbrev pub broken_by : CheckRead → Option ℤ → Dialog (Result (Unit {0}) Halt)
@@ -140,6 +141,10 @@ works shapes changes = do
   done ← writes_all shapes changes
   with_room no_room (checks_all shapes (reads_for changes shapes))
 
+-- what came of the changes, and the mark in front of them, if one was set
+abbrev pub told : Option ℕ → Result Written Refusal → Attempt
+told mark came = record { mark = mark; came = came }
+
 -- why it was taken back
 abbrev pub outcome : Halt → Result Written Refusal
 outcome (halt.Broken number name) = Ok (written.Refused number name)
@@ -151,15 +156,18 @@ where_done next replies.Done = next
 where_done next reply = never
 
 -- the statement's mark, or the changes are taken back to it
-abbrev pub ends : ℕ → Result (Unit {0}) Halt → Dialog (Result Written Refusal)
-ends mark (Ok done) = over (Ok (written.Done mark))
-ends mark (Err why) = asks (ops.BackTo mark) tt (where_done (over (outcome why)))
+abbrev pub ends : ℕ → Result (Unit {0}) Halt → Dialog Attempt
+ends mark (Ok done) = over (told (Some mark) (Ok (written.Done mark)))
+ends mark (Err why) = asks (ops.BackTo mark) tt (where_done (over (told (Some mark) (outcome why))))
 
-abbrev pub marked : List TableTree → List Planned → Reply → Dialog (Result Written Refusal)
+abbrev pub marked : List TableTree → List Planned → Reply → Dialog Attempt
 marked shapes changes (replies.Marked mark) = works shapes changes then ends mark
-marked shapes changes replies.Memory = over (Err Memory)
+marked shapes changes replies.Memory = over (told None (Err Memory))
 marked shapes changes reply = never
 
 -- The changes of a write are asked, and their checks; it gives the statement's mark.
+unfoldable pub attempts : List TableTree → List Planned → Dialog Attempt
+attempts shapes changes = asks ops.Mark tt (marked shapes changes)
+
 unfoldable pub writes : List TableTree → List Planned → Dialog (Result Written Refusal)
-writes shapes changes = asks ops.Mark tt (marked shapes changes)
+writes shapes changes = attempts shapes changes then λ attempt. over attempt.came

@@ -1,10 +1,10 @@
 //! What a write changes, and what is asked of the port for it.
 //!
 //! `specs/Lib.antt` says in which order to read. The layers above rely on [`plan_write`] giving exactly the changes of a write
-//! on images of its tables, in their order, or its first error; and on [`read_images`] and [`apply_write`]
-//! asking exactly what `images_of` and `writes` ask, and giving what these come to by the replies. These two
-//! want an open transaction and a priority that may be asked. Only tests show that want of memory is not answered where there is memory. It recurses as deep as inner
-//! queries nest, and as deep as trees are.
+//! on images of its tables, in their order, or its first error; and on [`read_images`], [`attempt_write`] and [`apply_write`]
+//! asking exactly what `images_of`, `attempts` and `writes` ask, and giving what these come to by the replies. These three
+//! want an open transaction and a priority that may be asked. Only tests show that want of memory is not answered where there
+//! is memory. It recurses as deep as inner queries nest, and as deep as trees are.
 #![tactic(auto)]
 
 mod changes;
@@ -25,5 +25,5 @@ pub use planning::{plan_write, rows_told, table_written};
 pub use ranges::shape_of;
 pub use refusal::{Level, Refusal};
 pub use rewritten::Rewritten;
-pub use writing::apply_write;
-pub use written::Written;
+pub use writing::{apply_write, attempt_write};
+pub use written::{Attempt, Written};

@@ -1,7 +1,9 @@
 //! How the rows of a range are fetched.
 
-ghost use Rattle.std.specs.Prelude.{◌≡◌, [], IfOk, true};
+ghost use Rattle.std.specs.Prelude.{◌≡◌, ◌++◌, [], ◌∷◌, IfOk, IsOk, false, filter_map, length, true};
 ghost use Rattle.std.specs.Option.{option_map};
+ghost use Rattle.value_types.specs.declared.value.Value.TheVariants.{Null};
+ghost use Rattle.clause_binder.specs.Scope.{place_in};
 ghost use Rattle.step_model.specs.Dialog.{Asks};
 ghost use Rattle.step_model.specs.Ranges.{range_limit, with_row};
 ghost use Rattle.constraint_check.specs.Reads as checks;
@@ -9,11 +11,11 @@ ghost use Rattle.dml_exec.specs.Asking.{MayWork, beside, seen};
 ghost use Rattle.dml_exec.specs.Reading as spec;
 
 use crate::refusal::Refusal;
-use catalog_rows::row_fits;
+use catalog_rows::{place_in, row_fits};
 use std::alloc::Global;
 use step_model::{Manner, Op, Port, Reply, Start};
-use tsql_tree::TableTree;
-use value_types::{Key, Memory, Row, TableName};
+use tsql_tree::{ColumnTree, TableTree};
+use value_types::{KEY_LIMIT, Key, Memory, Row, TableName, Units, Value};
 
 /// How many keys of one range are looked at, at most.
 const RANGE_LIMIT: u32 = 10_000_000;
@@ -29,13 +31,14 @@ pub(crate) fn read_range<P: Port>(
 ) -> Result<Vec<Row>, Refusal>
     requires may { MayWork (P.past port.old) manner }
     requires fetch { spec.IsFetch fetch }
-    ensures asks { Asks (P.past port.old) (P.past port.new) manner (spec.rows_in (spec.fits (option_map (λ of. of.now) shape.entry)) one fetch) (seen result) }
+    ensures asks { Asks (P.past port.old) (P.past port.new) manner (spec.rows_in (option_map (λ of. of.now) shape.entry) one fetch) (seen result) }
     ensures standing { (P.past port.new).standing ≡ (P.past port.old).standing }
 {
+    let mut fetch = fetch;
     if one {
         read_key(alloc, port, manner, shape, &fetch)
     } else {
-        read_rows(alloc, port, manner, shape, fetch)
+        read_rows(alloc, port, manner, shape, &mut fetch)
     }
 }
 
@@ -49,35 +52,34 @@ fn read_key<P: Port>(
 ) -> Result<Vec<Row>, Refusal>
     requires may { MayWork (P.past port.old) manner }
     requires fetch { spec.IsFetch fetch.now }
-    ensures asks { Asks (P.past port.old) (P.past port.new) manner (spec.rows_in (spec.fits (option_map (λ of. of.now) shape.entry)) true fetch.now) (seen result) }
+    ensures asks { Asks (P.past port.old) (P.past port.new) manner (spec.rows_in (option_map (λ of. of.now) shape.entry) true fetch.now) (seen result) }
     ensures standing { (P.past port.new).standing ≡ (P.past port.old).standing }
 {
     let mut rows = Vec::new(alloc);
-    match read_next(port, manner, shape, fetch, &mut rows) {
+    match read_next(alloc, port, manner, shape, fetch, &mut rows) {
         Ok(_) => Ok(rows),
         Err(refusal) => Err(refusal),
     }
 }
 
-/// The rows of a range, in order of their keys.
+/// The rows of a range, in order of their keys. The fetch is left at the last start.
 fn read_rows<P: Port>(
     alloc: Global,
     port: &mut P,
     manner: Manner,
     shape: Option<&TableTree>,
-    fetch: Op,
+    fetch: &mut Op,
 ) -> Result<Vec<Row>, Refusal>
     requires may { MayWork (P.past port.old) manner }
-    requires fetch { spec.IsFetch fetch }
-    ensures asks { Asks (P.past port.old) (P.past port.new) manner (spec.rows_from (spec.fits (option_map (λ of. of.now) shape.entry)) range_limit fetch []) (seen result) }
+    requires fetch { spec.IsFetch fetch.old }
+    ensures asks { Asks (P.past port.old) (P.past port.new) manner (spec.rows_from (spec.key_width (option_map (λ of. of.now) shape.entry)) (spec.fits (option_map (λ of. of.now) shape.entry)) range_limit fetch.old []) (seen result) }
     ensures standing { (P.past port.new).standing ≡ (P.past port.old).standing }
 {
     let mut rows = Vec::new(alloc);
-    let mut fetch = fetch;
     let mut left = RANGE_LIMIT;
     while 0 < left {
-        match read_next(port, manner, shape, &fetch, &mut rows)? {
-            Some(key) => fetch = past(fetch, key),
+        match read_next(alloc, port, manner, shape, fetch, &mut rows)? {
+            Some(start) => begin_at(fetch, start),
             None => return Ok(rows),
         }
         left -= 1;
@@ -85,25 +87,29 @@ fn read_rows<P: Port>(
     Err(Refusal::Limit)
 }
 
-/// Asks a fetch, and adds its row, if it is read as one. The key to go on from, or none at the end.
+/// Asks a fetch, and adds its row, if it is read as one. Where to go on, or nothing at the end.
 fn read_next<P: Port>(
+    alloc: Global,
     port: &mut P,
     manner: Manner,
     shape: Option<&TableTree>,
     fetch: &Op,
     rows: &mut Vec<Row>,
-) -> Result<Option<Key>, Refusal>
+) -> Result<Option<Start>, Refusal>
     requires may { MayWork (P.past port.old) manner }
     requires fetch { spec.IsFetch fetch.now }
-    ensures asks { Asks (P.past port.old) (P.past port.new) manner (spec.fetches (spec.fits (option_map (λ of. of.now) shape.entry)) fetch.now rows.old.items) (beside rows.new.items result) }
+    ensures asks { Asks (P.past port.old) (P.past port.new) manner (spec.fetches (spec.key_width (option_map (λ of. of.now) shape.entry)) (spec.fits (option_map (λ of. of.now) shape.entry)) fetch.now rows.old.items) (beside rows.new.items result) }
     ensures standing { (P.past port.new).standing ≡ (P.past port.old).standing }
 {
     match port.ask(fetch, manner) {
         Reply::Row { key, row, .. } => match keep(shape, rows, &key, row) {
-            Ok(()) => Ok(Some(key)),
+            Ok(()) => Ok(Some(Start::Past(key))),
             Err(_) => Err(Refusal::Memory),
         },
-        Reply::Gone { key, .. } => Ok(Some(key)),
+        Reply::Gone { key, .. } => match behind_gone(alloc, shape, key) {
+            Ok(start) => Ok(Some(start)),
+            Err(_) => Err(Refusal::Memory),
+        },
         Reply::End { .. } => Ok(None),
         Reply::Memory => Err(Refusal::Memory),
         Reply::TimedOut { .. } => Err(Refusal::TimedOut),
@@ -112,25 +118,67 @@ fn read_next<P: Port>(
     }
 }
 
-/// The fetch of the rest of its range, past a key.
-fn past(fetch: Op, key: Key) -> Op
-    ensures { result ≡ spec.past fetch key }
+/// Where a range goes on behind a key without a row: at the first key that begins with it, where it has fewer values than the
+/// keys of the table, and else past it.
+fn behind_gone(alloc: Global, shape: Option<&TableTree>, key: Key) -> Result<Start, Memory>
+    ensures start { IfOk result (λ start. start ≡ spec.behind_gone (spec.key_width (option_map (λ of. of.now) shape.entry)) key) }
+    ensures sure { spec.is_short (spec.key_width (option_map (λ of. of.now) shape.entry)) key ≡ false → IsOk result }
 {
-    match fetch {
-        Op::Fetch {
-            table,
-            stop,
-            hold,
-            part,
-            ..
-        } => Op::Fetch {
-            table,
-            start: Start::Past(key),
-            stop,
-            hold,
-            part,
+    if key.as_slice().len() < key_width(shape) {
+        Ok(Start::At(with_null(alloc, &key)?))
+    } else {
+        Ok(Start::Past(key))
+    }
+}
+
+/// How many values the keys of a table have.
+fn key_width(shape: Option<&TableTree>) -> usize
+    ensures { result ≡ spec.key_width (option_map (λ of. of.now) shape.entry) }
+{
+    match shape {
+        Some(shape) => match shape.key.as_slice() {
+            [] => 0,
+            [key, ..] => places_in(shape.columns.as_slice(), key.columns.as_slice()),
         },
-        other => other,
+        None => 0,
+    }
+}
+
+/// How many of these names are those of columns.
+fn places_in(columns: &[ColumnTree], names: &[Units]) -> usize
+    ensures { result ≡ length (filter_map (place_in columns.now) names.now) }
+{
+    let mut places = 0;
+    for name in names {
+        if place_in(columns, name).is_some() {
+            places += 1;
+        }
+    }
+    places
+}
+
+/// A key with a NULL behind its values. Of a key that has as many values as any may have there is none.
+fn with_null(alloc: Global, key: &Key) -> Result<Key, Memory>
+    ensures { IfOk result (λ longer. longer ≡ key.now ++ Null ∷ []) }
+{
+    let values = key.as_slice();
+    if KEY_LIMIT <= values.len() {
+        return Err(Memory);
+    }
+    let mut longer = Vec::with_capacity(alloc, values.len() + 1)?;
+    for value in values {
+        longer.push(value.copy(alloc)?)?;
+    }
+    longer.push(Value::Null)?;
+    Ok(Key::new(longer))
+}
+
+/// Lets a fetch begin at another start.
+fn begin_at(fetch: &mut Op, start: Start)
+    ensures { fetch.new ≡ spec.from start fetch.old }
+{
+    if let Op::Fetch { start: earlier, .. } = fetch {
+        *earlier = start;
     }
 }
 

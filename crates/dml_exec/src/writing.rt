@@ -1,6 +1,6 @@
 //! What is asked for the changes of a write.
 
-ghost use Rattle.std.specs.Prelude.{◌≡◌, ◌==◌, IsTrue, IfOk, true};
+ghost use Rattle.std.specs.Prelude.{◌≡◌, ◌==◌, IsTrue, IfOk, Some, true};
 ghost use Rattle.std.specs.List.{list_any};
 ghost use Rattle.std.specs.Option.{option_map};
 ghost use Rattle.lock_modes.specs.declared.KeyPart.TheVariants.{S};
@@ -14,7 +14,7 @@ ghost use Rattle.dml_exec.specs.Writing as spec;
 
 use crate::ranges::{read_range, shape_of};
 use crate::refusal::Refusal;
-use crate::written::{Halt, Written};
+use crate::written::{Attempt, Halt, Written};
 use bound_tree::Image;
 use catalog_rows::is_objects;
 use constraint_check::{CheckRead, judge, reads_for};
@@ -48,34 +48,57 @@ pub fn apply_write<P: Port>(
     ensures asks { Asks (P.past port.old) (P.past port.new) manner (spec.writes shapes.now changes.now) result }
     ensures begun { (P.past port.new).standing.is_open ≡ true }
 {
+    attempt_write(alloc, changes, shapes, manner, port).came
+}
+
+/// The same, and the mark also where the changes were taken back to it. It is the last mark that stands, then.
+pub fn attempt_write<P: Port>(
+    alloc: Global,
+    changes: &[Planned],
+    shapes: &[TableTree],
+    manner: Manner,
+    port: &mut P,
+) -> Attempt
+    requires may { MayWork (P.past port.old) manner }
+    ensures asks { Asks (P.past port.old) (P.past port.new) manner (spec.attempts shapes.now changes.now) result }
+    ensures begun { (P.past port.new).standing.is_open ≡ true }
+{
     match port.ask(&Op::Mark, manner) {
         Reply::Marked(mark) => {
             let came = work(alloc, port, manner, shapes, changes);
             end(port, manner, mark, came)
         }
-        Reply::Memory => Err(Refusal::Memory),
+        Reply::Memory => Attempt {
+            mark: None,
+            came: Err(Refusal::Memory),
+        },
         _ => unreachable!(),
     }
 }
 
 /// The mark; where something came in between the changes are taken back to it.
-fn end<P: Port>(
-    port: &mut P,
-    manner: Manner,
-    mark: u64,
-    came: Result<(), Halt>,
-) -> Result<Written, Refusal>
+fn end<P: Port>(port: &mut P, manner: Manner, mark: u64, came: Result<(), Halt>) -> Attempt
     requires may { MayWork (P.past port.old) manner }
     requires live { IsTrue (list_any (λ live. live == mark) (P.past port.old).standing.marks) }
     ensures asks { Asks (P.past port.old) (P.past port.new) manner (spec.ends mark came) result }
     ensures begun { (P.past port.new).standing.is_open ≡ true }
 {
     match came {
-        Ok(()) => Ok(Written::Done { mark }),
+        Ok(()) => told(mark, Ok(Written::Done { mark })),
         Err(halt) => match port.ask(&Op::BackTo { mark }, manner) {
-            Reply::Done => outcome(halt),
+            Reply::Done => told(mark, outcome(halt)),
             _ => unreachable!(),
         },
+    }
+}
+
+/// What came of changes behind a mark.
+fn told(mark: u64, came: Result<Written, Refusal>) -> Attempt
+    ensures { result ≡ spec.told (Some mark) came }
+{
+    Attempt {
+        mark: Some(mark),
+        came,
     }
 }
 

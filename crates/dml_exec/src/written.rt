@@ -20,6 +20,15 @@ pub enum Written {
     },
 }
 
+/// What came of the changes of a write, with the mark in front of them.
+#[derive(Debug, Drop)]
+pub struct Attempt {
+    /// The mark, if one was set: it is told where the changes were taken back to it, too.
+    pub mark: Option<u64>,
+    /// What came of them, or why they were asked no further.
+    pub came: Result<Written, Refusal>,
+}
+
 /// Why changes are taken back.
 #[derive(Debug, Drop)]
 pub(crate) enum Halt {

@@ -10,6 +10,7 @@ use Rattle.tsql_tree.specs.declared.definition.ForeignTree.{ForeignTree}
 use Rattle.tsql_tree.specs.declared.definition.KeyTree.{KeyTree}
 use Rattle.tsql_tree.specs.declared.definition.TableTree.{TableTree}
 use Rattle.tsql_tree.specs.declared.statement.Form.{Form-F}
+use Rattle.session_vars.specs.declared.Variable.{Variable}
 use Rattle.bound_tree.specs.declared.expr.BoundTest.{BoundTest}
 use Rattle.bound_tree.specs.declared.write.Bound.{Bound}
 use Rattle.typed_nodes.specs.Refusals.{Outcome, after}
@@ -28,7 +29,7 @@ use Rattle.constraint_check.specs.Reads.{places_of}
 use Rattle.constraint_check.proofs.Behind.{name_is}
 use Rattle.constraint_check.proofs.Lists.{all_left, all_right, all_two, among_any, among_both, from_among}
 use Rattle.batch_meaning.specs.Selecting.{bound_as}
-use Rattle.integrity_laws.specs.Sound.{HasParentTable, IsDefined, IsTableOf, RefersTo, Sound}
+use Rattle.integrity_laws.specs.Sound.{HasParentTable, IsDefined, IsTableOf, RefersTo, Firm}
 use Rattle.integrity_laws.specs.Plans.{BoundStands}
 use Rattle.integrity_laws.proofs.Dropped.{none_any}
 
@@ -200,7 +201,7 @@ found_is db name (Table of ∷ rest) parent all e = by_test (same_units name of.
 
 -- ---- one FOREIGN KEY
 
-module _ (db : Database) (definitions : List Definition) (table : TableTree) (sound : Sound db) (all : AllByRecursion (λ definition. IsDefined db (defined_name definition) definition) definitions) (few : Few table.columns) where
+module _ (db : Database) (definitions : List Definition) (table : TableTree) (firm : Firm db) (all : AllByRecursion (λ definition. IsDefined db (defined_name definition) definition) definitions) (few : Few table.columns) where
   abbrev Refers : ForeignTree → Type 0
   Refers foreign = RefersTo table foreign table ⊎ HasParentTable db table foreign
 
@@ -211,7 +212,7 @@ module _ (db : Database) (definitions : List Definition) (table : TableTree) (so
       by_parent None is some refers = let both : false ≡ true = some in cc
       by_parent (Some parent) is some refers =
           let found = found_is db foreign.parent definitions parent all is in
-          inr (parent, found.0, (found.1, refers_long table parent foreign few (sound.few parent found.0) known refers))
+          inr (parent, found.0, (found.1, refers_long table parent foreign few (firm.few parent found.0) known refers))
 
   one : (foreign : ForeignTree) → AllByRecursion (Has table.columns) foreign.columns × AllByRecursion (Known definitions) (in_foreign table.name foreign) → is_odd_foreign definitions table foreign ≡ false → Refers foreign
   one foreign known sane =
@@ -252,19 +253,19 @@ plain_ok beyond = Ok (plain_made beyond)
 plain_beyond : (beyond : Bool) (made : Made) → plain_ok beyond ≡ Ok made → beyond ≡ made.beyond
 plain_beyond beyond made e = let same : plain_made beyond ≡ made = cc in ap (λ (m : Made). m.beyond) same
 
-plain : (definitions : List Definition) (table : TableTree) (text : List ℕ) (of : Bound) → bind_form definitions [] (Form-F.CreateTable table text) ≡ Ok of → IsPlain definitions table
-plain definitions table text of e =
+plain : (definitions : List Definition) (vars : List Variable) (table : TableTree) (text : List ℕ) (of : Bound) → bind_form definitions vars (Form-F.CreateTable table text) ≡ Ok of → IsPlain definitions table
+plain definitions vars table text of e =
     let form = Form-F.CreateTable table text in
     let tables = after_ok (all_tables definitions (distinct_onto [] (table_names form))) _ of e in
-    let made = after_ok (made_by definitions [] form) _ of tables.2 in
+    let made = after_ok (made_by definitions vars form) _ of tables.2 in
     let create = after_ok (create_table definitions table) _ made.0 made.1 in
-    let limited : (made.0.beyond || names_outside [] form) ≡ false = within_ok (made.0.beyond || names_outside [] form) made.0.bound of made.2 in
-    let none : create.0 ≡ false = plain_beyond create.0 made.0 create.2 ∙ (or_false made.0.beyond (names_outside [] form) limited).0 in
+    let limited : (made.0.beyond || names_outside vars form) ≡ false = within_ok (made.0.beyond || names_outside vars form) made.0.bound of made.2 in
+    let none : create.0 ≡ false = plain_beyond create.0 made.0 create.2 ∙ (or_false made.0.beyond (names_outside vars form) limited).0 in
     (subst (IsMade definitions table) none (made_table definitions table create.0 create.1), (tables.0, tables.1))
 
 pub bound_stands : BoundStands
-bound_stands db definitions statement table text of sound all form e =
-    let both = plain definitions table text of (ap (bind_form definitions []) (sym form) ∙ bound_ok (bind definitions [] statement) of e) in
+bound_stands db definitions vars statement table text of firm all form e =
+    let both = plain definitions vars table text of (ap (bind_form definitions vars) (sym form) ∙ bound_ok (bind definitions vars statement) of e) in
     let is = both.0 in
     let checks = is.0 in
     let limits = or_false (is_beyond checks.1) (is_odd_table definitions table) is.4 in
@@ -275,8 +276,8 @@ bound_stands db definitions statement table text of sound all form e =
     record {
       few = few;
       bound = (checks.0, ap (λ o. after o (λ checks. within_limits (is_beyond checks.1) checks.0)) is.2 ∙ within_is (is_beyond checks.1) checks.0 limits.0);
-      parents = all_two (λ foreign. AllByRecursion (Has table.columns) foreign.columns × AllByRecursion (Known definitions) (in_foreign table.name foreign)) (λ foreign. is_odd_foreign definitions table foreign ≡ false) (Refers db definitions table sound all few)
-          (one db definitions table sound all few) table.foreigns
+      parents = all_two (λ foreign. AllByRecursion (Has table.columns) foreign.columns × AllByRecursion (Known definitions) (in_foreign table.name foreign)) (λ foreign. is_odd_foreign definitions table foreign ≡ false) (Refers db definitions table firm all few)
+          (one db definitions table firm all few) table.foreigns
           (all_two (λ foreign. AllByRecursion (Has table.columns) foreign.columns) (λ foreign. AllByRecursion (Known definitions) (in_foreign table.name foreign))
           (λ foreign. AllByRecursion (Has table.columns) foreign.columns × AllByRecursion (Known definitions) (in_foreign table.name foreign)) (λ foreign a b. (a, b)) table.foreigns
           (foreigns_known definitions table table.foreigns is.1 is.3)

@@ -15,9 +15,9 @@ use Rattle.constraint_check.specs.Laws.{behind}
 use Rattle.constraint_check.specs.Reads.{rows_table}
 use Rattle.constraint_check.proofs.Behind.{one_behind, same, same_itself}
 use Rattle.constraint_check.proofs.Lists.{all_more}
-use Rattle.batch_laws.specs.Committing.{definition_put}
-use Rattle.integrity_laws.specs.Laws.{IsCreated, SoundCreated, UntriggeredCreated}
-use Rattle.integrity_laws.specs.Sound.{DefinesOne, HasParentTable, HasParentTables, HasTable, IsDefined, IsKnown, IsTableOf, Keeps, RefersTo, Sound}
+use Rattle.statement_paths.specs.Paths.{definition_put}
+use Rattle.integrity_laws.specs.Laws.{IsCreated, FirmCreated, UntriggeredCreated}
+use Rattle.integrity_laws.specs.Sound.{DefinesOne, HasParentTable, HasParentTables, HasTable, IsDefined, IsKnown, IsTableOf, Keeps, RefersTo, Firm}
 use Rattle.integrity_laws.proofs.Defined.{defined_by, names_apart, not_objects, not_same, one_name, one_thing, table_there}
 use Rattle.integrity_laws.proofs.Elsewhere.{SameRows, is_table, kept_empty, kept_too, table_is, table_itself, table_name, tables_apart, untouched}
 
@@ -53,7 +53,7 @@ module _ (db : Database) (name text : List ℕ) (table : TableTree) where
             inl (one_thing now.0 name definition (Table table) (subst (λ (n : List ℕ). IsDefinitionOf n now.0 (Some definition)) names now.2) own)
         by_test false apart = inr (defined_by after db of definition (sym (at_other (object_key of) apart)) now)
 
-  module _ (sound : Sound db) (made : IsCreated db name text table) where
+  module _ (firm : Firm db) (made : IsCreated db name text table) where
     -- ---- rows
 
     -- of other tables
@@ -74,7 +74,7 @@ module _ (db : Database) (name text : List ℕ) (table : TableTree) where
     stays of definition before = by_test (same (object_key name) (object_key of)) refl
       where
         by_test : (b : Bool) → same (object_key name) (object_key of) ≡ b → IsDefined after of definition
-        by_test true at = let both : None ≡ Some before.0 = sym made.free ∙ sound.one_key (rows_table objects_name) (object_key name) (object_key of) at ∙ before.1 in cc
+        by_test true at = let both : None ≡ Some before.0 = sym made.free ∙ firm.one_key (rows_table objects_name) (object_key name) (object_key of) at ∙ before.1 in cc
         by_test false apart = defined_by db after of definition (at_other (object_key of) apart) before
 
     -- of tables
@@ -87,7 +87,7 @@ module _ (db : Database) (name text : List ℕ) (table : TableTree) where
     has_stays : (of : List ℕ) → HasTable db of → HasTable after of
     has_stays of has = table_there db after (λ shape is. stays shape.name (Table shape) is) of has
 
-    -- ---- the parts of `Sound`
+    -- ---- the parts of `Firm`
 
     all_definitions : (key row : List Value) → after (rows_table objects_name) key ≡ Some row → DefinesOne key row
     all_definitions key row stands = by_test (same (object_key name) key) refl
@@ -97,7 +97,7 @@ module _ (db : Database) (name text : List ℕ) (table : TableTree) where
             let both : Some (row_of name text) ≡ Some row = sym (at_name key at) ∙ stands in
             let rows : row_of name text ≡ row = cc in
             record { name = name; definition = Table table; at = at; other = made.other; defines = subst (λ (row : List Value). IsDefinitionOf name row (Some (Table table))) rows (own_row made.defines) }
-        by_test false apart = sound.definitions key row (sym (at_other key apart) ∙ stands)
+        by_test false apart = firm.definitions key row (sym (at_other key apart) ∙ stands)
 
     known_stays : (of : TableName) → IsKnown db of → IsKnown after of
     known_stays of (inl own) = inl own
@@ -108,17 +108,17 @@ module _ (db : Database) (name text : List ℕ) (table : TableTree) where
       where
         by_test : (b : Bool) → is_table objects_name of ≡ b → IsKnown after of
         by_test true own = inl (table_is objects_name of own)
-        by_test false apart = known_stays of (sound.known of key row (sym (there of apart key) ∙ stands))
+        by_test false apart = known_stays of (firm.known of key row (sym (there of apart key) ∙ stands))
 
     all_few : (of : TableTree) → IsTableOf after of → length of.columns ≤ max_columns
     all_few of now = elim (was_table of now) [
       | inl new ↦ subst (λ (t : TableTree). length t.columns ≤ max_columns) (sym new) made.stands.few
-      | inr before ↦ sound.few of before
+      | inr before ↦ firm.few of before
     ]
 
     -- the new table has no rows
     no_rows : (key row : List Value) → db (rows_table name) key ≡ Some row → ⊥
-    no_rows key row stands = elim (sound.known (rows_table name) key row stands) [
+    no_rows key row stands = elim (firm.known (rows_table name) key row stands) [
       | inl own ↦ not_same name objects_name made.other (table_name name objects_name own)
       | inr known ↦ none known.0 known.1 (table_name name known.0.name known.2)
     ]
@@ -135,15 +135,15 @@ module _ (db : Database) (name text : List ℕ) (table : TableTree) where
 
     old_keeps : (of : TableTree) → IsTableOf db of → Keeps after of
     old_keeps of before =
-        let keeps = sound.kept of before in (
+        let keeps = firm.kept of before in (
           keeps.0,
           keeps.1,
-          kept_too db after of keeps.0 (same_there of.name (not_objects db sound of.name (Table of) before))
-              (all_more (HasParentTable db of) (λ foreign. SameRows db after foreign.parent) parent_same of.foreigns (sound.parents of before)) keeps.2,
+          kept_too db after of keeps.0 (same_there of.name (not_objects db firm of.name (Table of) before))
+              (all_more (HasParentTable db of) (λ foreign. SameRows db after foreign.parent) parent_same of.foreigns (firm.parents of before)) keeps.2,
         )
       where
         parent_same : (foreign : ForeignTree) → HasParentTable db of foreign → SameRows db after foreign.parent
-        parent_same foreign has = same_there foreign.parent (subst (λ (n : List ℕ). is_objects n ≡ false) has.2.0 (not_objects db sound has.0.name (Table has.0) has.1))
+        parent_same foreign has = same_there foreign.parent (subst (λ (n : List ℕ). is_objects n ≡ false) has.2.0 (not_objects db firm has.0.name (Table has.0) has.1))
 
     all_keep : (of : TableTree) → IsTableOf after of → Keeps after of
     all_keep of now = elim (was_table of now) [
@@ -164,24 +164,24 @@ module _ (db : Database) (name text : List ℕ) (table : TableTree) where
     all_parents : (of : TableTree) → IsTableOf after of → HasParentTables after of
     all_parents of now = elim (was_table of now) [
       | inl new ↦ subst (HasParentTables after) (sym new) new_parents
-      | inr before ↦ all_more (HasParentTable db of) (HasParentTable after of) (parent_stays of) of.foreigns (sound.parents of before)
+      | inr before ↦ all_more (HasParentTable db of) (HasParentTable after of) (parent_stays of) of.foreigns (firm.parents of before)
     ]
 
     all_triggers : (of : List ℕ) (trigger : TriggerTree) → IsDefined after of (Trigger trigger) → HasTable after trigger.table
     all_triggers of trigger now = elim (was made.defines of (Trigger trigger) now) [
       | inl new ↦ (let both : Trigger trigger ≡ Table table = new in cc)
-      | inr before ↦ has_stays trigger.table (sound.triggers of trigger before)
+      | inr before ↦ has_stays trigger.table (firm.triggers of trigger before)
     ]
 
-pub sound_created : SoundCreated
-sound_created db name text table sound made = record {
-  one_key = one_behind (definition_put name text ∷ []) db sound.one_key;
-  definitions = all_definitions db name text table sound made;
-  known = all_known db name text table sound made;
-  few = all_few db name text table sound made;
-  kept = all_keep db name text table sound made;
-  parents = all_parents db name text table sound made;
-  triggers = all_triggers db name text table sound made;
+pub firm_created : FirmCreated
+firm_created db name text table firm made = record {
+  one_key = one_behind (definition_put name text ∷ []) db firm.one_key;
+  definitions = all_definitions db name text table firm made;
+  known = all_known db name text table firm made;
+  few = all_few db name text table firm made;
+  kept = all_keep db name text table firm made;
+  parents = all_parents db name text table firm made;
+  triggers = all_triggers db name text table firm made;
 }
 
 pub untriggered_created : UntriggeredCreated

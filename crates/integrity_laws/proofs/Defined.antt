@@ -11,7 +11,7 @@ use Rattle.step_model.specs.Database.{Database}
 use Rattle.catalog_rows.specs.Definitions.{IsDefinitionOf, is_objects, object_key, objects_name, row_of}
 use Rattle.catalog_rows.proofs.Defining.{one_definition}
 use Rattle.constraint_check.specs.Reads.{rows_table}
-use Rattle.integrity_laws.specs.Sound.{HasTable, IsDefined, IsTableOf, Sound}
+use Rattle.integrity_laws.specs.Sound.{HasTable, IsDefined, IsTableOf, Firm}
 
 -- ---- names
 
@@ -50,9 +50,9 @@ pub defined_by : (db other : Database) (name : List ℕ) (definition : Definitio
 defined_by db other name definition same is = (is.0, same ∙ is.1, is.2)
 
 -- what is defined is not `objects`
-pub not_objects : (db : Database) → Sound db → (name : List ℕ) (definition : Definition) → IsDefined db name definition → is_objects name ≡ false
-not_objects db sound name definition is =
-    let own = sound.definitions (object_key name) is.0 is.1 in
+pub not_objects : (db : Database) → Firm db → (name : List ℕ) (definition : Definition) → IsDefined db name definition → is_objects name ≡ false
+not_objects db firm name definition is =
+    let own = firm.definitions (object_key name) is.0 is.1 in
     subst (λ (n : List ℕ). is_objects n ≡ false) (one_name is.0 own.name name own.definition definition own.defines is.2) own.other
 
 -- a name is defined as one thing

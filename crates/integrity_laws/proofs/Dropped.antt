@@ -24,8 +24,8 @@ use Rattle.constraint_check.proofs.Behind.{at_is, one_behind, same, same_itself}
 use Rattle.constraint_check.proofs.Lists.{Among, all_more, all_two, among_any}
 use Rattle.dml_exec.specs.Planning.{erased_at}
 use Rattle.batch_meaning.specs.Changing.{refers, with_definition}
-use Rattle.integrity_laws.specs.Laws.{AreErased, AreTables, SoundDropped, UntriggeredDropped}
-use Rattle.integrity_laws.specs.Sound.{DefinesOne, HasParentTable, HasParentTables, HasTable, IsDefined, IsKnown, IsTableOf, Keeps, Sound}
+use Rattle.integrity_laws.specs.Laws.{AreErased, AreTables, FirmDropped, UntriggeredDropped}
+use Rattle.integrity_laws.specs.Sound.{DefinesOne, HasParentTable, HasParentTables, HasTable, IsDefined, IsKnown, IsTableOf, Keeps, Firm}
 use Rattle.integrity_laws.proofs.Defined.{defined_by, names_apart, not_objects, not_same, one_name}
 use Rattle.integrity_laws.proofs.Elsewhere.{SameRows, is_table, kept_too, table_is, table_itself, tables_apart, untouched}
 use Rattle.integrity_laws.proofs.Written.{of_found}
@@ -73,7 +73,7 @@ module _ (name : List ℕ) where
   none_left (change ∷ changes) of erases db key (inl at) = none_still changes of.1 erases.1 (with_change db (change_of change)) key (step change db key true of.0 at ∙ erase_none change.deed erases.0)
   none_left (change ∷ changes) of erases db key (inr later) = none_left changes of.1 erases.1 (with_change db (change_of change)) key later
 
-module _ (db : Database) (shape : TableTree) (changes : List Planned) (sound : Sound db) (is : IsTableOf db shape) (of_table : AllByRecursion (λ change. change.table ≡ rows_table shape.name) changes) where
+module _ (db : Database) (shape : TableTree) (changes : List Planned) (firm : Firm db) (is : IsTableOf db shape) (of_table : AllByRecursion (λ change. change.table ≡ rows_table shape.name) changes) where
   abbrev name : List ℕ
   name = shape.name
 
@@ -97,7 +97,7 @@ module _ (db : Database) (shape : TableTree) (changes : List Planned) (sound : S
       split (rows_table objects_name) key
       ∙ ap (λ (b : Bool). if b && same (object_key name) key then None else mid (rows_table objects_name) key) (table_itself objects_name)
       ∙ ap (λ (o : Option (List Value)). if same (object_key name) key then None else o)
-      (untouched name (rows_table objects_name) (tables_apart name objects_name (not_objects db sound name (Table shape) is)) changes of_table db key)
+      (untouched name (rows_table objects_name) (tables_apart name objects_name (not_objects db firm name (Table shape) is)) changes of_table db key)
 
   at_name : (key : List Value) → same (object_key name) key ≡ true → after (rows_table objects_name) key ≡ None
   at_name key at = here key ∙ ap (λ (b : Bool). if b then None else db (rows_table objects_name) key) at
@@ -146,7 +146,7 @@ module _ (db : Database) (shape : TableTree) (changes : List Planned) (sound : S
         by_test : (b : Bool) → same (object_key name) (object_key of) ≡ b → IsDefined after of definition
         by_test true at =
             let own = is in
-            let both : Some own.0 ≡ Some before.0 = sym own.1 ∙ sound.one_key (rows_table objects_name) (object_key name) (object_key of) at ∙ before.1 in
+            let both : Some own.0 ≡ Some before.0 = sym own.1 ∙ firm.one_key (rows_table objects_name) (object_key name) (object_key of) at ∙ before.1 in
             let rows : own.0 ≡ before.0 = cc in
             absurd (other (one_name own.0 of name definition (Table shape) (subst (λ (row : List Value). IsDefinitionOf of row (Some definition)) (sym rows) before.2) own.2))
         by_test false apart = defined_by db after of definition (at_other (object_key of) apart) before
@@ -169,14 +169,14 @@ module _ (db : Database) (shape : TableTree) (changes : List Planned) (sound : S
             by_name (same_units of.name name) refl
             (of_found (λ table. (not (same_units table.name name) && refers name table) ≡ false) (rows_table of.name) tables of (given.found of before) (none_any (λ table. not (same_units table.name name) && refers name table) tables erased.unreferred))
 
-    -- ---- the parts of `Sound`
+    -- ---- the parts of `Firm`
 
     all_definitions : (key row : List Value) → after (rows_table objects_name) key ≡ Some row → DefinesOne key row
     all_definitions key row stands = by_test (same (object_key name) key) refl
       where
         by_test : (b : Bool) → same (object_key name) key ≡ b → DefinesOne key row
         by_test true at = let both : None ≡ Some row = sym (at_name key at) ∙ stands in cc
-        by_test false apart = sound.definitions key row (sym (at_other key apart) ∙ stands)
+        by_test false apart = firm.definitions key row (sym (at_other key apart) ∙ stands)
 
     all_known : (of : TableName) (key row : List Value) → after of key ≡ Some row → IsKnown after of
     all_known of key row stands = by_test (is_table objects_name of) refl
@@ -190,7 +190,7 @@ module _ (db : Database) (shape : TableTree) (changes : List Planned) (sound : S
 
         by_name : (b : Bool) → is_table name of ≡ b → is_table objects_name of ≡ false → IsKnown after of
         by_name true own apart = let both : None ≡ Some row = sym (gone key) ∙ ap (λ (t : TableName). mid t key) (sym (table_is name of own)) ∙ sym (there of apart key) ∙ stands in cc
-        by_name false other apart = known_stays other (sound.known of key row (sym (other_there of apart other key) ∙ stands))
+        by_name false other apart = known_stays other (firm.known of key row (sym (other_there of apart other key) ∙ stands))
 
         by_test : (b : Bool) → is_table objects_name of ≡ b → IsKnown after of
         by_test true own = inl (table_is objects_name of own)
@@ -199,20 +199,20 @@ module _ (db : Database) (shape : TableTree) (changes : List Planned) (sound : S
     all_keep : (of : TableTree) → IsTableOf after of → Keeps after of
     all_keep of now =
         let before = was of.name (Table of) now in
-        let keeps = sound.kept of before.0 in (
+        let keeps = firm.kept of before.0 in (
           keeps.0,
           keeps.1,
-          kept_too db after of keeps.0 (same_there of.name (not_objects db sound of.name (Table of) before.0) before.1)
-              (all_two (HasParentTable db of) (λ foreign. foreign.parent ≡ name → ⊥) (λ foreign. SameRows db after foreign.parent) parent_same of.foreigns (sound.parents of before.0) (unreferring of before.0 before.1)) keeps.2,
+          kept_too db after of keeps.0 (same_there of.name (not_objects db firm of.name (Table of) before.0) before.1)
+              (all_two (HasParentTable db of) (λ foreign. foreign.parent ≡ name → ⊥) (λ foreign. SameRows db after foreign.parent) parent_same of.foreigns (firm.parents of before.0) (unreferring of before.0 before.1)) keeps.2,
         )
       where
         parent_same : (foreign : ForeignTree) → HasParentTable db of foreign → (foreign.parent ≡ name → ⊥) → SameRows db after foreign.parent
-        parent_same foreign has other = same_there foreign.parent (subst (λ (n : List ℕ). is_objects n ≡ false) has.2.0 (not_objects db sound has.0.name (Table has.0) has.1)) other
+        parent_same foreign has other = same_there foreign.parent (subst (λ (n : List ℕ). is_objects n ≡ false) has.2.0 (not_objects db firm has.0.name (Table has.0) has.1)) other
 
     all_parents : (of : TableTree) → IsTableOf after of → HasParentTables after of
     all_parents of now =
         let before = was of.name (Table of) now in
-        all_two (HasParentTable db of) (λ foreign. foreign.parent ≡ name → ⊥) (HasParentTable after of) parent_stays of.foreigns (sound.parents of before.0) (unreferring of before.0 before.1)
+        all_two (HasParentTable db of) (λ foreign. foreign.parent ≡ name → ⊥) (HasParentTable after of) parent_stays of.foreigns (firm.parents of before.0) (unreferring of before.0 before.1)
       where
         parent_stays : (foreign : ForeignTree) → HasParentTable db of foreign → (foreign.parent ≡ name → ⊥) → HasParentTable after of foreign
         parent_stays foreign has other = (has.0, stays has.0.name (Table has.0) has.1 (λ is. other (sym has.2.0 ∙ is)), has.2)
@@ -220,18 +220,18 @@ module _ (db : Database) (shape : TableTree) (changes : List Planned) (sound : S
     all_triggers : (of : List ℕ) (trigger : TriggerTree) → IsDefined after of (Trigger trigger) → HasTable after trigger.table
     all_triggers of trigger now =
         let before = was of (Trigger trigger) now in
-        has_stays trigger.table (sound.triggers of trigger before.0) (erased.unfired of trigger before.0)
+        has_stays trigger.table (firm.triggers of trigger before.0) (erased.unfired of trigger before.0)
 
-pub sound_dropped : SoundDropped
-sound_dropped db tables shape changes sound given erased = record {
-  one_key = one_behind (with_definition shape.name changes) db sound.one_key;
-  definitions = all_definitions db shape changes sound erased.defined erased.of_table tables given erased;
-  known = all_known db shape changes sound erased.defined erased.of_table tables given erased;
-  few = λ of now. sound.few of (was db shape changes sound erased.defined erased.of_table of.name (Table of) now).0;
-  kept = all_keep db shape changes sound erased.defined erased.of_table tables given erased;
-  parents = all_parents db shape changes sound erased.defined erased.of_table tables given erased;
-  triggers = all_triggers db shape changes sound erased.defined erased.of_table tables given erased;
+pub firm_dropped : FirmDropped
+firm_dropped db tables shape changes firm given erased = record {
+  one_key = one_behind (with_definition shape.name changes) db firm.one_key;
+  definitions = all_definitions db shape changes firm erased.defined erased.of_table tables given erased;
+  known = all_known db shape changes firm erased.defined erased.of_table tables given erased;
+  few = λ of now. firm.few of (was db shape changes firm erased.defined erased.of_table of.name (Table of) now).0;
+  kept = all_keep db shape changes firm erased.defined erased.of_table tables given erased;
+  parents = all_parents db shape changes firm erased.defined erased.of_table tables given erased;
+  triggers = all_triggers db shape changes firm erased.defined erased.of_table tables given erased;
 }
 
 pub untriggered_dropped : UntriggeredDropped
-untriggered_dropped db shape changes sound is of_table none name trigger now = none name trigger (was db shape changes sound is of_table name (Trigger trigger) now).0
+untriggered_dropped db shape changes firm is of_table none name trigger now = none name trigger (was db shape changes firm is of_table name (Trigger trigger) now).0

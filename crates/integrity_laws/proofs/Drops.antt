@@ -1,4 +1,4 @@
--- What DROP TABLE plans keeps a database sound.
+-- What DROP TABLE plans keeps a database firm.
 use Rattle.std.proofs.Common.{◌≡◌, refl, sym, ap, ◌∙◌, subst, inl, inr, ℕ, Bool, true, false, ◌||◌, if◌then◌else◌, List, [], ◌∷◌, map, filter, Some, IsSome, Result, Ok, Err}
 use Rattle.std.proofs.lemmas.Bool.{and_parts}
 use Rattle.std.proofs.lemmas.List.Elements.{recursion_from_All}
@@ -21,11 +21,12 @@ use Rattle.dml_exec.specs.Reading.{fits}
 use Rattle.batch_meaning.specs.declared.failure.Failure.{Failure}
 use Rattle.batch_meaning.specs.Changing.{dropped_as, is_parent, is_referred, planned_as, whole, with_definition}
 use Rattle.batch_meaning.specs.Failures.{naming}
-use Rattle.batch_meaning.specs.Selecting.{first_system}
-use Rattle.integrity_laws.specs.Sound.{Sound}
+use Rattle.batch_meaning.specs.Progress.{SessionProgress, system_in, values_of}
+use Rattle.batch_meaning.specs.Raised.{Around}
+use Rattle.integrity_laws.specs.Sound.{Firm}
 use Rattle.integrity_laws.specs.Laws.{AreErased, HasNoTrigger}
-use Rattle.integrity_laws.specs.Plans.{IsDropPlanned, SoundDropPlanned, UntriggeredDropPlanned}
-use Rattle.integrity_laws.proofs.Dropped.{sound_dropped, untriggered_dropped}
+use Rattle.integrity_laws.specs.Plans.{IsDropPlanned, FirmDropPlanned, UntriggeredDropPlanned}
+use Rattle.integrity_laws.proofs.Dropped.{firm_dropped, untriggered_dropped}
 use Rattle.integrity_laws.proofs.Elsewhere.{all_each}
 use Rattle.integrity_laws.proofs.Plans.{as_planned, made_of}
 
@@ -51,16 +52,16 @@ any_map p f (x ∷ xs) = ap (λ (b : Bool). p (f x) || b) (any_map p f xs)
 -- ---- the plan
 
 -- without a test all rows of the image are meant
-all_meant : (shape : TableTree) (rows : List Row) → rewritten [] first_system shape (whole shape.name) (rows ∷ []) ≡ Ok (Erased rows)
-all_meant shape rows = ap (λ (list : List Row). Ok (Erased list)) (all_kept (λ row. true) rows (all_each (λ row. true ≡ true) (λ row. refl) rows))
+all_meant : (vars system : List Value) (shape : TableTree) (rows : List Row) → rewritten vars system shape (whole shape.name) (rows ∷ []) ≡ Ok (Erased rows)
+all_meant vars system shape rows = ap (λ (list : List Row). Ok (Erased list)) (all_kept (λ row. true) rows (all_each (λ row. true ≡ true) (λ row. refl) rows))
 
 abbrev erasures : TableTree → List Row → List Planned
 erasures shape rows = map (erasure (rows_table shape.name) (key_places (Some shape))) rows
 
-drop_plan : (shape : TableTree) (rows : List Row) (changes : List Planned) → Chg [] first_system shape [] (whole shape.name) (rows ∷ []) ≡ Ok changes → changes ≡ erasures shape rows
-drop_plan shape rows changes e =
-    let made = made_of [] first_system shape [] (whole shape.name) (rows ∷ []) changes e in
-    let both : Ok made.0 ≡ Ok (Erased rows) = sym made.1 ∙ all_meant shape rows in
+drop_plan : (vars system : List Value) (shape : TableTree) (rows : List Row) (changes : List Planned) → Chg vars system shape [] (whole shape.name) (rows ∷ []) ≡ Ok changes → changes ≡ erasures shape rows
+drop_plan vars system shape rows changes e =
+    let made = made_of vars system shape [] (whole shape.name) (rows ∷ []) changes e in
+    let both : Ok made.0 ≡ Ok (Erased rows) = sym made.1 ∙ all_meant vars system shape rows in
     let came : made.0 ≡ Erased rows = cc in
     made.2 ∙ ap (changes_of (rows_table shape.name) (key_places (Some shape))) came
 
@@ -76,9 +77,9 @@ not_referred : (b : Bool) (name : List ℕ) → unless name b ≡ Ok tt → b �
 not_referred true name e = cc
 not_referred false name e = refl
 
-module _ (db : Database) (tables : List TableTree) (shape : TableTree) (rows : List Row) (planned : List Planned) (sound : Sound db) (is : IsDropPlanned db tables shape rows planned) where
+module _ (around : Around) (p : SessionProgress) (db : Database) (tables : List TableTree) (shape : TableTree) (rows : List Row) (planned : List Planned) (firm : Firm db) (is : IsDropPlanned around p db tables shape rows planned) where
   pub plan : planned ≡ with_definition shape.name (erasures shape rows)
-  plan = dropped_is shape rows planned (planned_as (Chg [] first_system shape [] (whole shape.name) (rows ∷ []))) (λ changes e. drop_plan shape rows changes (as_planned _ changes e)) is.plans
+  plan = dropped_is shape rows planned (planned_as (Chg (values_of p.vars) (system_in around p) shape [] (whole shape.name) (rows ∷ []))) (λ changes e. drop_plan (values_of p.vars) (system_in around p) shape rows changes (as_planned _ changes e)) is.plans
 
   pub of_table : AllByRecursion (λ change. change.table ≡ rows_table shape.name) (erasures shape rows)
   of_table = all_made rows
@@ -102,7 +103,7 @@ module _ (db : Database) (tables : List TableTree) (shape : TableTree) (rows : L
 
   -- each row that is read fits
   fit : (at : Entry) → IsTrue true × (db (rows_table shape.name) at.0 ≡ Some at.1) → fits (Some shape) at ≡ true
-  fit at h = (sound.kept shape is.defined).2.fits at.0 at.1 h.1
+  fit at h = (firm.kept shape is.defined).2.fits at.0 at.1 h.1
 
   all_fit : (list : List Entry) → AllByRecursion (λ (at : Entry). IsTrue true × (db (rows_table shape.name) at.0 ≡ Some at.1)) list → AllByRecursion (λ at. fits (Some shape) at ≡ true) list
   all_fit [] all = tt
@@ -141,12 +142,12 @@ module _ (db : Database) (tables : List TableTree) (shape : TableTree) (rows : L
     unfired = λ name trigger fires. absurd (none name trigger fires);
   }
 
-pub sound_drop_planned : SoundDropPlanned
-sound_drop_planned db tables shape rows planned sound given none is =
-    subst (λ (list : List Planned). Sound (behind db list)) (sym (plan db tables shape rows planned sound is))
-    (sound_dropped db tables shape (erasures shape rows) sound given (erased db tables shape rows planned sound is none))
+pub firm_drop_planned : FirmDropPlanned
+firm_drop_planned around p db tables shape rows planned firm given none is =
+    subst (λ (list : List Planned). Firm (behind db list)) (sym (plan around p db tables shape rows planned firm is))
+    (firm_dropped db tables shape (erasures shape rows) firm given (erased around p db tables shape rows planned firm is none))
 
 pub untriggered_drop_planned : UntriggeredDropPlanned
-untriggered_drop_planned db tables shape rows planned sound none is =
-    subst (λ (list : List Planned). HasNoTrigger (behind db list)) (sym (plan db tables shape rows planned sound is))
-    (untriggered_dropped db shape (erasures shape rows) sound is.defined (of_table db tables shape rows planned sound is) none)
+untriggered_drop_planned around p db tables shape rows planned firm none is =
+    subst (λ (list : List Planned). HasNoTrigger (behind db list)) (sym (plan around p db tables shape rows planned firm is))
+    (untriggered_dropped db shape (erasures shape rows) firm is.defined (of_table around p db tables shape rows planned firm is) none)

@@ -1,9 +1,9 @@
--- The database without rows is sound.
+-- The database without rows is firm.
 use Rattle.std.proofs.Common.{◌≡◌, refl, ℕ, List, Some, None}
 use Rattle.value_types.specs.declared.value.Value.{Value}
 use Rattle.tsql_tree.specs.declared.definition.Definition.{Definition}
 use Rattle.step_model.specs.Database.{nothing}
-use Rattle.integrity_laws.specs.Laws.{SoundEmpty, UntriggeredEmpty}
+use Rattle.integrity_laws.specs.Laws.{FirmEmpty, UntriggeredEmpty}
 use Rattle.integrity_laws.specs.Sound.{IsDefined}
 
 no_row : (row : List Value) → None ≡ Some row → ⊥
@@ -12,8 +12,8 @@ no_row row is = cc
 undefined : (name : List ℕ) (definition : Definition) → IsDefined nothing name definition → ⊥
 undefined name definition is = no_row is.0 is.1
 
-pub sound_empty : SoundEmpty
-sound_empty = record {
+pub firm_empty : FirmEmpty
+firm_empty = record {
   one_key = λ table key other is. refl;
   definitions = λ key row is. absurd (no_row row is);
   known = λ table key row is. absurd (no_row row is);

@@ -16,9 +16,9 @@ use Rattle.catalog_rows.specs.Rows.{same_key}
 use Rattle.constraint_check.specs.Reads.{rows_table, shape_of}
 use Rattle.constraint_check.proofs.Behind.{name_is}
 use Rattle.constraint_check.proofs.Lists.{Among, among_any, among_both, among_left, among_more, among_right}
-use Rattle.batch_meaning.specs.Meaning.{with_found}
+use Rattle.batch_meaning.specs.Asking.{with_found}
 use Rattle.write_laws.proofs.Changes.{all_both}
-use Rattle.integrity_laws.specs.Sound.{IsDefined, IsTableOf, Sound}
+use Rattle.integrity_laws.specs.Sound.{IsDefined, IsTableOf, Firm}
 use Rattle.integrity_laws.specs.Found.{Entry, FoundDefined, FoundTables, ReadAs}
 use Rattle.integrity_laws.proofs.Defined.{not_same, one_name, one_table, one_thing}
 
@@ -42,12 +42,12 @@ none_in row is definition said =
     none said.1.0 definition said.1.1 said.1.2
 
 pub found_defined : FoundDefined
-found_defined db key row definition sound stands is =
+found_defined db key row definition firm stands is =
     let said = says_in row definition is in
-    let own = sound.definitions key row stands in
+    let own = firm.definitions key row stands in
     let names : own.name ≡ said.0 = one_name row own.name said.0 own.definition definition own.defines said.1 in
     let at : db (rows_table objects_name) (object_key said.0) ≡ db (rows_table objects_name) key =
-    sound.one_key (rows_table objects_name) (object_key said.0) key (subst (λ (n : List ℕ). same_key (object_key n) key ≡ true) names own.at) in
+    firm.one_key (rows_table objects_name) (object_key said.0) key (subst (λ (n : List ℕ). same_key (object_key n) key ≡ true) names own.at) in
     let named : defined_name definition ≡ said.0 = said.1.2.named in
     subst (λ (n : List ℕ). IsDefined db n definition) (sym named) (row, at ∙ stands, said.1)
 
@@ -56,14 +56,14 @@ found_defined db key row definition sound stands is =
 abbrev DefinedIn : Database → Definition → Type 0
 DefinedIn db definition = IsDefined db (defined_name definition) definition
 
-module _ (db : Database) (sound : Sound db) where
+module _ (db : Database) (firm : Firm db) where
   abbrev Stand : List Entry → Type 0
   Stand entries = AllByRecursion (λ entry. db (rows_table objects_name) entry.0 ≡ Some entry.1) entries
 
   with_defined : (so_far : List Definition) (entry : Entry) (found : Option Definition) → db (rows_table objects_name) entry.0 ≡ Some entry.1 → IsDefinitionIn entry.1 found
       → AllByRecursion (DefinedIn db) so_far → AllByRecursion (DefinedIn db) (with_found so_far found)
   with_defined so_far entry None stands is all = all
-  with_defined so_far entry (Some definition) stands is all = all_both (DefinedIn db) so_far (definition ∷ []) all (found_defined db entry.0 entry.1 definition sound stands is, tt)
+  with_defined so_far entry (Some definition) stands is all = all_both (DefinedIn db) so_far (definition ∷ []) all (found_defined db entry.0 entry.1 definition firm stands is, tt)
 
   all_defined : (entries : List Entry) (so_far all : List Definition) → Stand entries → AllByRecursion (DefinedIn db) so_far → ReadAs so_far entries all → AllByRecursion (DefinedIn db) all
   all_defined [] so_far all stand before read = subst (AllByRecursion (DefinedIn db)) (sym read) before
@@ -122,19 +122,19 @@ among_tables shape (Procedure of ∷ rest) (inr later) = among_tables shape rest
 among_tables shape (Trigger of ∷ rest) (inl here) = let both : Trigger of ≡ Table shape = here in cc
 among_tables shape (Trigger of ∷ rest) (inr later) = among_tables shape rest later
 
-module _ (db : Database) (entries : List Entry) (all : List Definition) (sound : Sound db) (image : In db (rows_table objects_name) First Last entries) (read : ReadAs [] entries all) where
+module _ (db : Database) (entries : List Entry) (all : List Definition) (firm : Firm db) (image : In db (rows_table objects_name) First Last entries) (read : ReadAs [] entries all) where
   ranged : AllByRecursion (λ (at : Entry). IsTrue true × (db (rows_table objects_name) at.0 ≡ Some at.1)) entries
   ranged = recursion_from_All (λ (at : Entry). IsTrue true × (db (rows_table objects_name) at.0 ≡ Some at.1)) entries image.rows_of_range
 
-  standing : (list : List Entry) → AllByRecursion (λ (at : Entry). IsTrue true × (db (rows_table objects_name) at.0 ≡ Some at.1)) list → Stand db sound list
+  standing : (list : List Entry) → AllByRecursion (λ (at : Entry). IsTrue true × (db (rows_table objects_name) at.0 ≡ Some at.1)) list → Stand db firm list
   standing [] all = tt
   standing (at ∷ list) all = (all.0.1, standing list all.1)
 
-  stand : Stand db sound entries
+  stand : Stand db firm entries
   stand = standing entries ranged
 
   are_tables : AllByRecursion (IsTableOf db) (tables_of all)
-  are_tables = tables_defined db sound all (all_defined db sound entries [] all stand tt read)
+  are_tables = tables_defined db firm all (all_defined db firm entries [] all stand tt read)
 
   -- the row of a table that is defined is among those that were read
   said : (shape : TableTree) → IsTableOf db shape → Among (IsSaid (Table shape)) entries
@@ -145,12 +145,12 @@ module _ (db : Database) (entries : List Entry) (all : List Definition) (sound :
     where
       one : (at : Entry) → (db (rows_table objects_name) at.0 ≡ Some at.1) × (same_key (object_key shape.name) at.0 ≡ true) → IsSaid (Table shape) at
       one at h =
-          let both : Some is.0 ≡ Some at.1 = sym is.1 ∙ sound.one_key (rows_table objects_name) (object_key shape.name) at.0 h.1 ∙ h.0 in
+          let both : Some is.0 ≡ Some at.1 = sym is.1 ∙ firm.one_key (rows_table objects_name) (object_key shape.name) at.0 h.1 ∙ h.0 in
           let rows : is.0 ≡ at.1 = cc in
           (shape.name, subst (λ (row : List Value). IsDefinitionOf shape.name row (Some (Table shape))) rows is.2)
 
 pub found_tables : FoundTables
-found_tables db entries all sound image read = record {
-  defined = are_tables db entries all sound image read;
-  found = λ shape is. found_of db sound (tables_of all) shape (are_tables db entries all sound image read) is (among_tables shape all (all_found (Table shape) entries [] all read (said db entries all sound image read shape is)));
+found_tables db entries all firm image read = record {
+  defined = are_tables db entries all firm image read;
+  found = λ shape is. found_of db firm (tables_of all) shape (are_tables db entries all firm image read) is (among_tables shape all (all_found (Table shape) entries [] all read (said db entries all firm image read shape is)));
 }

@@ -1,4 +1,4 @@
--- How long the keys of a sound database are.
+-- How long the keys of a firm database are.
 use Rattle.std.proofs.Common.{◌≡◌, refl, sym, ◌∙◌, true, false, List, length, Option, Some, None, IsSome}
 use Rattle.std.proofs.lemmas.Bool.{and_parts}
 use Rattle.std.proofs.lemmas.List.{length-map}
@@ -29,7 +29,7 @@ of_row P None so some = absurd (let both : false ≡ true = some in cc)
 of_row P (Some row) so some = so row refl
 
 pub keys_sized : KeysSized
-keys_sized db sound = (
-  λ key some. of_row (length key ≡ 1) (db (rows_table objects_name) key) (λ row stands. let one = sound.definitions key row stands in sym (same_long (object_key one.name) key one.at)) some,
-  λ shape is key some. of_row (length key ≡ length (key_places (Some shape))) (db (rows_table shape.name) key) (λ row stands. fits_long shape key row ((sound.kept shape is).2.fits key row stands)) some,
+keys_sized db firm = (
+  λ key some. of_row (length key ≡ 1) (db (rows_table objects_name) key) (λ row stands. let one = firm.definitions key row stands in sym (same_long (object_key one.name) key one.at)) some,
+  λ shape is key some. of_row (length key ≡ length (key_places (Some shape))) (db (rows_table shape.name) key) (λ row stands. fits_long shape key row ((firm.kept shape is).2.fits key row stands)) some,
 )

@@ -11,4 +11,5 @@ pub mod Plans  -- a plan as the changes of rows
 pub mod Writes  -- what a write plans
 pub mod Drops  -- what DROP TABLE plans
 pub mod Bound  -- a table whose CREATE TABLE is bound
+pub mod Whole  -- what statements keep is all that is to be kept
 mod StandardFacts  -- worked names

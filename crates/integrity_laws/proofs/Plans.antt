@@ -23,7 +23,9 @@ use Rattle.dml_exec.specs.declared.rewritten.Rewritten.TheVariants.{Inserted, Se
 use Rattle.dml_exec.specs.Filling.{Row}
 use Rattle.dml_exec.specs.Planning.{Chg, Plan, changes_of, checked, erasure, has_key, insertion, moved, new_rows, outside_limits, rewrite, rewritten, stays, table_written, unless_wrong}
 use Rattle.batch_meaning.specs.Changing.{planned_as, planned_in, planned_over, planned_with}
-use Rattle.batch_meaning.specs.Selecting.{bound_as, first_system}
+use Rattle.batch_meaning.specs.Progress.{SessionProgress, system_in, values_of}
+use Rattle.batch_meaning.specs.Raised.{Around}
+use Rattle.batch_meaning.specs.Selecting.{bound_as}
 use Rattle.write_laws.proofs.Changes.{all_both}
 
 -- ---- a plan is the changes of what is made of rows
@@ -98,12 +100,12 @@ as_planned (Err (Named number name)) planned e = cc
 as_planned (Err Memory) planned e = cc
 
 -- a write is planned by the shape of its table, by what its CHECKs are bound to
-abbrev pub IsChg : List TableTree → BoundWrite → List (List Row) → List Planned → Type 0
-IsChg named of images planned = (shape : TableTree) × (shape_of (table_written of) named ≡ Some shape) × ((checks : List BoundTest) → bind_checks shape ≡ Ok checks → Chg [] first_system shape checks of images ≡ Ok planned)
+abbrev pub IsChg : Around → SessionProgress → List TableTree → BoundWrite → List (List Row) → List Planned → Type 0
+IsChg around p named of images planned = (shape : TableTree) × (shape_of (table_written of) named ≡ Some shape) × ((checks : List BoundTest) → bind_checks shape ≡ Ok checks → Chg (values_of p.vars) (system_in around p) shape checks of images ≡ Ok planned)
 
-pub chg_of : (named : List TableTree) (of : BoundWrite) (images : List (List Row)) (planned : List Planned) → planned_over named of images ≡ Ok planned → IsChg named of images planned
-chg_of named of images planned e = by_shape (shape_of (table_written of) named) refl e
+pub chg_of : (around : Around) (p : SessionProgress) (named : List TableTree) (of : BoundWrite) (images : List (List Row)) (planned : List Planned) → planned_over around p named of images ≡ Ok planned → IsChg around p named of images planned
+chg_of around p named of images planned e = by_shape (shape_of (table_written of) named) refl e
   where
-    by_shape : (o : Option TableTree) → shape_of (table_written of) named ≡ o → planned_in o of images ≡ Ok planned → IsChg named of images planned
+    by_shape : (o : Option TableTree) → shape_of (table_written of) named ≡ o → planned_in around p o of images ≡ Ok planned → IsChg around p named of images planned
     by_shape None is e = cc
-    by_shape (Some shape) is e = (shape, is, λ checks bound. as_planned (Chg [] first_system shape checks of images) planned (sym (ap (λ o. planned_with shape of images (bound_as o)) bound) ∙ e))
+    by_shape (Some shape) is e = (shape, is, λ checks bound. as_planned (Chg (values_of p.vars) (system_in around p) shape checks of images) planned (sym (ap (λ o. planned_with around p shape of images (bound_as o)) bound) ∙ e))

@@ -15,7 +15,7 @@ use Rattle.catalog_rows.specs.Definitions.{Defines, IsDefinitionIn, object_key, 
 use Rattle.catalog_rows.specs.Rows.{same_key}
 use Rattle.constraint_check.specs.Laws.{behind}
 use Rattle.constraint_check.specs.Reads.{rows_table}
-use Rattle.batch_laws.specs.Committing.{definition_put}
+use Rattle.statement_paths.specs.Paths.{definition_put}
 
 abbrev t : List ℕ
 t = codes "t"

@@ -1,5 +1,5 @@
--- What a write plans keeps a database sound.
-use Rattle.std.proofs.Common.{◌≡◌, sym, ap, ◌∙◌, subst, List, [], length, Option, Some, Ok}
+-- What a write plans keeps a database firm.
+use Rattle.std.proofs.Common.{◌≡◌, sym, ap, ◌∙◌, subst, List, length, Option, Some, Ok}
 use Rattle.std.specs.List.{AllByRecursion}
 use Rattle.value_types.specs.declared.table_name.TableName.{TableName}
 use Rattle.tsql_tree.specs.declared.definition.TableTree.{TableTree}
@@ -14,18 +14,19 @@ use Rattle.dml_exec.specs.Filling.{Row}
 use Rattle.dml_exec.specs.Planning.{Chg, table_written}
 use Rattle.reading_laws.specs.Once.{KeyFits}
 use Rattle.reading_laws.specs.Reads.{RowsFit}
-use Rattle.batch_meaning.specs.Selecting.{first_system}
+use Rattle.batch_meaning.specs.Progress.{SessionProgress, system_in, values_of}
+use Rattle.batch_meaning.specs.Raised.{Around}
 use Rattle.write_laws.specs.Laws.{HaveColumns, rows_before}
 use Rattle.write_laws.proofs.Planned.{planned_fits, planned_kept, shape_named}
-use Rattle.integrity_laws.specs.Sound.{IsTableOf, Sound}
+use Rattle.integrity_laws.specs.Sound.{IsTableOf, Firm}
 use Rattle.integrity_laws.specs.Laws.{AreReady, AreTables, tests_of}
-use Rattle.integrity_laws.specs.Plans.{IsPlanned, PlannedReadable, SoundPlanned, UntriggeredPlanned}
+use Rattle.integrity_laws.specs.Plans.{IsPlanned, PlannedReadable, FirmPlanned, UntriggeredPlanned}
 use Rattle.integrity_laws.proofs.Plans.{IsChg, chg_of, keys_long, made_of}
-use Rattle.integrity_laws.proofs.Written.{of_found, sound_written, tables_ready, tests_bound, untriggered_written}
+use Rattle.integrity_laws.proofs.Written.{of_found, firm_written, tables_ready, tests_bound, untriggered_written}
 
-module _ (db : Database) (named : List TableTree) (of : BoundWrite) (images : List (List Row)) (planned : List Planned) (sound : Sound db) (is : IsPlanned db named of images planned) where
-  pub plan : IsChg named of images planned
-  plan = chg_of named of images planned is.plans
+module _ (around : Around) (p : SessionProgress) (db : Database) (named : List TableTree) (of : BoundWrite) (images : List (List Row)) (planned : List Planned) (firm : Firm db) (is : IsPlanned around p db named of images planned) where
+  pub plan : IsChg around p named of images planned
+  plan = chg_of around p named of images planned is.plans
 
   abbrev pub shape : TableTree
   shape = plan.0
@@ -36,15 +37,15 @@ module _ (db : Database) (named : List TableTree) (of : BoundWrite) (images : Li
   pub table_is : table_written of ≡ rows_table shape.name
   table_is = shape_named (table_written of) named shape plan.1
 
-  pub chg : Chg [] first_system shape (tests_of shape) of images ≡ Ok planned
-  chg = plan.2 (tests_of shape) (tests_bound db sound shape defined)
+  pub chg : Chg (values_of p.vars) (system_in around p) shape (tests_of shape) of images ≡ Ok planned
+  chg = plan.2 (tests_of shape) (tests_bound db firm shape defined)
 
   pub columns : HaveColumns shape (rows_before of images)
   columns = is.read shape plan.1
 
   long : AllByRecursion (λ change. (change.table ≡ table_written of) × (length change.key ≡ length (key_places (Some shape)))) planned
   long =
-      let made = made_of [] first_system shape (tests_of shape) of images planned chg in
+      let made = made_of (values_of p.vars) (system_in around p) shape (tests_of shape) of images planned chg in
       subst (AllByRecursion (λ change. (change.table ≡ table_written of) × (length change.key ≡ length (key_places (Some shape))))) (sym made.2) (keys_long (table_written of) (key_places (Some shape)) made.0)
 
   pub of_table : AllByRecursion (λ change. change.table ≡ rows_table shape.name) planned
@@ -52,7 +53,7 @@ module _ (db : Database) (named : List TableTree) (of : BoundWrite) (images : Li
 
   module _ (shapes : List TableTree) (tables : AreTables db shapes) where
     pub ready : AreReady db shapes shape
-    ready = tables_ready db shapes shape sound tables defined
+    ready = tables_ready db shapes shape firm tables defined
 
     pub known : shape_of (table_written of) shapes ≡ Some shape
     known = ap (λ (t : TableName). shape_of t shapes) table_is ∙ ready.known
@@ -63,28 +64,28 @@ module _ (db : Database) (named : List TableTree) (of : BoundWrite) (images : Li
         (λ change h. h.1 ∙ ap (λ (o : Option TableTree). length (key_places o)) (sym (ap (λ (t : TableName). shape_of t shapes) h.0 ∙ known))) planned long
 
 pub planned_readable : PlannedReadable
-planned_readable db shapes named of images planned sound tables is =
-    let all = ready db named of images planned sound is shapes tables in
+planned_readable around p db shapes named of images planned firm tables is =
+    let all = ready around p db named of images planned firm is shapes tables in
     record {
-      keys = keys_fit db named of images planned sound is shapes tables;
+      keys = keys_fit around p db named of images planned firm is shapes tables;
       parents = all.parents;
-      rows = planned_fits db shapes [] first_system (shape db named of images planned sound is) (tests_of (shape db named of images planned sound is)) of images planned
+      rows = planned_fits db shapes (values_of p.vars) (system_in around p) (shape around p db named of images planned firm is) (tests_of (shape around p db named of images planned firm is)) of images planned
           (all_more (λ table. IsKept db table (tests_of table)) (RowsFit db) (λ table kept. kept.fits) shapes all.kept) all.one_name
-          (known db named of images planned sound is shapes tables) (columns db named of images planned sound is) (chg db named of images planned sound is);
+          (known around p db named of images planned firm is shapes tables) (columns around p db named of images planned firm is) (chg around p db named of images planned firm is);
     }
 
-pub sound_planned : SoundPlanned
-sound_planned db shapes named of images planned sound tables is passes =
-    let all = ready db named of images planned sound is shapes tables in
-    sound_written db shapes (shape db named of images planned sound is) planned sound tables (defined db named of images planned sound is) (of_table db named of images planned sound is)
-    (planned_kept db tests_of shapes [] first_system (shape db named of images planned sound is) of images planned all.kept (record {
-      one_key = sound.one_key;
+pub firm_planned : FirmPlanned
+firm_planned around p db shapes named of images planned firm tables is passes =
+    let all = ready around p db named of images planned firm is shapes tables in
+    firm_written db shapes (shape around p db named of images planned firm is) planned firm tables (defined around p db named of images planned firm is) (of_table around p db named of images planned firm is)
+    (planned_kept db tests_of shapes (values_of p.vars) (system_in around p) (shape around p db named of images planned firm is) of images planned all.kept (record {
+      one_key = firm.one_key;
       one_name = all.one_name;
-      known = known db named of images planned sound is shapes tables;
+      known = known around p db named of images planned firm is shapes tables;
       parents_known = all.parents_known;
       passes = passes;
-    }) (columns db named of images planned sound is) (chg db named of images planned sound is))
+    }) (columns around p db named of images planned firm is) (chg around p db named of images planned firm is))
 
 pub untriggered_planned : UntriggeredPlanned
-untriggered_planned db named of images planned sound none is =
-    untriggered_written db (shape db named of images planned sound is) planned sound (defined db named of images planned sound is) (of_table db named of images planned sound is) none
+untriggered_planned around p db named of images planned firm none is =
+    untriggered_written db (shape around p db named of images planned firm is) planned firm (defined around p db named of images planned firm is) (of_table around p db named of images planned firm is) none

@@ -19,8 +19,8 @@ use Rattle.constraint_check.specs.Reads.{is_shape_of, rows_table, shape_of}
 use Rattle.constraint_check.proofs.Behind.{one_behind}
 use Rattle.constraint_check.proofs.Lists.{all_more}
 use Rattle.reading_laws.specs.Reads.{HasParent}
-use Rattle.integrity_laws.specs.Laws.{AreTables, SoundWritten, TablesReady, UntriggeredWritten, tests_in, tests_of}
-use Rattle.integrity_laws.specs.Sound.{HasParentTable, HasParentTables, IsDefined, IsKnown, IsTableOf, Keeps, Sound}
+use Rattle.integrity_laws.specs.Laws.{AreTables, FirmWritten, TablesReady, UntriggeredWritten, tests_in, tests_of}
+use Rattle.integrity_laws.specs.Sound.{HasParentTable, HasParentTables, IsDefined, IsKnown, IsTableOf, Keeps, Firm}
 use Rattle.integrity_laws.proofs.Defined.{defined_by, not_objects, table_there}
 use Rattle.integrity_laws.proofs.Elsewhere.{is_table, table_is, tables_apart, untouched}
 
@@ -38,15 +38,15 @@ of_found P table (first ∷ rest) shape is all = by_test (is_shape_of table firs
 bound_so : (shape : TableTree) (tests : List BoundTest) → bind_checks shape ≡ Ok tests → tests ≡ tests_of shape
 bound_so shape tests is = sym (ap tests_in is)
 
-module _ (db : Database) (sound : Sound db) where
+module _ (db : Database) (firm : Firm db) where
   -- a table that is defined is bound to its tests, and keeps them
   pub tests_bound : (shape : TableTree) → IsTableOf db shape → bind_checks shape ≡ Ok (tests_of shape)
-  tests_bound shape is = let keeps = sound.kept shape is in keeps.1 ∙ ap Ok (bound_so shape keeps.0 keeps.1)
+  tests_bound shape is = let keeps = firm.kept shape is in keeps.1 ∙ ap Ok (bound_so shape keeps.0 keeps.1)
 
   tests_kept : (shape : TableTree) → IsTableOf db shape → IsKept db shape (tests_of shape)
-  tests_kept shape is = let keeps = sound.kept shape is in subst (IsKept db shape) (bound_so shape keeps.0 keeps.1) keeps.2
+  tests_kept shape is = let keeps = firm.kept shape is in subst (IsKept db shape) (bound_so shape keeps.0 keeps.1) keeps.2
 
-module _ (db : Database) (shapes : List TableTree) (sound : Sound db) (tables : AreTables db shapes) where
+module _ (db : Database) (shapes : List TableTree) (firm : Firm db) (tables : AreTables db shapes) where
   -- its parent is among them
   refers_known : (shape : TableTree) (foreign : ForeignTree) → HasParentTable db shape foreign → HasParent shapes shape foreign
   refers_known shape foreign has =
@@ -54,27 +54,27 @@ module _ (db : Database) (shapes : List TableTree) (sound : Sound db) (tables : 
       (subst (λ o. IsSome o) (sym found) refl, has.2.1 ∙ ap (λ o. length (key_places o)) (sym found))
 
   parents_of : (shape : TableTree) → IsTableOf db shape → AllByRecursion (HasParent shapes shape) shape.foreigns
-  parents_of shape is = all_more (HasParentTable db shape) (HasParent shapes shape) (refers_known shape) shape.foreigns (sound.parents shape is)
+  parents_of shape is = all_more (HasParentTable db shape) (HasParent shapes shape) (refers_known shape) shape.foreigns (firm.parents shape is)
 
 pub tables_ready : TablesReady
-tables_ready db shapes shape sound tables is = record {
-  kept = all_more (IsTableOf db) (λ of. IsKept db of (tests_of of)) (tests_kept db sound) shapes tables.defined;
+tables_ready db shapes shape firm tables is = record {
+  kept = all_more (IsTableOf db) (λ of. IsKept db of (tests_of of)) (tests_kept db firm) shapes tables.defined;
   one_name = all_more (IsTableOf db) (λ of. shape_of (rows_table of.name) shapes ≡ Some of) tables.found shapes tables.defined;
   known = tables.found shape is;
-  parents = all_more (IsTableOf db) (λ of. AllByRecursion (HasParent shapes of) of.foreigns) (parents_of db shapes sound tables) shapes tables.defined;
-  parents_known = all_more (HasParent shapes shape) (λ foreign. IsSome (shape_of (rows_table foreign.parent) shapes)) (λ foreign has. has.0) shape.foreigns (parents_of db shapes sound tables shape is);
-  bound = tests_bound db sound shape is;
-  other = not_objects db sound shape.name (Table shape) is;
+  parents = all_more (IsTableOf db) (λ of. AllByRecursion (HasParent shapes of) of.foreigns) (parents_of db shapes firm tables) shapes tables.defined;
+  parents_known = all_more (HasParent shapes shape) (λ foreign. IsSome (shape_of (rows_table foreign.parent) shapes)) (λ foreign has. has.0) shape.foreigns (parents_of db shapes firm tables shape is);
+  bound = tests_bound db firm shape is;
+  other = not_objects db firm shape.name (Table shape) is;
 }
 
 -- ---- behind the changes
 
-module _ (db : Database) (shape : TableTree) (planned : List Planned) (sound : Sound db) (is : IsTableOf db shape) (of_table : AllByRecursion (λ change. change.table ≡ rows_table shape.name) planned) where
+module _ (db : Database) (shape : TableTree) (planned : List Planned) (firm : Firm db) (is : IsTableOf db shape) (of_table : AllByRecursion (λ change. change.table ≡ rows_table shape.name) planned) where
   abbrev after : Database
   after = behind db planned
 
   objects_stay : (key : List Value) → after (rows_table objects_name) key ≡ db (rows_table objects_name) key
-  objects_stay key = untouched shape.name (rows_table objects_name) (tables_apart shape.name objects_name (not_objects db sound shape.name (Table shape) is)) planned of_table db key
+  objects_stay key = untouched shape.name (rows_table objects_name) (tables_apart shape.name objects_name (not_objects db firm shape.name (Table shape) is)) planned of_table db key
 
   -- what is defined was, and stays
   pub was : (name : List ℕ) (definition : Definition) → IsDefined after name definition → IsDefined db name definition
@@ -92,26 +92,26 @@ module _ (db : Database) (shape : TableTree) (planned : List Planned) (sound : S
     where
       by_test : (b : Bool) → is_table shape.name table ≡ b → IsKnown after table
       by_test true own = inr (shape, stays shape is, table_is shape.name table own)
-      by_test false apart = known_stays table (sound.known table key row (sym (untouched shape.name table apart planned of_table db key) ∙ stands))
+      by_test false apart = known_stays table (firm.known table key row (sym (untouched shape.name table apart planned of_table db key) ∙ stands))
 
   all_keep : (shapes : List TableTree) → AreTables db shapes → AreKept after tests_of shapes → (of : TableTree) → IsTableOf after of → Keeps after of
   all_keep shapes tables kept of now =
       let before = was of.name (Table of) now in
-      (tests_of of, tests_bound db sound of before, of_found (λ of. IsKept after of (tests_of of)) (rows_table of.name) shapes of (tables.found of before) kept)
+      (tests_of of, tests_bound db firm of before, of_found (λ of. IsKept after of (tests_of of)) (rows_table of.name) shapes of (tables.found of before) kept)
 
   parents_stay : (of : TableTree) → IsTableOf after of → HasParentTables after of
-  parents_stay of now = all_more (HasParentTable db of) (HasParentTable after of) (λ foreign has. (has.0, stays has.0 has.1, has.2)) of.foreigns (sound.parents of (was of.name (Table of) now))
+  parents_stay of now = all_more (HasParentTable db of) (HasParentTable after of) (λ foreign has. (has.0, stays has.0 has.1, has.2)) of.foreigns (firm.parents of (was of.name (Table of) now))
 
-pub sound_written : SoundWritten
-sound_written db shapes shape planned sound tables is of_table kept = record {
-  one_key = one_behind planned db sound.one_key;
-  definitions = λ key row stands. sound.definitions key row (sym (objects_stay db shape planned sound is of_table key) ∙ stands);
-  known = all_known db shape planned sound is of_table;
-  few = λ of now. sound.few of (was db shape planned sound is of_table of.name (Table of) now);
-  kept = all_keep db shape planned sound is of_table shapes tables kept;
-  parents = parents_stay db shape planned sound is of_table;
-  triggers = λ name trigger now. table_there db (behind db planned) (stays db shape planned sound is of_table) trigger.table (sound.triggers name trigger (was db shape planned sound is of_table name _ now));
+pub firm_written : FirmWritten
+firm_written db shapes shape planned firm tables is of_table kept = record {
+  one_key = one_behind planned db firm.one_key;
+  definitions = λ key row stands. firm.definitions key row (sym (objects_stay db shape planned firm is of_table key) ∙ stands);
+  known = all_known db shape planned firm is of_table;
+  few = λ of now. firm.few of (was db shape planned firm is of_table of.name (Table of) now);
+  kept = all_keep db shape planned firm is of_table shapes tables kept;
+  parents = parents_stay db shape planned firm is of_table;
+  triggers = λ name trigger now. table_there db (behind db planned) (stays db shape planned firm is of_table) trigger.table (firm.triggers name trigger (was db shape planned firm is of_table name _ now));
 }
 
 pub untriggered_written : UntriggeredWritten
-untriggered_written db shape planned sound is of_table none name trigger now = none name trigger (was db shape planned sound is of_table name (Trigger trigger) now)
+untriggered_written db shape planned firm is of_table none name trigger now = none name trigger (was db shape planned firm is of_table name (Trigger trigger) now)

@@ -9,8 +9,8 @@ use Rattle.step_model.specs.declared.range.Stop.TheVariants.{Last}
 use Rattle.step_model.specs.Database.{Database, In}
 use Rattle.catalog_rows.specs.Definitions.{IsDefinitionIn, defined_name, objects_name, tables_of}
 use Rattle.constraint_check.specs.Reads.{rows_table}
-use Rattle.batch_meaning.specs.Meaning.{with_found}
-use Rattle.integrity_laws.specs.Sound.{IsDefined, Sound}
+use Rattle.batch_meaning.specs.Asking.{with_found}
+use Rattle.integrity_laws.specs.Sound.{IsDefined, Firm}
 use Rattle.integrity_laws.specs.Laws.{AreTables}
 
 -- a row with its key
@@ -24,8 +24,8 @@ ReadAs so_far (entry ∷ rest) all = (found : Option Definition) × IsDefinition
 
 -- what a row is read as is defined
 abbrev pub FoundDefined : Type 0
-FoundDefined = (db : Database) (key row : List Value) (definition : Definition) → Sound db → db (rows_table objects_name) key ≡ Some row → IsDefinitionIn row (Some definition) → IsDefined db (defined_name definition) definition
+FoundDefined = (db : Database) (key row : List Value) (definition : Definition) → Firm db → db (rows_table objects_name) key ≡ Some row → IsDefinitionIn row (Some definition) → IsDefined db (defined_name definition) definition
 
 -- the tables of all rows are those that are defined
 abbrev pub FoundTables : Type 0
-FoundTables = (db : Database) (entries : List Entry) (all : List Definition) → Sound db → In db (rows_table objects_name) First Last entries → ReadAs [] entries all → AreTables db (tables_of all)
+FoundTables = (db : Database) (entries : List Entry) (all : List Definition) → Firm db → In db (rows_table objects_name) First Last entries → ReadAs [] entries all → AreTables db (tables_of all)

@@ -1,6 +1,6 @@
--- Own: the laws. The database without rows is sound, and so is what a sound one becomes by each of the changes that
--- statements make: by a write of a table, by DROP TABLE and by CREATE TABLE. They are facts of maps: nothing is said here of
--- how the changes come about.
+-- Own: the laws. A firm database is sound. The database without rows is firm, and so is what a firm one becomes by each
+-- of the changes that statements make: by a write of a table, by DROP TABLE and by CREATE TABLE. They are facts of maps: nothing
+-- is said here of how the changes come about.
 use Rattle.std.specs.Prelude.{◌≡◌, ◌≢◌, ◌≤◌, ◌⊎◌, ℕ, true, false, IsTrue, IsSome, List, [], ◌∷◌, length, Some, None, Ok, Err}
 use Rattle.std.specs.List.{AllByRecursion, list_any}
 use Rattle.value_types.specs.declared.value.Value.{Value}
@@ -20,9 +20,9 @@ use Rattle.constraint_check.specs.Laws.{behind}
 use Rattle.constraint_check.specs.Reads.{is_erase, rows_table, shape_of}
 use Rattle.write_laws.specs.Laws.{AreOneEach}
 use Rattle.batch_meaning.specs.Changing.{is_referred, with_definition}
-use Rattle.batch_laws.specs.Committing.{definition_put}
+use Rattle.statement_paths.specs.Paths.{definition_put}
 use Rattle.reading_laws.specs.Reads.{HaveParents, KeysHave}
-use Rattle.integrity_laws.specs.Sound.{HasParentTable, RefersTo, IsDefined, IsTableOf, Sound}
+use Rattle.integrity_laws.specs.Sound.{HasParentTable, RefersTo, IsDefined, IsTableOf, Sound, Firm}
 
 -- ---- tables that are given
 
@@ -49,27 +49,32 @@ pub record AreReady (db : Database) (shapes : List TableTree) (shape : TableTree
   pub bound : bind_checks shape ≡ Ok (tests_of shape)
   pub other : is_objects shape.name ≡ false
 
--- In a sound database all of that is so.
+-- In a firm database all of that is so.
 abbrev pub TablesReady : Type 0
-TablesReady = (db : Database) (shapes : List TableTree) (shape : TableTree) → Sound db → AreTables db shapes → IsTableOf db shape → AreReady db shapes shape
+TablesReady = (db : Database) (shapes : List TableTree) (shape : TableTree) → Firm db → AreTables db shapes → IsTableOf db shape → AreReady db shapes shape
 
 -- ---- keys
 
--- In a sound database the keys of `objects` have one value each, and those of a table as many as its PRIMARY KEY has columns.
+-- In a firm database the keys of `objects` have one value each, and those of a table as many as its PRIMARY KEY has columns.
 abbrev pub KeysSized : Type 0
-KeysSized = (db : Database) → Sound db → KeysHave 1 db (rows_table objects_name) × ((shape : TableTree) → IsTableOf db shape → KeysHave (length (key_places (Some shape))) db (rows_table shape.name))
+KeysSized = (db : Database) → Firm db → KeysHave 1 db (rows_table objects_name) × ((shape : TableTree) → IsTableOf db shape → KeysHave (length (key_places (Some shape))) db (rows_table shape.name))
+
+-- ---- soundness
+
+abbrev pub FirmSound : Type 0
+FirmSound = (db : Database) → Firm db → Sound db
 
 -- ---- no rows
 
-abbrev pub SoundEmpty : Type 0
-SoundEmpty = Sound nothing
+abbrev pub FirmEmpty : Type 0
+FirmEmpty = Firm nothing
 
 -- ---- a write
 
--- changes of one of the tables keep a database sound, if all tables keep their constraints behind them
-abbrev pub SoundWritten : Type 0
-SoundWritten = (db : Database) (shapes : List TableTree) (shape : TableTree) (planned : List Planned) → Sound db → AreTables db shapes → IsTableOf db shape
-    → AllByRecursion (λ change. change.table ≡ rows_table shape.name) planned → AreKept (behind db planned) tests_of shapes → Sound (behind db planned)
+-- changes of one of the tables keep a database firm, if all tables keep their constraints behind them
+abbrev pub FirmWritten : Type 0
+FirmWritten = (db : Database) (shapes : List TableTree) (shape : TableTree) (planned : List Planned) → Firm db → AreTables db shapes → IsTableOf db shape
+    → AllByRecursion (λ change. change.table ≡ rows_table shape.name) planned → AreKept (behind db planned) tests_of shapes → Firm (behind db planned)
 
 -- ---- DROP TABLE
 
@@ -82,10 +87,10 @@ pub record AreErased (db : Database) (tables : List TableTree) (shape : TableTre
   pub unreferred : is_referred shape.name tables ≡ false
   pub unfired : (name : List ℕ) (trigger : TriggerTree) → IsDefined db name (Trigger trigger) → trigger.table ≢ shape.name
 
--- these and the erasure of its definition keep a database sound
-abbrev pub SoundDropped : Type 0
-SoundDropped = (db : Database) (tables : List TableTree) (shape : TableTree) (changes : List Planned) → Sound db → AreTables db tables
-    → AreErased db tables shape changes → Sound (behind db (with_definition shape.name changes))
+-- these and the erasure of its definition keep a database firm
+abbrev pub FirmDropped : Type 0
+FirmDropped = (db : Database) (tables : List TableTree) (shape : TableTree) (changes : List Planned) → Firm db → AreTables db tables
+    → AreErased db tables shape changes → Firm (behind db (with_definition shape.name changes))
 
 -- ---- CREATE TABLE
 
@@ -103,9 +108,9 @@ pub record IsCreated (db : Database) (name text : List ℕ) (table : TableTree) 
   pub other : is_objects name ≡ false
   pub stands : CanStand db table
 
--- its insertion keeps a database sound
-abbrev pub SoundCreated : Type 0
-SoundCreated = (db : Database) (name text : List ℕ) (table : TableTree) → Sound db → IsCreated db name text table → Sound (behind db (definition_put name text ∷ []))
+-- its insertion keeps a database firm
+abbrev pub FirmCreated : Type 0
+FirmCreated = (db : Database) (name text : List ℕ) (table : TableTree) → Firm db → IsCreated db name text table → Firm (behind db (definition_put name text ∷ []))
 
 -- ---- triggers
 
@@ -118,11 +123,11 @@ abbrev pub UntriggeredEmpty : Type 0
 UntriggeredEmpty = HasNoTrigger nothing
 
 abbrev pub UntriggeredWritten : Type 0
-UntriggeredWritten = (db : Database) (shape : TableTree) (planned : List Planned) → Sound db → IsTableOf db shape
+UntriggeredWritten = (db : Database) (shape : TableTree) (planned : List Planned) → Firm db → IsTableOf db shape
     → AllByRecursion (λ change. change.table ≡ rows_table shape.name) planned → HasNoTrigger db → HasNoTrigger (behind db planned)
 
 abbrev pub UntriggeredDropped : Type 0
-UntriggeredDropped = (db : Database) (shape : TableTree) (changes : List Planned) → Sound db → IsTableOf db shape
+UntriggeredDropped = (db : Database) (shape : TableTree) (changes : List Planned) → Firm db → IsTableOf db shape
     → AllByRecursion (λ change. change.table ≡ rows_table shape.name) changes → HasNoTrigger db → HasNoTrigger (behind db (with_definition shape.name changes))
 
 abbrev pub UntriggeredCreated : Type 0

@@ -1,4 +1,4 @@
--- Own: the laws of plans. What a write plans keeps a database sound, if what is read behind its changes for its checks
+-- Own: the laws of plans. What a plan reads of its session, variables and session values, is arbitrary. What a write plans keeps a database firm, if what is read behind its changes for its checks
 -- passes; so does what DROP TABLE plans, of all rows of the table; and a table whose CREATE TABLE is bound can stand. What is asked of the tables, of the images and of the
 -- plan is what a statement that succeeded has read in that database.
 use Rattle.std.specs.Prelude.{◌≡◌, ℕ, List, [], ◌∷◌, Some, Ok}
@@ -10,6 +10,7 @@ use Rattle.tsql_tree.specs.declared.statement.Statement.{Statement}
 use Rattle.bound_tree.specs.declared.write.Bound.{Bound}
 use Rattle.bound_tree.specs.declared.write.BoundWrite.{BoundWrite}
 use Rattle.binder.specs.Names.{form_of}
+use Rattle.session_vars.specs.declared.Variable.{Variable}
 use Rattle.step_model.specs.declared.change.Planned.{Planned}
 use Rattle.step_model.specs.Database.{Database}
 use Rattle.catalog_rows.specs.Definitions.{defined_name}
@@ -21,18 +22,21 @@ use Rattle.dml_exec.specs.Reading.{fits}
 use Rattle.reading_laws.specs.Once.{KeyFits}
 use Rattle.reading_laws.specs.Reads.{HaveParents, IsRead, RowsFit}
 use Rattle.write_laws.specs.Laws.{HaveColumns, rows_before}
+use Rattle.batch_meaning.specs.Raised.{Around}
+use Rattle.batch_meaning.specs.Progress.{SessionProgress}
 use Rattle.batch_meaning.specs.Changing.{dropped, planned_over, unless_referred}
 use Rattle.batch_meaning.specs.Selecting.{bound_over}
-use Rattle.integrity_laws.specs.Sound.{IsDefined, IsTableOf, Sound}
+use Rattle.integrity_laws.specs.Sound.{IsDefined, IsTableOf, Firm}
 use Rattle.integrity_laws.specs.Laws.{AreTables, CanStand, HasNoTrigger}
 
 -- ---- a write
 
--- The changes are planned over tables that are defined, on images whose rows have the columns of the table that is written.
-pub record IsPlanned (db : Database) (named : List TableTree) (of : BoundWrite) (images : List (List Row)) (planned : List Planned) : Type 0 where
+-- The changes are planned over tables that are defined, on images whose rows have the columns of the table that is written, with the values of a
+-- session as it stands.
+pub record IsPlanned (around : Around) (p : SessionProgress) (db : Database) (named : List TableTree) (of : BoundWrite) (images : List (List Row)) (planned : List Planned) : Type 0 where
   pub defined : AllByRecursion (IsTableOf db) named
   pub read : (shape : TableTree) → shape_of (table_written of) named ≡ Some shape → HaveColumns shape (rows_before of images)
-  pub plans : planned_over named of images ≡ Ok planned
+  pub plans : planned_over around p named of images ≡ Ok planned
 
 -- behind them rows can be read for checks: they fit their tables, as do the keys of the changes, and parents are there
 pub record AreReadable (db : Database) (shapes : List TableTree) (planned : List Planned) : Type 0 where
@@ -41,41 +45,41 @@ pub record AreReadable (db : Database) (shapes : List TableTree) (planned : List
   pub rows : AllByRecursion (RowsFit (behind db planned)) shapes
 
 abbrev pub PlannedReadable : Type 0
-PlannedReadable = (db : Database) (shapes named : List TableTree) (of : BoundWrite) (images : List (List Row)) (planned : List Planned) → Sound db → AreTables db shapes
-    → IsPlanned db named of images planned → AreReadable db shapes planned
+PlannedReadable = (around : Around) (p : SessionProgress) (db : Database) (shapes named : List TableTree) (of : BoundWrite) (images : List (List Row)) (planned : List Planned) → Firm db → AreTables db shapes
+    → IsPlanned around p db named of images planned → AreReadable db shapes planned
 
--- and if all of that passes the database is sound
-abbrev pub SoundPlanned : Type 0
-SoundPlanned = (db : Database) (shapes named : List TableTree) (of : BoundWrite) (images : List (List Row)) (planned : List Planned) → Sound db → AreTables db shapes
-    → IsPlanned db named of images planned → AllByRecursion (Passes (behind db planned)) (reads_for planned shapes) → Sound (behind db planned)
+-- and if all of that passes the database is firm
+abbrev pub FirmPlanned : Type 0
+FirmPlanned = (around : Around) (p : SessionProgress) (db : Database) (shapes named : List TableTree) (of : BoundWrite) (images : List (List Row)) (planned : List Planned) → Firm db → AreTables db shapes
+    → IsPlanned around p db named of images planned → AllByRecursion (Passes (behind db planned)) (reads_for planned shapes) → Firm (behind db planned)
 
 -- ---- DROP TABLE
 
 -- All rows of a table were read, to which no other refers; the changes are planned on them.
-pub record IsDropPlanned (db : Database) (tables : List TableTree) (shape : TableTree) (rows : List Row) (planned : List Planned) : Type 0 where
+pub record IsDropPlanned (around : Around) (p : SessionProgress) (db : Database) (tables : List TableTree) (shape : TableTree) (rows : List Row) (planned : List Planned) : Type 0 where
   pub defined : IsTableOf db shape
   pub read : IsRead db (fits (Some shape)) (all_rows shape.name) rows
   pub unreferred : unless_referred shape.name tables ≡ Ok tt
-  pub plans : dropped shape shape.name (rows ∷ []) ≡ Ok planned
+  pub plans : dropped around p shape shape.name (rows ∷ []) ≡ Ok planned
 
--- behind them the database is sound
-abbrev pub SoundDropPlanned : Type 0
-SoundDropPlanned = (db : Database) (tables : List TableTree) (shape : TableTree) (rows : List Row) (planned : List Planned) → Sound db → AreTables db tables → HasNoTrigger db
-    → IsDropPlanned db tables shape rows planned → Sound (behind db planned)
+-- behind them the database is firm
+abbrev pub FirmDropPlanned : Type 0
+FirmDropPlanned = (around : Around) (p : SessionProgress) (db : Database) (tables : List TableTree) (shape : TableTree) (rows : List Row) (planned : List Planned) → Firm db → AreTables db tables → HasNoTrigger db
+    → IsDropPlanned around p db tables shape rows planned → Firm (behind db planned)
 
 -- and no trigger is there
 abbrev pub UntriggeredPlanned : Type 0
-UntriggeredPlanned = (db : Database) (named : List TableTree) (of : BoundWrite) (images : List (List Row)) (planned : List Planned) → Sound db → HasNoTrigger db
-    → IsPlanned db named of images planned → HasNoTrigger (behind db planned)
+UntriggeredPlanned = (around : Around) (p : SessionProgress) (db : Database) (named : List TableTree) (of : BoundWrite) (images : List (List Row)) (planned : List Planned) → Firm db → HasNoTrigger db
+    → IsPlanned around p db named of images planned → HasNoTrigger (behind db planned)
 
 abbrev pub UntriggeredDropPlanned : Type 0
-UntriggeredDropPlanned = (db : Database) (tables : List TableTree) (shape : TableTree) (rows : List Row) (planned : List Planned) → Sound db → HasNoTrigger db
-    → IsDropPlanned db tables shape rows planned → HasNoTrigger (behind db planned)
+UntriggeredDropPlanned = (around : Around) (p : SessionProgress) (db : Database) (tables : List TableTree) (shape : TableTree) (rows : List Row) (planned : List Planned) → Firm db → HasNoTrigger db
+    → IsDropPlanned around p db tables shape rows planned → HasNoTrigger (behind db planned)
 
 -- ---- CREATE TABLE
 
 -- where the statement is bound over definitions that are those of the database, its table can stand there
 abbrev pub BoundStands : Type 0
-BoundStands = (db : Database) (definitions : List Definition) (statement : Statement) (table : TableTree) (text : List ℕ) (of : Bound) → Sound db
+BoundStands = (db : Database) (definitions : List Definition) (vars : List Variable) (statement : Statement) (table : TableTree) (text : List ℕ) (of : Bound) → Firm db
     → AllByRecursion (λ definition. IsDefined db (defined_name definition) definition) definitions
-    → form_of statement ≡ Form-F.CreateTable table text → bound_over definitions statement ≡ Ok of → CanStand db table
+    → form_of statement ≡ Form-F.CreateTable table text → bound_over definitions vars statement ≡ Ok of → CanStand db table

@@ -1,7 +1,7 @@
 -- Own: what of a database is to be kept, of `objects` and of the tables that it defines. It is said of the whole map at
 -- once. A name is looked up at its own key, and the row there has the name: so of names that differ in the spaces at their
 -- ends alone, whose keys compare equal, one at most is defined.
-use Rattle.std.specs.Prelude.{◌≡◌, ◌≤◌, ◌⊎◌, ℕ, false, IsTrue, List, length, Some, Ok}
+use Rattle.std.specs.Prelude.{◌≡◌, ◌≤◌, ◌⊎◌, ℕ, false, IsTrue, List, length, Some, None, Ok}
 use Rattle.std.specs.List.{AllByRecursion}
 use Rattle.value_types.specs.declared.table_name.TableName.{TableName}
 use Rattle.value_types.specs.declared.value.Value.{Value}
@@ -15,9 +15,10 @@ use Rattle.clause_binder.specs.Scope.{key_places, max_columns}
 use Rattle.binder.specs.Statements.{bind_checks}
 use Rattle.step_model.specs.Database.{Database}
 use Rattle.catalog_rows.specs.Definitions.{IsDefinitionOf, is_objects, object_key, objects_name}
-use Rattle.catalog_rows.specs.Rows.{same_key}
-use Rattle.constraint_check.specs.Integrity.{IsKept}
+use Rattle.catalog_rows.specs.Rows.{row_fits, same_key}
+use Rattle.constraint_check.specs.Integrity.{HasParents, IsKept, IsUnique, Stands, has_false}
 use Rattle.constraint_check.specs.Laws.{KeysAreOne}
+use Rattle.constraint_check.specs.Local.{null_in}
 use Rattle.constraint_check.specs.Reads.{places_of, rows_table}
 
 -- ---- what is defined
@@ -68,10 +69,28 @@ HasParentTables db shape = AllByRecursion (HasParentTable db shape) shape.foreig
 
 -- ---- the whole
 
--- What of a database is to be kept: keys that compare equal are one key; each row of `objects` is a definition; each
--- other row is one of a table that is defined; each table that is defined has no more columns than a table may have, keeps
--- its constraints, and refers to tables that are defined; and the table of each trigger is defined.
+-- a row of `objects` reads as a definition of its name, and stands at that name's key
+abbrev pub ReadsAsOne : List Value → List Value → Type 0
+ReadsAsOne key row = (name : List ℕ) × (definition : Definition) × IsTrue (same_key (object_key name) key) × IsDefinitionOf name row (Some definition)
+
+-- What of a database is to be kept. Each row of `objects` reads as a definition of its name; each other row is one of a table that is
+-- defined, and has its columns' types and its own key, breaks no NOT NULL and makes no CHECK false. UNIQUE holds, and NULLs are equal
+-- there; each FOREIGN KEY without a NULL has its parent's row; and the parent table of each FOREIGN KEY is defined, as is the table of
+-- each trigger.
 pub record Sound (db : Database) : Type 0 where
+  pub definitions : (key row : List Value) → db (rows_table objects_name) key ≡ Some row → ReadsAsOne key row
+  pub known : (table : TableName) (key row : List Value) → db table key ≡ Some row → IsKnown db table
+  pub fits : (shape : TableTree) (key row : List Value) → IsTableOf db shape → Stands db shape key row → IsTrue (row_fits shape 0 key row)
+  pub no_null : (shape : TableTree) (key row : List Value) → IsTableOf db shape → Stands db shape key row → null_in shape row ≡ None
+  pub no_false : (shape : TableTree) (tests : List BoundTest) (key row : List Value) → IsTableOf db shape → bind_checks shape ≡ Ok tests → Stands db shape key row → has_false shape.checks tests row ≡ false
+  pub unique : (shape : TableTree) → IsTableOf db shape → AllByRecursion (IsUnique db shape) shape.uniques
+  pub parents : (shape : TableTree) → IsTableOf db shape → AllByRecursion (HasParents db shape) shape.foreigns
+  pub parent_tables : (shape : TableTree) → IsTableOf db shape → AllByRecursion (λ foreign. HasTable db foreign.parent) shape.foreigns
+  pub triggers : (name : List ℕ) (trigger : TriggerTree) → IsDefined db name (Trigger trigger) → HasTable db trigger.table
+
+-- And what of it statements keep, which is more: keys that compare equal are one key; no definition has the name of `objects`; a table has
+-- no more columns than a table may have, its CHECKs can be bound, and a FOREIGN KEY has as many columns as its parent's key.
+pub record Firm (db : Database) : Type 0 where
   pub one_key : KeysAreOne db
   pub definitions : (key row : List Value) → db (rows_table objects_name) key ≡ Some row → DefinesOne key row
   pub known : (table : TableName) (key row : List Value) → db table key ≡ Some row → IsKnown db table

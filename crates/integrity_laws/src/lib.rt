@@ -1,4 +1,5 @@
-//! Laws of whole databases: what of them is to be kept, and that each change that statements make keeps it.
+//! Laws of whole databases: what of them is to be kept (`Sound`), and that each change that statements make keeps it, with
+//! what more that takes (`Firm`).
 //!
 //! Read `specs/Sound.antt` first: each row of `objects` is a definition, each other row is one of a table that is defined,
 //! and such a table keeps its constraints. Then `specs/Laws.antt` and the files behind it. The functions do nothing: each
@@ -7,43 +8,48 @@
 //! part of this crate.
 #![tactic(auto)]
 
-ghost use Rattle.integrity_laws.specs.Laws.{KeysSized, SoundCreated, SoundDropped, SoundEmpty, SoundWritten, TablesReady, UntriggeredCreated, UntriggeredDropped, UntriggeredEmpty, UntriggeredWritten};
+ghost use Rattle.integrity_laws.specs.Laws.{KeysSized, FirmCreated, FirmDropped, FirmEmpty, FirmSound, FirmWritten, TablesReady, UntriggeredCreated, UntriggeredDropped, UntriggeredEmpty, UntriggeredWritten};
 ghost use Rattle.integrity_laws.specs.Found.{FoundDefined, FoundTables};
-ghost use Rattle.integrity_laws.specs.Plans.{BoundStands, PlannedReadable, SoundDropPlanned, SoundPlanned, UntriggeredDropPlanned, UntriggeredPlanned};
+ghost use Rattle.integrity_laws.specs.Plans.{BoundStands, PlannedReadable, FirmDropPlanned, FirmPlanned, UntriggeredDropPlanned, UntriggeredPlanned};
 
-/// In a sound database the tables that are defined are as a write asks of them: they keep their constraints, no two have
+/// What statements keep is all that is to be kept.
+pub fn law_firm_sound()
+    ensures { FirmSound }
+{}
+
+/// In a firm database the tables that are defined are as a write asks of them: they keep their constraints, no two have
 /// one name, and those that one refers to are among them.
 pub fn law_tables_ready()
     ensures { TablesReady }
 {}
 
-/// In a sound database the keys of a table have as many values as its PRIMARY KEY has columns.
+/// In a firm database the keys of a table have as many values as its PRIMARY KEY has columns.
 pub fn law_keys_sized()
     ensures { KeysSized }
 {}
 
-/// The database without rows is sound, and no trigger is there.
-pub fn law_sound_empty()
-    ensures sound { SoundEmpty }
+/// The database without rows is firm, and no trigger is there.
+pub fn law_firm_empty()
+    ensures firm { FirmEmpty }
     ensures untriggered { UntriggeredEmpty }
 {}
 
-/// Changes of a table keep a database sound, if all tables keep their constraints behind them.
-pub fn law_sound_written()
-    ensures sound { SoundWritten }
+/// Changes of a table keep a database firm, if all tables keep their constraints behind them.
+pub fn law_firm_written()
+    ensures firm { FirmWritten }
     ensures untriggered { UntriggeredWritten }
 {}
 
-/// The erasure of all rows of a table that no other refers to, and of its definition, keeps a database sound in which no
+/// The erasure of all rows of a table that no other refers to, and of its definition, keeps a database firm in which no
 /// trigger is defined.
-pub fn law_sound_dropped()
-    ensures sound { SoundDropped }
+pub fn law_firm_dropped()
+    ensures firm { FirmDropped }
     ensures untriggered { UntriggeredDropped }
 {}
 
-/// The insertion of a table's definition where nothing of its name is keeps a database sound.
-pub fn law_sound_created()
-    ensures sound { SoundCreated }
+/// The insertion of a table's definition where nothing of its name is keeps a database firm.
+pub fn law_firm_created()
+    ensures firm { FirmCreated }
     ensures untriggered { UntriggeredCreated }
 {}
 
@@ -54,24 +60,25 @@ pub fn law_found()
     ensures tables { FoundTables }
 {}
 
-/// Behind what a write plans in a sound database rows can be read for its checks.
+/// Behind what a write plans in a firm database rows can be read for its checks.
 pub fn law_planned_readable()
     ensures { PlannedReadable }
 {}
 
-/// What a write plans keeps a database sound, if its checks pass behind it.
-pub fn law_sound_planned()
-    ensures sound { SoundPlanned }
+/// What a write plans keeps a database firm, if its checks pass behind it.
+pub fn law_firm_planned()
+    ensures firm { FirmPlanned }
     ensures untriggered { UntriggeredPlanned }
 {}
 
-/// What DROP TABLE plans on all rows of a table that no other refers to keeps a database sound in which no trigger is defined.
-pub fn law_sound_drop_planned()
-    ensures sound { SoundDropPlanned }
+/// What DROP TABLE plans on all rows of a table that no other refers to keeps a database firm in which no trigger is
+/// defined.
+pub fn law_firm_drop_planned()
+    ensures firm { FirmDropPlanned }
     ensures untriggered { UntriggeredDropPlanned }
 {}
 
-/// A table whose CREATE TABLE is bound over definitions of a sound database can stand there.
+/// A table whose CREATE TABLE is bound over definitions of a firm database can stand there.
 pub fn law_bound_stands()
     ensures { BoundStands }
 {}

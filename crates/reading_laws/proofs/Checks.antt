@@ -31,7 +31,7 @@ use Rattle.dml_exec.specs.declared.refusal.Refusal.{Refusal}
 use Rattle.dml_exec.specs.Reading.{fetch_of, fits, rows_in}
 use Rattle.dml_exec.specs.Writing.{broken, broken_by, checks_all, checks_one, halted, is_one_key, no_room, rows_checked}
 use Rattle.reading_laws.specs.Laws.{ChecksRead}
-use Rattle.reading_laws.specs.Reads.{at_place, key_size, AllFit, GoneHas, IsReadable, KeysHave, HoldsIt}
+use Rattle.reading_laws.specs.Reads.{at_place, key_size, AllFit, IsReadable, KeysHave, HoldsIt}
 use Rattle.reading_laws.proofs.Dialogs.{held_both, held_ok, held_room, ok_err}
 use Rattle.reading_laws.proofs.Entries.{Entry}
 use Rattle.reading_laws.proofs.Keys.{tied_long}
@@ -63,7 +63,7 @@ module _ (db : Database) (shapes : List TableTree) (table : TableName) (fit : Al
 -- ---- one read
 
 abbrev reads_of : List TableTree → KeyRange → Dialog (Result Rows Refusal)
-reads_of shapes range = rows_in (fits (shape_of range.table shapes)) (is_one_key range.start) (fetch_of range Range S)
+reads_of shapes range = rows_in (shape_of range.table shapes) (is_one_key range.start) (fetch_of range Range S)
 
 module _ (manner : Manner) (shapes : List TableTree) where
   rows_held : (range : KeyRange) (part : List Exchange) (found : Rows) → Held manner (rows_checked shapes range) part (Ok found) → Held manner (reads_of shapes range) part (Ok found)
@@ -89,16 +89,13 @@ module _ (manner : Manner) (shapes : List TableTree) where
     abbrev Answered : List Exchange → Type 0
     Answered part = AllByRecursion (λ x. AnswersIn db x.op x.reply) part
 
-    abbrev Told : List Exchange → Type 0
-    Told part = AllByRecursion (λ x. GoneHas (key_size shapes) x.op x.reply) part
-
-    passed : (read : CheckRead) (part : List Exchange) → AllFit db shapes read.range.table → IsReadable shapes read.range → Answered part → Told part → Held manner (checks_one shapes read) part (Ok tt) → Passes db read
+    passed : (read : CheckRead) (part : List Exchange) → AllFit db shapes read.range.table → IsReadable shapes read.range → Answered part → Held manner (checks_one shapes read) part (Ok tt) → Passes db read
     unfolding checks_one
-    passed read part fit whole answered told held =
+    passed read part fit whole answered held =
         let h = held_ok manner (rows_checked shapes read.range) (λ found. broken_by read (judge read found)) part tt held in
-        let came = read_in db one_key manner (fits (shape_of read.range.table shapes)) (is_one_key read.range.start) read.range S h.came (key_size shapes) h.first
+        let came = read_in db one_key manner (shape_of read.range.table shapes) (is_one_key read.range.start) read.range S h.came h.first
         (all_left (λ (x : Exchange). AnswersIn db x.op x.reply) h.first h.second (subst Answered h.parts answered)) (rows_held read.range h.first h.came h.held)
-        (keys_have db shapes read.range.table fit) whole (all_left (λ (x : Exchange). GoneHas (key_size shapes) x.op x.reply) h.first h.second (subst Told h.parts told)) in
+        (keys_have db shapes read.range.table fit) whole in
         let same : h.came ≡ map (λ (at : Entry). at.1) came.0 = came.2 ∙ ap (map (λ (at : Entry). at.1)) (all_kept db shapes read.range.table fit came.0 (stand read.range came.0 came.1)) in
         (came.0, came.1, ap (judge read) (sym same) ∙ not_broken read (judge read h.came) h.second h.more)
       where
@@ -110,15 +107,14 @@ module _ (manner : Manner) (shapes : List TableTree) where
             more_of (x ∷ xs) all = (all.0.1, more_of xs all.1)
 
     pub all_passed : (reads : List CheckRead) (part : List Exchange) → AllByRecursion (λ read. AllFit db shapes read.range.table) reads → AllByRecursion (λ read. IsReadable shapes read.range) reads
-        → Answered part → Told part → Held manner (checks_all shapes reads) part (Ok tt) → AllByRecursion (Passes db) reads
+        → Answered part → Held manner (checks_all shapes reads) part (Ok tt) → AllByRecursion (Passes db) reads
     unfolding checks_all
-    all_passed [] part fit whole answered told held = tt
-    all_passed (read ∷ reads) part fit whole answered told held =
+    all_passed [] part fit whole answered held = tt
+    all_passed (read ∷ reads) part fit whole answered held =
         let h = held_ok manner (checks_one shapes read) (λ done. checks_all shapes reads) part tt held in
-        let answered : Answered (h.first ++ h.second) = subst Answered h.parts answered in
-        let told : Told (h.first ++ h.second) = subst Told h.parts told in (
-          passed read h.first fit.0 whole.0 (all_left (λ (x : Exchange). AnswersIn db x.op x.reply) h.first h.second answered) (all_left (λ (x : Exchange). GoneHas (key_size shapes) x.op x.reply) h.first h.second told) h.held,
-          all_passed reads h.second fit.1 whole.1 (all_right (λ (x : Exchange). AnswersIn db x.op x.reply) h.first h.second answered) (all_right (λ (x : Exchange). GoneHas (key_size shapes) x.op x.reply) h.first h.second told) h.more,
+        let answered : Answered (h.first ++ h.second) = subst Answered h.parts answered in (
+          passed read h.first fit.0 whole.0 (all_left (λ (x : Exchange). AnswersIn db x.op x.reply) h.first h.second answered) h.held,
+          all_passed reads h.second fit.1 whole.1 (all_right (λ (x : Exchange). AnswersIn db x.op x.reply) h.first h.second answered) h.more,
         )
 
 -- ---- what is asked
@@ -130,7 +126,7 @@ module _ (shapes : List TableTree) where
 
   rows_fetches : (range : KeyRange) → Fetches (rows_checked shapes range)
   unfolding rows_checked
-  rows_fetches range = asks_room HoldsIt no_room (reads_of shapes range then halted) (asks_then HoldsIt (reads_of shapes range) halted (in_fetches (fits (shape_of range.table shapes)) range.table range.stop S (is_one_key range.start) range.start) halted_fetches)
+  rows_fetches range = asks_room HoldsIt no_room (reads_of shapes range then halted) (asks_then HoldsIt (reads_of shapes range) halted (in_fetches range.table range.stop S (shape_of range.table shapes) (is_one_key range.start) range.start) halted_fetches)
 
   broken_fetches : (read : CheckRead) (error : Option ℤ) → Fetches (broken_by read error)
   broken_fetches read None = tt
@@ -146,6 +142,6 @@ module _ (shapes : List TableTree) where
   all_fetches (read ∷ reads) = asks_ok HoldsIt (checks_one shapes read) (λ done. checks_all shapes reads) (one_fetches read) (λ done. all_fetches reads)
 
 pub checks_read : ChecksRead
-checks_read log mine before part later manner shapes reads is holds held fit whole told =
+checks_read log mine before part later manner shapes reads is holds held fit whole =
     all_passed manner shapes (at_place log before later) (one_place log before later) reads part fit whole
-    (answers log mine before part later is holds (all_asked HoldsIt manner (checks_all shapes reads) part (Ok tt) (all_fetches shapes reads) held)) told held
+    (answers log mine before part later is holds (all_asked HoldsIt manner (checks_all shapes reads) part (Ok tt) (all_fetches shapes reads) held)) held

@@ -1,5 +1,5 @@
 -- The rows of a range, from its first fetch and those behind it.
-use Rattle.std.proofs.Common.{◌≡◌, Bool, true, false, ◌||◌, List, [], ◌∷◌, length, Option, None, Some, is_some, IsTrue, refl, sym, ap, ◌∙◌}
+use Rattle.std.proofs.Common.{◌≡◌, ℕ, Bool, true, false, ◌||◌, List, [], ◌∷◌, length, Option, None, Some, is_some, IsTrue, refl, sym, ap, ◌∙◌}
 use Rattle.std.specs.Prelude.{IsSome}
 use Rattle.std.specs.List.{AllByRecursion, list_any}
 use Rattle.std.specs.List.Sorted.{IsStrictlySortedBy}
@@ -19,7 +19,9 @@ use Rattle.constraint_check.specs.Laws.{KeysAreOne}
 use Rattle.constraint_check.proofs.Lists.{all_more}
 use Rattle.history_laws.proofs.Basics.{both}
 use Rattle.history_laws.proofs.Ranges.{allows_above}
-use Rattle.reading_laws.proofs.Keys.{above_past, not_below, one_key, past_above, tied_both}
+use Rattle.dml_exec.specs.Reading.{behind_gone}
+use Rattle.reading_laws.specs.Reads.{KeysHave}
+use Rattle.reading_laws.proofs.Keys.{above_behind, above_past, behind_above, not_below, one_key, past_above, tied_both}
 
 abbrev pub Entry : Type 0
 Entry = List Value × List Value
@@ -45,27 +47,29 @@ module _ (db : Database) (table : TableName) where
     whole = λ key within some. absurd (none_some (db table key) (none key within) some);
   }
 
-  -- what is past a key of the range is in the range
-  inside_on : (start : Start) (stop : Stop) (key : List Value) → allows start key ≡ true → (at : Entry) → Inside (Past key) stop at → Inside start stop at
-  inside_on start stop key allowed at inside =
-      let parts = both (allows (Past key) at.0) (includes stop at.0) inside.0 in
-      (rw (allows_above start key at.0 (past_above key at.0 parts.0) allowed, parts.1) refl, inside.1)
+  -- Behind a key the range goes on from a start that allows keys above it alone, and all such that have a row.
+  module _ (start : Start) (stop : Stop) (key : List Value) (on : Start) (above : (k : List Value) → allows on k ≡ true → key_cmp key k ≡ Less)
+      (all_above : (k : List Value) → IsSome (db table k) → key_cmp k key ≡ Greater → allows on k ≡ true) (rest : List Entry) (more : In db table on stop rest) where
+    -- what is there is in the range, where the key is
+    inside_on : allows start key ≡ true → (at : Entry) → Inside on stop at → Inside start stop at
+    inside_on allowed at inside =
+        let parts = both (allows on at.0) (includes stop at.0) inside.0 in
+        (rw (allows_above start key at.0 (above at.0 parts.0) allowed, parts.1) refl, inside.1)
 
-  module _ (start : Start) (stop : Stop) (key : List Value) (rest : List Entry) (more : In db table (Past key) stop rest) where
-    behind : AllByRecursion (Inside (Past key) stop) rest
-    behind = recursion_from_All (Inside (Past key) stop) rest more.rows_of_range
+    behind : AllByRecursion (Inside on stop) rest
+    behind = recursion_from_All (Inside on stop) rest more.rows_of_range
 
-    past_it : (k : List Value) → IsTrue (is_within start stop k) → length k ≡ length key → key_cmp k key ≡ Greater → IsTrue (is_within (Past key) stop k)
-    past_it k within long above = rw (above_past key k long above, (both (allows start k) (includes stop k) within).1) refl
+    on_it : (k : List Value) → IsTrue (is_within start stop k) → IsSome (db table k) → key_cmp k key ≡ Greater → IsTrue (is_within on stop k)
+    on_it k within some greater = rw (all_above k some greater, (both (allows start k) (includes stop k) within).1) refl
 
-    -- a row, and then those past its key
-    pub row_in : (row : List Value) → First db table start stop (Some key) → db table key ≡ Some row → ((k : List Value) → IsSome (db table k) → length k ≡ length key) → In db table start stop ((key, row) ∷ rest)
+    -- a row, and then those behind its key
+    pub row_in : (row : List Value) → First db table start stop (Some key) → db table key ≡ Some row → In db table start stop ((key, row) ∷ rest)
     unfolding IsStrictlySortedBy
-    row_in row first there long = record {
-      sorted = (all_more (Inside (Past key) stop) (λ at. key_cmp key at.0 ≡ Less) (λ at inside. past_above key at.0 (both (allows (Past key) at.0) (includes stop at.0) inside.0).0) rest behind, more.sorted);
+    row_in row first there = record {
+      sorted = (all_more (Inside on stop) (λ at. key_cmp key at.0 ≡ Less) (λ at inside. above at.0 (both (allows on at.0) (includes stop at.0) inside.0).0) rest behind, more.sorted);
       rows_of_range = All-from_recursion (Inside start stop) ((key, row) ∷ rest) (
         (first.0, there),
-        all_more (Inside (Past key) stop) (Inside start stop) (inside_on start stop key (both (allows start key) (includes stop key) first.0).0) rest behind,
+        all_more (Inside on stop) (Inside start stop) (inside_on (both (allows start key) (includes stop key) first.0).0) rest behind,
       );
       whole = λ k within some. by_order k within some (key_cmp k key) refl;
     }
@@ -73,21 +77,36 @@ module _ (db : Database) (table : TableName) where
         by_order : (k : List Value) → IsTrue (is_within start stop k) → IsSome (db table k) → (o : Ordering) → key_cmp k key ≡ o → IsTrue (list_any (λ (at : Entry). is_eq (key_cmp k at.0)) ((key, row) ∷ rest))
         by_order k within some Less is = absurd (none_some (db table k) (first.2 k within is) some)
         by_order k within some Equal is = rw is refl
-        by_order k within some Greater is = or_right (is_eq (key_cmp k key)) (list_any (λ (at : Entry). is_eq (key_cmp k at.0)) rest) (more.whole k (past_it k within (long k some) is) some)
+        by_order k within some Greater is = or_right (is_eq (key_cmp k key)) (list_any (λ (at : Entry). is_eq (key_cmp k at.0)) rest) (more.whole k (on_it k within some is) some)
 
-    -- a key without a row, and then the rows past it
-    pub gone_in : KeysAreOne db → allows start key ≡ true → db table key ≡ None → ((k : List Value) → IsTrue (allows start k) → key_cmp k key ≡ Less → db table k ≡ None)
-        → ((k : List Value) → IsSome (db table k) → length k ≡ length key) → In db table start stop rest
-    gone_in one allowed gone below long = record {
+    -- a key without a row, and then the rows behind it
+    pub gone_in : KeysAreOne db → allows start key ≡ true → db table key ≡ None → ((k : List Value) → IsTrue (allows start k) → key_cmp k key ≡ Less → db table k ≡ None) → In db table start stop rest
+    gone_in one allowed gone below = record {
       sorted = more.sorted;
-      rows_of_range = All-from_recursion (Inside start stop) rest (all_more (Inside (Past key) stop) (Inside start stop) (inside_on start stop key allowed) rest behind);
+      rows_of_range = All-from_recursion (Inside start stop) rest (all_more (Inside on stop) (Inside start stop) (inside_on allowed) rest behind);
       whole = λ k within some. by_order k within some (key_cmp k key) refl;
     }
       where
         by_order : (k : List Value) → IsTrue (is_within start stop k) → IsSome (db table k) → (o : Ordering) → key_cmp k key ≡ o → IsTrue (list_any (λ (at : Entry). is_eq (key_cmp k at.0)) rest)
         by_order k within some Less is = absurd (none_some (db table k) (below k (both (allows start k) (includes stop k) within).0 is) some)
         by_order k within some Equal is = absurd (none_some (db table k) (one table k key (ap is_eq is) ∙ gone) some)
-        by_order k within some Greater is = more.whole k (past_it k within (long k some) is) some
+        by_order k within some Greater is = more.whole k (on_it k within some is) some
+
+  -- ---- a table whose keys that have a row have so many values
+
+  module _ (width : ℕ) (long : KeysHave width db table) (start : Start) (stop : Stop) (key : List Value) (rest : List Entry) where
+    -- behind a row
+    pub row_on : (row : List Value) → First db table start stop (Some key) → db table key ≡ Some row → In db table (Past key) stop rest → In db table start stop ((key, row) ∷ rest)
+    row_on row first there more = row_in start stop key (Past key) (past_above key) (λ k some greater. above_past key k (long k some ∙ sym (long key (rw there refl))) greater) rest more row first there
+
+    -- which is as long as the table's keys are
+    pub row_behind : (row : List Value) → First db table start stop (Some key) → db table key ≡ Some row → In db table (behind_gone width key) stop rest → In db table start stop ((key, row) ∷ rest)
+    row_behind row first there more = row_in start stop key (behind_gone width key) (behind_above width key) (λ k some greater. above_behind width key k (long k some) greater) rest more row first there
+
+    -- and behind a key that has none
+    pub gone_on : KeysAreOne db → allows start key ≡ true → db table key ≡ None → ((k : List Value) → IsTrue (allows start k) → key_cmp k key ≡ Less → db table k ≡ None)
+        → In db table (behind_gone width key) stop rest → In db table start stop rest
+    gone_on one allowed gone below more = gone_in start stop key (behind_gone width key) (behind_above width key) (λ k some greater. above_behind width key k (long k some) greater) rest more one allowed gone below
 
   -- ---- a range of one whole key
 

@@ -1,14 +1,13 @@
 -- Images.
 use Rattle.std.proofs.Common.{◌≡◌, ℕ, zero, suc, false, List, [], ◌∷◌, ◌++◌, Option, None, Some, Result, Ok, refl, sym, subst, ◌∙◌, append-nil, append_assoc}
 use Rattle.std.specs.List.{AllByRecursion}
-use Rattle.value_types.specs.declared.table_name.TableName.{TableName}
-use Rattle.value_types.specs.declared.value.Value.{Value}
 use Rattle.tsql_tree.specs.declared.definition.TableTree.{TableTree}
 use Rattle.step_model.specs.declared.manner.Manner.{Manner}
 use Rattle.step_model.specs.declared.op.Hold.TheVariants.{Range}
 use Rattle.step_model.specs.declared.op.Op.{Op}
 use Rattle.step_model.specs.declared.op.Op.TheVariants.{Fetch}
-use Rattle.step_model.specs.declared.range.Start.TheVariants.{First}
+use Rattle.step_model.specs.declared.range.Start.{Start}
+use Rattle.step_model.specs.declared.range.Start.TheVariants.{First, Past}
 use Rattle.step_model.specs.declared.range.Stop.TheVariants.{Last}
 use Rattle.step_model.specs.declared.reply.Reply.{Reply}
 use Rattle.step_model.specs.declared.reply.Reply.TheVariants.{Row, Gone, End, Memory as NoMemory, TimedOut as Refuses, Victim as Falls}
@@ -25,41 +24,42 @@ use Rattle.dml_exec.specs.declared.refusal.Level.TheVariants.{Serializable}
 use Rattle.dml_exec.specs.declared.refusal.Refusal.{Refusal}
 use Rattle.dml_exec.specs.declared.refusal.Refusal.TheVariants.{Memory}
 use Rattle.dml_exec.specs.Asking.{with_room}
-use Rattle.dml_exec.specs.Reading.{TableRead, fetches, fits, images_from, images_of, part_of, past, read_by, reads_of, reads_on, reads_table, rows_from, rows_in, table_fetch}
+use Rattle.dml_exec.specs.Reading.{TableRead, behind_gone, fetches, fits, from, images_from, images_of, is_short, key_width, part_of, read_by, reads_of, reads_on, reads_table, rows_from, rows_in, table_fetch}
 use Rattle.reading_laws.specs.Laws.{ImagesFetch, ImagesRead}
-use Rattle.reading_laws.specs.Reads.{at_place, AreImages, GoneHas, HoldsIt, IsFetch, KeysHave, whole_table}
+use Rattle.reading_laws.specs.Reads.{at_place, key_size, AreImages, HoldsIt, IsFetch, KeysHave, whole_table}
 use Rattle.reading_laws.proofs.Dialogs.{held_ok, held_room}
-use Rattle.reading_laws.proofs.Parts.{AsksOnly, all_asked, answers, asks_ok, asks_room, one_place}
+use Rattle.reading_laws.proofs.Parts.{AsksOnly, all_asked, answers, asks_ok, asks_room, asks_room_if, one_place}
 use Rattle.reading_laws.proofs.Ranges.{in_fetches, read_in}
 
 -- ---- what is asked
 
 module _ (P : Op → Type 0) where
-  read_by_asks : (keeps : Keeps) (so_far : Rows) (reply : Reply) → AsksOnly P (read_by keeps so_far reply)
-  read_by_asks keeps so_far (Row key row at) = asks_room P Memory (over (Ok (with_row keeps so_far key row, Some key))) tt
-  read_by_asks keeps so_far (Gone key at) = tt
-  read_by_asks keeps so_far (End at) = tt
-  read_by_asks keeps so_far NoMemory = tt
-  read_by_asks keeps so_far (Refuses holder held asked on) = tt
-  read_by_asks keeps so_far (Falls cycle) = tt
-  read_by_asks keeps so_far reply = tt
+  read_by_asks : (width : ℕ) (keeps : Keeps) (so_far : Rows) (reply : Reply) → AsksOnly P (read_by width keeps so_far reply)
+  read_by_asks width keeps so_far (Row key row at) = asks_room P Memory (over (Ok (with_row keeps so_far key row, Some (Past key)))) tt
+  read_by_asks width keeps so_far (Gone key at) = asks_room_if P (is_short width key) Memory (over (Ok (so_far, Some (behind_gone width key)))) tt
+  read_by_asks width keeps so_far (End at) = tt
+  read_by_asks width keeps so_far NoMemory = tt
+  read_by_asks width keeps so_far (Refuses holder held asked on) = tt
+  read_by_asks width keeps so_far (Falls cycle) = tt
+  read_by_asks width keeps so_far reply = tt
 
-pub fetch_asks : (keeps : Keeps) (op : Op) (so_far : Rows) → AsksOnly IsFetch (fetches keeps op so_far)
-fetch_asks keeps (Fetch table start stop hold part) so_far = (tt, read_by_asks IsFetch keeps so_far)
-fetch_asks keeps op so_far = tt
+pub fetch_asks : (width : ℕ) (keeps : Keeps) (op : Op) (so_far : Rows) → AsksOnly IsFetch (fetches width keeps op so_far)
+fetch_asks width keeps (Fetch table start stop hold part) so_far = (tt, read_by_asks IsFetch width keeps so_far)
+fetch_asks width keeps op so_far = tt
 
-pub from_asks : (keeps : Keeps) (left : ℕ) (op : Op) (so_far : Rows) → AsksOnly IsFetch (rows_from keeps left op so_far)
+pub from_asks : (width : ℕ) (keeps : Keeps) (left : ℕ) (op : Op) (so_far : Rows) → AsksOnly IsFetch (rows_from width keeps left op so_far)
 unfolding rows_from
-from_asks keeps zero op so_far = tt
-from_asks keeps (suc left) op so_far = asks_ok IsFetch (fetches keeps op so_far) (reads_on (λ more key. rows_from keeps left (past op key) more)) (fetch_asks keeps op so_far) (on_came (λ key more. from_asks keeps left (past op key) more))
+from_asks width keeps zero op so_far = tt
+from_asks width keeps (suc left) op so_far =
+    asks_ok IsFetch (fetches width keeps op so_far) (reads_on (λ more on. rows_from width keeps left (from on op) more)) (fetch_asks width keeps op so_far) (on_came (λ on more. from_asks width keeps left (from on op) more))
   where
-    on_came : ((key : List Value) (more : Rows) → AsksOnly IsFetch (rows_from keeps left (past op key) more)) → (came : Rows × Option (List Value)) → AsksOnly IsFetch (reads_on (λ more key. rows_from keeps left (past op key) more) came)
+    on_came : ((on : Start) (more : Rows) → AsksOnly IsFetch (rows_from width keeps left (from on op) more)) → (came : Rows × Option Start) → AsksOnly IsFetch (reads_on (λ more on. rows_from width keeps left (from on op) more) came)
     on_came rest (more, None) = tt
-    on_came rest (more, Some key) = rest key more
+    on_came rest (more, Some on) = rest on more
 
 table_asks : (shapes : List TableTree) (level : Level) (read : TableRead) → AsksOnly IsFetch (reads_table shapes level read)
 unfolding reads_table rows_in
-table_asks shapes level read = from_asks (fits (shape_of read.0 shapes)) range_limit (table_fetch level read) []
+table_asks shapes level read = from_asks (key_width (shape_of read.0 shapes)) (fits (shape_of read.0 shapes)) range_limit (table_fetch level read) []
 
 from_images_asks : (shapes : List TableTree) (level : Level) (reads : List TableRead) (images : List Rows) → AsksOnly IsFetch (images_from shapes level images reads)
 unfolding images_from
@@ -76,11 +76,11 @@ images_fetch manner shapes level of part result held =
 -- ---- at the highest level
 
 abbrev top : List TableTree → TableRead → Dialog (Result Rows Refusal)
-top shapes read = rows_in (fits (shape_of read.0 shapes)) false (Fetch read.0 First Last Range (part_of read.1))
+top shapes read = rows_in (shape_of read.0 shapes) false (Fetch read.0 First Last Range (part_of read.1))
 
 table_top : (shapes : List TableTree) (read : TableRead) → AsksOnly HoldsIt (reads_table shapes Serializable read)
 unfolding reads_table
-table_top shapes read = in_fetches (fits (shape_of read.0 shapes)) read.0 Last (part_of read.1) false First
+table_top shapes read = in_fetches read.0 Last (part_of read.1) (shape_of read.0 shapes) false First
 
 from_top : (shapes : List TableTree) (reads : List TableRead) (images : List Rows) → AsksOnly HoldsIt (images_from shapes Serializable images reads)
 unfolding images_from
@@ -89,31 +89,27 @@ from_top shapes (read ∷ reads) images =
     asks_ok HoldsIt (reads_table shapes Serializable read) (λ rows. with_room Memory (images_from shapes Serializable (images ++ rows ∷ []) reads)) (table_top shapes read)
     (λ rows. asks_room HoldsIt Memory (images_from shapes Serializable (images ++ rows ∷ []) reads) (from_top shapes reads (images ++ rows ∷ [])))
 
-module _ (db : Database) (one : KeysAreOne db) (manner : Manner) (shapes : List TableTree) (sizes : TableName → ℕ) where
+module _ (db : Database) (one : KeysAreOne db) (manner : Manner) (shapes : List TableTree) where
   abbrev Answered : List Exchange → Type 0
   Answered part = AllByRecursion (λ x. AnswersIn db x.op x.reply) part
 
-  abbrev Told : List Exchange → Type 0
-  Told part = AllByRecursion (λ x. GoneHas sizes x.op x.reply) part
-
   -- behind those that were read so far
-  images_behind : (reads : List TableRead) (so_far images : List Rows) (part : List Exchange) → AllByRecursion (λ read. KeysHave (sizes read.0) db read.0) reads → Answered part → Told part
+  images_behind : (reads : List TableRead) (so_far images : List Rows) (part : List Exchange) → AllByRecursion (λ read. KeysHave (key_size shapes read.0) db read.0) reads → Answered part
       → Held manner (images_from shapes Serializable so_far reads) part (Ok images) → (rest : List Rows) × (images ≡ so_far ++ rest) × AreImages db shapes reads rest
   unfolding Held images_from reads_table
-  images_behind [] so_far images part long answered told held = ([], (let is : images ≡ so_far = cc in is) ∙ sym (append-nil so_far), refl)
-  images_behind (read ∷ reads) so_far images part long answered told held =
+  images_behind [] so_far images part long answered held = ([], (let is : images ≡ so_far = cc in is) ∙ sym (append-nil so_far), refl)
+  images_behind (read ∷ reads) so_far images part long answered held =
       let h = held_ok manner (top shapes read) (λ rows. with_room Memory (images_from shapes Serializable (so_far ++ rows ∷ []) reads)) part images held in
       let answered : Answered (h.first ++ h.second) = subst Answered h.parts answered in
-      let told : Told (h.first ++ h.second) = subst Told h.parts told in
-      let here = read_in db one manner (fits (shape_of read.0 shapes)) false (whole_table read.0) (part_of read.1) h.came sizes h.first (all_left (λ (x : Exchange). AnswersIn db x.op x.reply) h.first h.second answered) h.held long.0 tt (all_left (λ (x : Exchange). GoneHas sizes x.op x.reply) h.first h.second told) in
-      let more = images_behind reads (so_far ++ h.came ∷ []) images h.second long.1 (all_right (λ (x : Exchange). AnswersIn db x.op x.reply) h.first h.second answered) (all_right (λ (x : Exchange). GoneHas sizes x.op x.reply) h.first h.second told)
+      let here = read_in db one manner (shape_of read.0 shapes) false (whole_table read.0) (part_of read.1) h.came h.first (all_left (λ (x : Exchange). AnswersIn db x.op x.reply) h.first h.second answered) h.held long.0 tt in
+      let more = images_behind reads (so_far ++ h.came ∷ []) images h.second long.1 (all_right (λ (x : Exchange). AnswersIn db x.op x.reply) h.first h.second answered)
       (held_room manner Memory (images_from shapes Serializable (so_far ++ h.came ∷ []) reads) h.second images h.more) in
       (h.came ∷ more.0, more.1 ∙ append_assoc so_far (h.came ∷ []) more.0, (h.came, more.0, refl, here, more.2))
 
 pub images_read : ImagesRead
 unfolding images_of
-images_read log mine before part later manner shapes of images sizes is holds held long told =
+images_read log mine before part later manner shapes of images is holds held long =
     let asked = held_room manner Memory (images_from shapes Serializable [] (reads_of of)) part images held in
-    let came = images_behind (at_place log before later) (one_place log before later) manner shapes sizes (reads_of of) [] images part long
-    (answers log mine before part later is holds (all_asked HoldsIt manner (images_from shapes Serializable [] (reads_of of)) part (Ok images) (from_top shapes (reads_of of) []) asked)) told asked in
+    let came = images_behind (at_place log before later) (one_place log before later) manner shapes (reads_of of) [] images part long
+    (answers log mine before part later is holds (all_asked HoldsIt manner (images_from shapes Serializable [] (reads_of of)) part (Ok images) (from_top shapes (reads_of of) []) asked)) asked in
     subst (AreImages (at_place log before later) shapes (reads_of of)) (sym came.1) came.2

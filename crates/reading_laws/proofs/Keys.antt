@@ -1,16 +1,18 @@
 -- Keys behind a key, and keys of one length.
-use Rattle.std.proofs.Common.{◌≡◌, ℕ, zero, suc, true, false, not, List, [], ◌∷◌, length, take, refl, sym, ap, ◌∙◌, arith}
+use Rattle.std.proofs.Common.{◌≡◌, ℕ, zero, suc, ◌≤◌, Bool, true, false, not, if◌then◌else◌, List, [], ◌∷◌, ◌++◌, length, take, refl, sym, ap, ◌∙◌, arith, ltb-false}
 use Rattle.std.specs.Ordering.{is_lt, is_gt, ordering_then, ordering_reverse}
 use Rattle.std.specs.Cmp.{alike_right}
 use Rattle.std.specs.declared.cmp.Ordering.{Ordering}
 use Rattle.std.specs.declared.cmp.Ordering.TheVariants.{Less, Equal, Greater}
 use Rattle.std.proofs.lemmas.List.{take_all}
 use Rattle.value_types.specs.declared.value.Value.{Value}
+use Rattle.value_types.specs.declared.value.Value.TheVariants.{Null, Whole, Bit, Text}
 use Rattle.value_types.specs.Order.{key_cmp, value_order}
 use Rattle.value_types.specs.OrderLaws.{key_cmp_total}
 use Rattle.step_model.specs.declared.range.Start.TheVariants.{At, Past}
 use Rattle.step_model.specs.declared.range.Stop.TheVariants.{Within}
 use Rattle.step_model.specs.Database.{allows, includes}
+use Rattle.dml_exec.specs.Reading.{behind_gone, is_short}
 
 -- whose front is above a key is above it
 front_gt : (n : ℕ) (k key : List Value) → is_gt (key_cmp (take n k) key) ≡ true → is_gt (key_cmp k key) ≡ true
@@ -38,9 +40,62 @@ is_above Greater above = refl
 pub past_above : (key k : List Value) → allows (Past key) k ≡ true → key_cmp key k ≡ Less
 past_above key k allowed = key_cmp_total.antisymm key k ∙ is_above (key_cmp k key) (front_gt (length key) k key allowed)
 
--- what is above a key of its length is past it
+-- what is above a key that is as long, or longer, is past it
+longer_past : (key k : List Value) → length k ≤ length key → key_cmp k key ≡ Greater → allows (Past key) k ≡ true
+longer_past key k long above = ap (λ (x : List Value). is_gt (key_cmp x key)) (take_all (length key) k (omega (arith, long))) ∙ ap is_gt above
+
 pub above_past : (key k : List Value) → length k ≡ length key → key_cmp k key ≡ Greater → allows (Past key) k ≡ true
-above_past key k long above = ap (λ (x : List Value). is_gt (key_cmp x key)) (take_all (length key) k (omega (arith, long))) ∙ ap is_gt above
+above_past key k long above = longer_past key k (omega (arith, long)) above
+
+-- ---- from a key and NULL on
+
+-- NULL is the lowest value, and a key is below those that begin with it: so what is not below a key and NULL is what is above it
+longer_gt : (key k : List Value) → not (is_lt (key_cmp k (key ++ Null ∷ []))) ≡ true → is_gt (key_cmp k key) ≡ true
+longer_gt [] [] from = absurd (let no : false ≡ true = from in cc)
+longer_gt [] (y ∷ k) from = refl
+longer_gt (x ∷ key) [] from = absurd (let no : false ≡ true = from in cc)
+longer_gt (x ∷ key) (y ∷ k) from = by_order (value_order y x) from (longer_gt key k)
+  where
+    by_order : (o : Ordering) → not (is_lt (ordering_then o (key_cmp k (key ++ Null ∷ [])))) ≡ true → (not (is_lt (key_cmp k (key ++ Null ∷ []))) ≡ true → is_gt (key_cmp k key) ≡ true)
+        → is_gt (ordering_then o (key_cmp k key)) ≡ true
+    by_order Less from rest = absurd (let no : false ≡ true = from in cc)
+    by_order Equal from rest = rest from
+    by_order Greater from rest = refl
+
+not_below_null : (y : Value) (k : List Value) → not (is_lt (key_cmp (y ∷ k) (Null ∷ []))) ≡ true
+not_below_null Null [] = refl
+not_below_null Null (z ∷ k) = refl
+not_below_null (Whole number) k = refl
+not_below_null (Bit bit) k = refl
+not_below_null (Text units) k = refl
+
+gt_longer : (key k : List Value) → is_gt (key_cmp k key) ≡ true → not (is_lt (key_cmp k (key ++ Null ∷ []))) ≡ true
+gt_longer [] [] above = absurd (let no : false ≡ true = above in cc)
+gt_longer [] (y ∷ k) above = not_below_null y k
+gt_longer (x ∷ key) [] above = absurd (let no : false ≡ true = above in cc)
+gt_longer (x ∷ key) (y ∷ k) above = by_order (value_order y x) above (gt_longer key k)
+  where
+    by_order : (o : Ordering) → is_gt (ordering_then o (key_cmp k key)) ≡ true → (is_gt (key_cmp k key) ≡ true → not (is_lt (key_cmp k (key ++ Null ∷ []))) ≡ true)
+        → not (is_lt (ordering_then o (key_cmp k (key ++ Null ∷ [])))) ≡ true
+    by_order Less above rest = absurd (let no : false ≡ true = above in cc)
+    by_order Equal above rest = rest above
+    by_order Greater above rest = refl
+
+-- where a range goes on behind a key without a row is above that key
+pub behind_above : (width : ℕ) (key k : List Value) → allows (behind_gone width key) k ≡ true → key_cmp key k ≡ Less
+behind_above width key k allowed = by_test (is_short width key) allowed
+  where
+    by_test : (b : Bool) → allows (if b then At (key ++ Null ∷ []) else Past key) k ≡ true → key_cmp key k ≡ Less
+    by_test true allowed = key_cmp_total.antisymm key k ∙ is_above (key_cmp k key) (longer_gt key k allowed)
+    by_test false allowed = past_above key k allowed
+
+-- and no key of that many values that is above it is passed over
+pub above_behind : (width : ℕ) (key k : List Value) → length k ≡ width → key_cmp k key ≡ Greater → allows (behind_gone width key) k ≡ true
+above_behind width key k long above = by_test (is_short width key) refl
+  where
+    by_test : (b : Bool) → is_short width key ≡ b → allows (if b then At (key ++ Null ∷ []) else Past key) k ≡ true
+    by_test true is = gt_longer key k (ap is_gt above)
+    by_test false is = let as_long : width ≤ length key = ltb-false (length key) width is in longer_past key k (omega (arith, long, as_long)) above
 
 -- keys of one length that begin a range of one key are that key
 pub one_key : (key k : List Value) → length k ≡ length key → allows (At key) k ≡ true → includes (Within key) k ≡ true → key_cmp k key ≡ Equal

@@ -14,8 +14,6 @@ pub mod Nets  -- what writes come to
 pub mod Firsts  -- keys at which writes first insert
 pub mod Commits  -- what a commit leaves
 pub mod Logged  -- each commit in the log is one among the exchanges of its session
-pub mod OwnLocks  -- a session has X only where its transaction has asked to write
-pub mod Runs  -- keys without a row, in every run
 pub mod Transactions  -- a transaction that wrote once
 pub mod PlannedKeys  -- the keys of what a write plans
 pub mod States  -- every_state: what each commit of a run keeps, every database of its log has

@@ -1,8 +1,6 @@
 -- All exchanges that fetch by range read one database: they change nothing, and end no transaction.
-use Rattle.std.proofs.Common.{◌≡◌, ℕ, Bool, true, false, List, [], ◌∷◌, ◌++◌, length, map, take, if◌then◌else◌, Result, Ok, Err, refl, sym, ap, subst, ◌∙◌, append-nil, append_assoc, ◌||◌}
+use Rattle.std.proofs.Common.{◌≡◌, ℕ, Bool, true, false, List, [], ◌∷◌, ◌++◌, length, map, take, if◌then◌else◌, Result, Ok, Err, refl, sym, ap, subst, ◌∙◌, append-nil, append_assoc}
 use Rattle.std.specs.List.{AllByRecursion, flat_map}
-use Rattle.value_types.specs.declared.table_name.TableName.{TableName}
-use Rattle.value_types.specs.declared.value.Value.{Value}
 use Rattle.step_model.specs.declared.change.Change.{Change}
 use Rattle.step_model.specs.declared.change.Planned.{Planned}
 use Rattle.step_model.specs.declared.manner.Manner.{Manner}
@@ -20,8 +18,7 @@ use Rattle.step_model.specs.Own.{Progress, change_of, none_open, progress_after,
 use Rattle.constraint_check.specs.Laws.{KeysAreOne}
 use Rattle.constraint_check.proofs.Behind.{one_with}
 use Rattle.history_laws.proofs.Splits.{not_ended, progress_more}
-use Rattle.dml_exec.specs.Asking.{on_ok, ◌>>=◌, with_room}
-use Rattle.reading_laws.specs.Gone.{asked_after, asked_from, has_asked, writes_at}
+use Rattle.dml_exec.specs.Asking.{on_ok, ◌>>=◌, with_room, with_room_if}
 use Rattle.reading_laws.specs.Laws.{FetchesLeave}
 use Rattle.reading_laws.specs.Reads.{at_place, AskOnly, HoldsIt, IsFetch}
 
@@ -55,6 +52,10 @@ module _ (P : Op → Type 0) where
       by_room : (enough : Bool) → AsksOnly (if enough then dialog else over (Err wanted))
       by_room true = only
       by_room false = tt
+
+  pub asks_room_if : {A E : Type 0} (wants : Bool) (wanted : E) (dialog : Dialog (Result A E)) → AsksOnly dialog → AsksOnly (with_room_if wants wanted dialog)
+  asks_room_if true wanted dialog only = asks_room wanted dialog only
+  asks_room_if false wanted dialog only = only
 
   pub all_asked : {A : Type 0} (manner : Manner) (dialog : Dialog A) (part : List Exchange) (result : A) → AsksOnly dialog → Held manner dialog part result → AllByRecursion (λ x. P x.op × CanReply x.op x.reply) part
   unfolding Held
@@ -143,10 +144,6 @@ fetch_goes (Fetch table start stop hold part) (Ended place) fetch can = absurd c
 fetch_goes (Fetch table start stop hold part) reply fetch can = refl
 fetch_goes op reply fetch can = absurd fetch
 
-fetch_writes : (op : Op) (t : TableName) (x : List Value) → IsFetch op → writes_at op t x ≡ false
-fetch_writes (Fetch table start stop hold part) t x fetch = refl
-fetch_writes op t x fetch = absurd fetch
-
 fetches_own : (part : List Exchange) (stand : Progress) → AskOnly IsFetch part → (progress_from stand part).own ≡ stand.own
 fetches_own [] stand all = refl
 fetches_own (x ∷ part) stand all = fetches_own part (progress_after stand x.op x.reply) all.1 ∙ fetch_own stand x.op x.reply all.0.0 all.0.1
@@ -155,24 +152,8 @@ fetches_go : (part : List Exchange) → AskOnly IsFetch part → NoneEnds part
 fetches_go [] all = tt
 fetches_go (x ∷ part) all = (fetch_goes x.op x.reply all.0.0 all.0.1, fetches_go part all.1)
 
-fetches_asked : (part : List Exchange) (so_far : Bool) (t : TableName) (x : List Value) → AskOnly IsFetch part → asked_from so_far part t x ≡ so_far
-fetches_asked [] so_far t x all = refl
-fetches_asked (e ∷ part) so_far t x all =
-    fetches_asked part (asked_after so_far e t x) t x all.1
-    ∙ ap (λ (b : Bool). if b then false else (so_far || writes_at e.op t x)) (fetch_goes e.op e.reply all.0.0 all.0.1)
-    ∙ ap (λ (b : Bool). so_far || b) (fetch_writes e.op t x all.0.0) ∙ or_false so_far
-  where
-    or_false : (b : Bool) → b || false ≡ b
-    or_false true = refl
-    or_false false = refl
-
-pub asked_both : (so_far : Bool) (first second : List Exchange) (t : TableName) (x : List Value) → asked_from so_far (first ++ second) t x ≡ asked_from (asked_from so_far first t x) second t x
-asked_both so_far [] second t x = refl
-asked_both so_far (e ∷ first) second t x = asked_both (asked_after so_far e t x) first second t x
-
 pub fetches_leave : FetchesLeave
 fetches_leave before part all = record {
   own = ap (λ (p : Progress). p.own) (from_both none_open before part) ∙ fetches_own part (progress_of before) all;
-  asked = λ t x. asked_both false before part t x ∙ fetches_asked part (has_asked before t x) t x all;
   goes_on = fetches_go part all;
 }

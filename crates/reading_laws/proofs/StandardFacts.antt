@@ -1,10 +1,12 @@
--- Why keys of one table have as many values: a key that another one begins is passed over.
+-- Why keys of one table that have a row have as many values: a key that another one begins is passed over; and where a range goes on
+-- behind a key without a row.
 use Rattle.std.proofs.Common.{◌≡◌, false, true, List, [], ◌∷◌, refl, pos}
 use Rattle.value_types.specs.declared.value.Value.{Value}
 use Rattle.value_types.specs.declared.value.Value.TheVariants.{Whole}
 use Rattle.step_model.specs.declared.range.Start.TheVariants.{At, Past}
 use Rattle.step_model.specs.declared.range.Stop.TheVariants.{Within}
 use Rattle.step_model.specs.Database.{allows, is_within}
+use Rattle.dml_exec.specs.Reading.{behind_gone}
 
 abbrev short : List Value
 short = Whole (pos 1) ∷ []
@@ -19,3 +21,11 @@ passed_over = refl
 -- and a range of the one key has both.
 both_within : is_within (At short) (Within short) long ≡ true
 both_within = refl
+
+-- Behind a short key without a row, in a table of longer keys, it isn't: the fetch goes on from the lowest key that begins with it,
+not_passed : allows (behind_gone 2 short) long ≡ true
+not_passed = refl
+
+-- and so that key is not met again.
+not_again : allows (behind_gone 2 short) short ≡ false
+not_again = refl

@@ -1,6 +1,5 @@
 -- Rows that were found one fetch behind another, and one whole key.
 use Rattle.std.proofs.Common.{◌≡◌, ℕ, true, false, not, List, [], ◌∷◌, length, None, IsTrue, refl, sym, ap, subst, ◌∙◌, arith}
-use Rattle.std.specs.Prelude.{IsSome}
 use Rattle.std.specs.List.{AllByRecursion}
 use Rattle.std.specs.Cmp.{tied_itself}
 use Rattle.std.specs.Ordering.{is_eq, is_lt}
@@ -16,7 +15,7 @@ use Rattle.step_model.specs.declared.op.Hold.TheVariants.{Range}
 use Rattle.step_model.specs.declared.op.Op.{Op}
 use Rattle.step_model.specs.declared.op.Op.TheVariants.{Fetch}
 use Rattle.step_model.specs.declared.range.Start.{Start}
-use Rattle.step_model.specs.declared.range.Start.TheVariants.{At, Past}
+use Rattle.step_model.specs.declared.range.Start.TheVariants.{At}
 use Rattle.step_model.specs.declared.range.Stop.{Stop}
 use Rattle.step_model.specs.declared.range.Stop.TheVariants.{Within}
 use Rattle.step_model.specs.declared.reply.Reply.{Reply}
@@ -26,49 +25,47 @@ use Rattle.step_model.specs.Exchange.{CanReply, Exchange}
 use Rattle.step_model.specs.Fits.{AnswersIn}
 use Rattle.constraint_check.specs.Laws.{KeysAreOne}
 use Rattle.history_laws.proofs.Basics.{both}
+use Rattle.dml_exec.specs.Reading.{behind_gone}
 use Rattle.reading_laws.specs.Laws.{KeyTold, WalkRead}
-use Rattle.reading_laws.specs.Reads.{at_place, AskOnly, FindsBy, GoneHas, HoldsIt, KeysHave, Tells, Walks}
-use Rattle.reading_laws.proofs.Entries.{Entry, gone_in, none_in, row_in}
+use Rattle.reading_laws.specs.Reads.{at_place, AskOnly, FindsBy, HoldsIt, KeysHave, Tells, Walks}
+use Rattle.reading_laws.proofs.Entries.{Entry, gone_on, none_in, row_behind}
 use Rattle.reading_laws.proofs.Keys.{one_key}
 use Rattle.reading_laws.proofs.Parts.{answers, one_place}
 
-module _ (db : Database) (one : KeysAreOne db) (table : TableName) (stop : Stop) (lock : KeyPart) (sizes : TableName → ℕ) (long : KeysHave (sizes table) db table) where
+module _ (db : Database) (one : KeysAreOne db) (table : TableName) (stop : Stop) (lock : KeyPart) (width : ℕ) (long : KeysHave width db table) where
   abbrev fetch : Start → Op
   fetch start = Fetch table start stop Range lock
 
-  all_long : (key : List Value) → length key ≡ sizes table → (k : List Value) → IsSome (db table k) → length k ≡ length key
-  all_long key is k some = long k some ∙ sym is
-
-  walked : (part : List Exchange) (start : Start) (entries : List Entry) → Walks table stop lock start part entries → AllByRecursion (λ x. AnswersIn db x.op x.reply) part → AllByRecursion (λ x. GoneHas sizes x.op x.reply) part → In db table start stop entries
-  walked [] start entries walks answered told = absurd walks
-  walked (x ∷ later) start entries walks answered told =
-      by_reply x.reply (subst (λ (op : Op). CanReply op x.reply) walks.0 walks.1) (subst (λ (op : Op). AnswersIn db op x.reply) walks.0 answered.0) (subst (λ (op : Op). GoneHas sizes op x.reply) walks.0 told.0) walks.2
-      (λ key rest walks. walked later (Past key) rest walks answered.1 told.1)
+  walked : (part : List Exchange) (start : Start) (entries : List Entry) → Walks width table stop lock start part entries → AllByRecursion (λ x. AnswersIn db x.op x.reply) part → In db table start stop entries
+  walked [] start entries walks answered = absurd walks
+  walked (x ∷ later) start entries walks answered =
+      by_reply x.reply (subst (λ (op : Op). CanReply op x.reply) walks.0 walks.1) (subst (λ (op : Op). AnswersIn db op x.reply) walks.0 answered.0) walks.2
+      (λ key rest walks. walked later (behind_gone width key) rest walks answered.1)
     where
-      by_reply : (reply : Reply) → CanReply (fetch start) reply → AnswersIn db (fetch start) reply → GoneHas sizes (fetch start) reply → FindsBy (λ key rest. Walks table stop lock (Past key) later rest) later entries reply
-          → ((key : List Value) (rest : List Entry) → Walks table stop lock (Past key) later rest → In db table (Past key) stop rest) → In db table start stop entries
-      by_reply (Row key row at) can answer told finds goes =
-          subst (λ (all : List Entry). In db table start stop all) (sym finds.1) (row_in db table start stop key finds.0 (goes key finds.0 finds.2) row answer.0 answer.1 (all_long key (long key (rw answer.1 refl))))
-      by_reply (Gone key at) can answer told finds goes =
-          gone_in db table start stop key entries (goes key entries finds) one (both (allows start key) (includes stop key) can).0 answer.0 answer.1 (all_long key told)
-      by_reply (End at) can answer told finds goes = subst (λ (all : List Entry). In db table start stop all) (sym finds.1) (none_in db table start stop answer)
-      by_reply reply can answer told finds goes = absurd finds
+      by_reply : (reply : Reply) → CanReply (fetch start) reply → AnswersIn db (fetch start) reply → FindsBy (λ key rest. Walks width table stop lock (behind_gone width key) later rest) later entries reply
+          → ((key : List Value) (rest : List Entry) → Walks width table stop lock (behind_gone width key) later rest → In db table (behind_gone width key) stop rest) → In db table start stop entries
+      by_reply (Row key row at) can answer finds goes =
+          subst (λ (all : List Entry). In db table start stop all) (sym finds.1) (row_behind db table width long start stop key finds.0 row answer.0 answer.1 (goes key finds.0 finds.2))
+      by_reply (Gone key at) can answer finds goes =
+          gone_on db table width long start stop key entries one (both (allows start key) (includes stop key) can).0 answer.0 answer.1 (goes key entries finds)
+      by_reply (End at) can answer finds goes = subst (λ (all : List Entry). In db table start stop all) (sym finds.1) (none_in db table start stop answer)
+      by_reply reply can answer finds goes = absurd finds
 
 -- each of them fetches a range that it holds
-walk_asks : (table : TableName) (stop : Stop) (lock : KeyPart) (part : List Exchange) (start : Start) (entries : List Entry) → Walks table stop lock start part entries → AskOnly HoldsIt part
-walk_asks table stop lock [] start entries walks = tt
-walk_asks table stop lock (x ∷ later) start entries walks = ((subst HoldsIt (sym walks.0) tt, walks.1), by_reply x.reply walks.2 (λ key rest walks. walk_asks table stop lock later (Past key) rest walks))
+walk_asks : (width : ℕ) (table : TableName) (stop : Stop) (lock : KeyPart) (part : List Exchange) (start : Start) (entries : List Entry) → Walks width table stop lock start part entries → AskOnly HoldsIt part
+walk_asks width table stop lock [] start entries walks = tt
+walk_asks width table stop lock (x ∷ later) start entries walks = ((subst HoldsIt (sym walks.0) tt, walks.1), by_reply x.reply walks.2 (λ key rest walks. walk_asks width table stop lock later (behind_gone width key) rest walks))
   where
-    by_reply : (reply : Reply) → FindsBy (λ key rest. Walks table stop lock (Past key) later rest) later entries reply → ((key : List Value) (rest : List Entry) → Walks table stop lock (Past key) later rest → AskOnly HoldsIt later) → AskOnly HoldsIt later
+    by_reply : (reply : Reply) → FindsBy (λ key rest. Walks width table stop lock (behind_gone width key) later rest) later entries reply → ((key : List Value) (rest : List Entry) → Walks width table stop lock (behind_gone width key) later rest → AskOnly HoldsIt later) → AskOnly HoldsIt later
     by_reply (Row key row at) finds goes = goes key finds.0 finds.2
     by_reply (Gone key at) finds goes = goes key entries finds
     by_reply (End at) finds goes = subst (AskOnly HoldsIt) (sym finds.0) tt
     by_reply reply finds goes = absurd finds
 
 pub walk_read : WalkRead
-walk_read log mine before part later table start stop lock entries sizes is holds walks long told =
-    walked (at_place log before later) (one_place log before later) table stop lock sizes long part start entries walks
-    (answers log mine before part later is holds (walk_asks table stop lock part start entries walks)) told
+walk_read log mine before part later width table start stop lock entries is holds walks long =
+    walked (at_place log before later) (one_place log before later) table stop lock width long part start entries walks
+    (answers log mine before part later is holds (walk_asks width table stop lock part start entries walks))
 
 -- ---- one whole key
 

@@ -1,5 +1,5 @@
 -- Changes that were made and checked.
-use Rattle.std.proofs.Common.{◌≡◌, ℕ, Bool, true, false, if◌then◌else◌, List, [], ◌∷◌, ◌++◌, length, map, take, Result, Ok, Err, refl, sym, ap, subst, ◌∙◌, append-nil, append_assoc}
+use Rattle.std.proofs.Common.{◌≡◌, ℕ, Bool, true, false, if◌then◌else◌, List, [], ◌∷◌, ◌++◌, length, map, take, Some, Result, Ok, Err, refl, sym, ap, subst, ◌∙◌, append-nil, append_assoc}
 use Rattle.std.specs.List.{AllByRecursion}
 use Rattle.std.proofs.lemmas.List.{map-append}
 use Rattle.value_types.specs.declared.table_name.TableName.{TableName}
@@ -23,16 +23,17 @@ use Rattle.step_model.proofs.Databases.{With-append}
 use Rattle.constraint_check.specs.Laws.{behind}
 use Rattle.constraint_check.specs.Reads.{reads_for}
 use Rattle.constraint_check.proofs.Behind.{one_behind}
-use Rattle.constraint_check.proofs.Lists.{all_more, all_right}
+use Rattle.constraint_check.proofs.Lists.{all_more}
 use Rattle.dml_exec.specs.declared.refusal.Refusal.{Refusal}
 use Rattle.dml_exec.specs.declared.refusal.Refusal.TheVariants.{Memory}
+use Rattle.dml_exec.specs.declared.written.Attempt.{Attempt}
 use Rattle.dml_exec.specs.declared.written.Written.{Written}
 use Rattle.dml_exec.specs.declared.written.Written.TheVariants as written
 use Rattle.dml_exec.specs.Asking.{with_room}
-use Rattle.dml_exec.specs.Writing.{asks_deed, checks_all, done_by, ends, marked, no_room, outcome, present, where_done, works, writes, writes_all, writes_one}
+use Rattle.dml_exec.specs.Writing.{asks_deed, attempts, checks_all, done_by, ends, marked, no_room, outcome, present, told, where_done, works, writes, writes_all, writes_one}
 use Rattle.dml_exec.proofs.Halts.{by_outcome}
 use Rattle.reading_laws.specs.Laws.{WritesLeave, WritesPass}
-use Rattle.reading_laws.specs.Reads.{at_place, key_size, AllFit, GoneHas, IsReadable, HoldsIt}
+use Rattle.reading_laws.specs.Reads.{at_place, AllFit, IsReadable, HoldsIt}
 use Rattle.reading_laws.proofs.Checks.{all_fetches, all_passed}
 use Rattle.reading_laws.proofs.Dialogs.{held_both, held_ok, held_room, ok_err}
 use Rattle.reading_laws.proofs.Parts.{IsFetched, all_asked, answers, from_both, one_place, own_stays}
@@ -116,32 +117,33 @@ module _ (manner : Manner) (shapes : List TableTree) where
   not_refused : (mark : ℕ) (number : _) (name : List ℕ) → IsNot mark (Ok (written.Refused number name))
   not_refused mark number name is = absurd (let no : Ok (written.Done mark) ≡ Ok (written.Refused number name) = is in cc)
 
-  taken_back : (mark : ℕ) (why : _) (reply : Reply) (part : List Exchange) → Held manner (where_done (over (outcome why)) reply) part (Ok (written.Done mark)) → ⊥
+  taken_back : (mark set : ℕ) (why : _) (reply : Reply) (part : List Exchange) (attempt : Attempt) → Held manner (where_done (over (told (Some set) (outcome why))) reply) part attempt → attempt.came ≡ Ok (written.Done mark) → ⊥
   unfolding Held
-  taken_back mark why replies.Done part held = by_outcome (IsNot mark) (not_refused mark) (λ refusal is. ok_err (written.Done mark) refusal is) why held.1
-  taken_back mark why reply part held = held
+  taken_back mark set why replies.Done part attempt held is =
+      by_outcome (IsNot mark) (not_refused mark) (λ refusal is. ok_err (written.Done mark) refusal is) why (sym is ∙ ap (λ (attempt : Attempt). attempt.came) held.1)
+  taken_back mark set why reply part attempt held is = held
 
-  was_kept : (mark set : ℕ) (came : Result (Unit {0}) _) (part : List Exchange) → Held manner (ends set came) part (Ok (written.Done mark)) → (came ≡ Ok tt) × (part ≡ [])
+  was_kept : (mark set : ℕ) (came : Result (Unit {0}) _) (part : List Exchange) (attempt : Attempt) → Held manner (ends set came) part attempt → attempt.came ≡ Ok (written.Done mark) → (came ≡ Ok tt) × (part ≡ [])
   unfolding Held
-  was_kept mark set (Ok done) part held = (refl, held.0)
-  was_kept mark set (Err why) [] held = absurd held
-  was_kept mark set (Err why) (x ∷ part) held = absurd (taken_back mark why x.reply part held.3)
+  was_kept mark set (Ok done) part attempt held is = (refl, held.0)
+  was_kept mark set (Err why) [] attempt held is = absurd held
+  was_kept mark set (Err why) (x ∷ part) attempt held is = absurd (taken_back mark set why x.reply part attempt held.3 is)
 
-  marked_wrote : (changes : List Planned) (mark : ℕ) (reply : Reply) (part : List Exchange) → Held manner (marked shapes changes reply) part (Ok (written.Done mark)) → Wrote changes part
+  marked_wrote : (changes : List Planned) (mark : ℕ) (reply : Reply) (part : List Exchange) (attempt : Attempt) → Held manner (marked shapes changes reply) part attempt → attempt.came ≡ Ok (written.Done mark) → Wrote changes part
   unfolding Held
-  marked_wrote changes mark (replies.Marked set) part held =
-      let h = held_both manner (works shapes changes) (ends set) part (Ok (written.Done mark)) held in
-      let was = was_kept mark set h.came h.second h.more in
+  marked_wrote changes mark (replies.Marked set) part attempt held is =
+      let h = held_both manner (works shapes changes) (ends set) part attempt held in
+      let was = was_kept mark set h.came h.second attempt h.more is in
       subst (Wrote changes) (sym (h.parts ∙ ap (λ (xs : List Exchange). h.first ++ xs) was.1 ∙ append-nil h.first))
       (works_wrote changes h.first tt (subst (λ (r : Result (Unit {0}) _). Held manner (works shapes changes) h.first r) was.0 h.held))
-  marked_wrote changes mark replies.Memory part held = absurd (ok_err (written.Done mark) Memory held.1)
-  marked_wrote changes mark reply part held = absurd held
+  marked_wrote changes mark replies.Memory part attempt held is = absurd (ok_err (written.Done mark) Memory (sym is ∙ ap (λ (attempt : Attempt). attempt.came) held.1))
+  marked_wrote changes mark reply part attempt held is = absurd held
 
-  pub wrote : (changes : List Planned) (mark : ℕ) (part : List Exchange) → Held manner (writes shapes changes) part (Ok (written.Done mark)) → Wrote changes part
-  unfolding Held writes
-  wrote changes mark [] held = absurd held
-  wrote changes mark (x ∷ part) held =
-      let w = marked_wrote changes mark x.reply part held.3 in
+  attempt_wrote : (changes : List Planned) (mark : ℕ) (part : List Exchange) (attempt : Attempt) → Held manner (attempts shapes changes) part attempt → attempt.came ≡ Ok (written.Done mark) → Wrote changes part
+  unfolding Held attempts
+  attempt_wrote changes mark [] attempt held is = absurd held
+  attempt_wrote changes mark (x ∷ part) attempt held is =
+      let w = marked_wrote changes mark x.reply part attempt held.3 is in
       record {
         made = x ∷ w.made;
         read = w.read;
@@ -157,6 +159,12 @@ module _ (manner : Manner) (shapes : List TableTree) where
           by_reply (replies.Ended place) can = absurd can
           by_reply (replies.Marked set) can = refl
           by_reply reply can = append-nil stand.own
+
+  pub wrote : (changes : List Planned) (mark : ℕ) (part : List Exchange) → Held manner (writes shapes changes) part (Ok (written.Done mark)) → Wrote changes part
+  unfolding Held writes
+  wrote changes mark part held =
+      let h = held_both manner (attempts shapes changes) (λ attempt. over attempt.came) part (Ok (written.Done mark)) held in
+      subst (Wrote changes) (sym (h.parts ∙ ap (λ (xs : List Exchange). h.first ++ xs) h.more.0 ∙ append-nil h.first)) (attempt_wrote changes mark h.first h.came h.held (sym h.more.1))
 
 -- ---- the database behind the changes
 
@@ -185,7 +193,7 @@ pub writes_leave : WritesLeave
 writes_leave log before part later manner shapes changes mark held = behind_made log before later changes manner shapes part (whole_adds manner shapes changes mark part held)
 
 pub writes_pass : WritesPass
-writes_pass log mine before part later manner shapes changes mark is holds held fit parents told =
+writes_pass log mine before part later manner shapes changes mark is holds held fit parents =
     let w = wrote manner shapes changes mark part held in
     let reads = reads_for changes shapes in
     let db = behind (at_place log before later) changes in
@@ -197,5 +205,4 @@ writes_pass log mine before part later manner shapes changes mark is holds held 
     (answers log mine (before ++ w.made) w.read later split holds (all_asked HoldsIt manner (checks_all shapes reads) w.read (Ok tt) (all_fetches shapes reads) w.checked)) in
     all_passed manner shapes db (one_behind changes (at_place log before later) (one_place log before later)) reads w.read
     (all_more (IsGoodRead shapes parents) (λ read. AllFit db shapes read.range.table) (λ read h. fit_there db shapes fit read.range.table h.0) reads good)
-    (all_more (IsGoodRead shapes parents) (λ read. IsReadable shapes read.range) (λ read h. h.1) reads good) answered
-    (all_right (λ (x : Exchange). GoneHas (key_size shapes) x.op x.reply) w.made w.read (subst (λ (xs : List Exchange). AllByRecursion (λ x. GoneHas (key_size shapes) x.op x.reply) xs) w.parts told)) w.checked
+    (all_more (IsGoodRead shapes parents) (λ read. IsReadable shapes read.range) (λ read h. h.1) reads good) answered w.checked

@@ -1,5 +1,5 @@
 -- Own: the laws of what a transaction reads.
-use Rattle.std.specs.Prelude.{◌≡◌, ℕ, suc, ◌≤◌, ◌+◌, Bool, true, List, [], ◌∷◌, ◌++◌, length, map, take, slice_get, None, Some, Result, Ok, IsTrue}
+use Rattle.std.specs.Prelude.{◌≡◌, ℕ, suc, ◌≤◌, ◌+◌, Bool, true, List, [], ◌∷◌, ◌++◌, length, map, take, slice_get, Option, None, Some, Result, Ok}
 use Rattle.std.specs.List.{AllByRecursion}
 use Rattle.lock_modes.specs.declared.KeyPart.{KeyPart}
 use Rattle.value_types.specs.declared.table_name.TableName.{TableName}
@@ -27,7 +27,7 @@ use Rattle.step_model.specs.Dialog.{Held}
 use Rattle.step_model.specs.Exchange.{CanReply, Exchange}
 use Rattle.step_model.specs.Fits.{Fits, AnswersIn, commit_of, commits_once, fetches_current, inserts_fresh, ranges_hold, without_waits, NoneEnds}
 use Rattle.step_model.specs.Log.{Commit as Logged, State}
-use Rattle.step_model.specs.Ranges.{Keeps, Rows}
+use Rattle.step_model.specs.Ranges.{Rows}
 use Rattle.constraint_check.specs.declared.check_read.CheckRead.{CheckRead}
 use Rattle.constraint_check.specs.Reads.{reads_for, shape_of}
 use Rattle.constraint_check.specs.Laws.{KeysAreOne, Passes, behind}
@@ -36,25 +36,24 @@ use Rattle.dml_exec.specs.declared.refusal.Level.{Level}
 use Rattle.dml_exec.specs.declared.refusal.Level.TheVariants.{Serializable}
 use Rattle.dml_exec.specs.declared.refusal.Refusal.{Refusal}
 use Rattle.dml_exec.specs.Planning.{Chg, table_written}
-use Rattle.dml_exec.specs.Reading.{fetch_of, images_of, reads_of, rows_in}
+use Rattle.dml_exec.specs.Reading.{fetch_of, fits, images_of, key_width, reads_of, rows_in}
 use Rattle.dml_exec.specs.Writing.{checks_all, writes}
 use Rattle.step_model.specs.Runs.{Asked, Run, mine_of, opening}
 use Rattle.step_model.specs.State.{Engine}
-use Rattle.reading_laws.specs.Gone.{gone_own, has_asked}
 use Rattle.reading_laws.specs.Once.{KeyFits, WroteOnce}
-use Rattle.reading_laws.specs.Reads.{at_place, key_size, AllFit, AreImages, AskOnly, GoneHas, HaveParents, HoldsIt, IfOne, IsFetch, IsOneKey, IsRead, IsReadable, KeysHave, RowsFit, Tells, Walks, WereRead}
+use Rattle.reading_laws.specs.Reads.{at_place, key_size, AllFit, AreImages, AskOnly, HaveParents, HoldsIt, IfOne, IsFetch, IsOneKey, IsRead, IsReadable, KeysHave, RowsFit, Tells, Walks, WereRead}
 
 -- a range that was read and held has the rows that the database has there at the transaction's place
 abbrev pub RangeRead : Type 0
-RangeRead = (log : List Logged) (mine before part later : List Exchange) (manner : Manner) (keeps : Keeps) (one : Bool) (range : KeyRange) (lock : KeyPart) (rows : Rows) (sizes : TableName → ℕ)
-    → mine ≡ before ++ (part ++ later) → ranges_hold log mine → Held manner (rows_in keeps one (fetch_of range Range lock)) part (Ok rows)
-    → KeysHave (sizes range.table) (at_place log before later) range.table → IfOne one (IsOneKey (sizes range.table) range.start range.stop) → AllByRecursion (λ exchange. GoneHas sizes exchange.op exchange.reply) part
-    → IsRead (at_place log before later) keeps range rows
+RangeRead = (log : List Logged) (mine before part later : List Exchange) (manner : Manner) (shape : Option TableTree) (one : Bool) (range : KeyRange) (lock : KeyPart) (rows : Rows)
+    → mine ≡ before ++ (part ++ later) → ranges_hold log mine → Held manner (rows_in shape one (fetch_of range Range lock)) part (Ok rows)
+    → KeysHave (key_width shape) (at_place log before later) range.table → IfOne one (IsOneKey (key_width shape) range.start range.stop)
+    → IsRead (at_place log before later) (fits shape) range rows
 
 -- of a range that was not held each row is as it was at its own number
 abbrev pub RowsCurrent : Type 0
-RowsCurrent = (log : List Logged) (mine before part later : List Exchange) (manner : Manner) (keeps : Keeps) (one : Bool) (range : KeyRange) (hold : Hold) (lock : KeyPart) (rows : Rows)
-    → mine ≡ before ++ (part ++ later) → fetches_current log mine → Held manner (rows_in keeps one (fetch_of range hold lock)) part (Ok rows) → WereRead log before keeps range rows
+RowsCurrent = (log : List Logged) (mine before part later : List Exchange) (manner : Manner) (shape : Option TableTree) (one : Bool) (range : KeyRange) (hold : Hold) (lock : KeyPart) (rows : Rows)
+    → mine ≡ before ++ (part ++ later) → fetches_current log mine → Held manner (rows_in shape one (fetch_of range hold lock)) part (Ok rows) → WereRead log before (fits shape) range rows
 
 -- all exchanges that fetch by ranges, which they hold, are answered of one database
 abbrev pub PartAnswers : Type 0
@@ -64,7 +63,6 @@ PartAnswers = (log : List Logged) (mine before part later : List Exchange) → m
 -- fetches leave their transaction as it was
 pub record Leaves (before part : List Exchange) : Type 0 where
   pub own : (progress_of (before ++ part)).own ≡ (progress_of before).own
-  pub asked : (t : TableName) (x : List Value) → has_asked (before ++ part) t x ≡ has_asked before t x
   pub goes_on : NoneEnds part
 
 abbrev pub FetchesLeave : Type 0
@@ -72,9 +70,8 @@ FetchesLeave = (before part : List Exchange) → AskOnly IsFetch part → Leaves
 
 -- rows that were found one fetch behind another are those of the range
 abbrev pub WalkRead : Type 0
-WalkRead = (log : List Logged) (mine before part later : List Exchange) (table : TableName) (start : Start) (stop : Stop) (lock : KeyPart) (entries : List (List Value × List Value)) (sizes : TableName → ℕ)
-    → mine ≡ before ++ (part ++ later) → ranges_hold log mine → Walks table stop lock start part entries
-    → KeysHave (sizes table) (at_place log before later) table → AllByRecursion (λ exchange. GoneHas sizes exchange.op exchange.reply) part
+WalkRead = (log : List Logged) (mine before part later : List Exchange) (width : ℕ) (table : TableName) (start : Start) (stop : Stop) (lock : KeyPart) (entries : List (List Value × List Value))
+    → mine ≡ before ++ (part ++ later) → ranges_hold log mine → Walks width table stop lock start part entries → KeysHave width (at_place log before later) table
     → In (at_place log before later) table start stop entries
 
 -- and what is told of one whole key is so
@@ -91,9 +88,9 @@ ImagesFetch = (manner : Manner) (shapes : List TableTree) (level : Level) (of : 
 
 -- images that were read at the highest level are those of the database at the transaction's place
 abbrev pub ImagesRead : Type 0
-ImagesRead = (log : List Logged) (mine before part later : List Exchange) (manner : Manner) (shapes : List TableTree) (of : Bound) (images : List Rows) (sizes : TableName → ℕ)
+ImagesRead = (log : List Logged) (mine before part later : List Exchange) (manner : Manner) (shapes : List TableTree) (of : Bound) (images : List Rows)
     → mine ≡ before ++ (part ++ later) → ranges_hold log mine → Held manner (images_of shapes Serializable of) part (Ok images)
-    → AllByRecursion (λ read. KeysHave (sizes read.0) (at_place log before later) read.0) (reads_of of) → AllByRecursion (λ exchange. GoneHas sizes exchange.op exchange.reply) part
+    → AllByRecursion (λ read. KeysHave (key_size shapes read.0) (at_place log before later) read.0) (reads_of of)
     → AreImages (at_place log before later) shapes (reads_of of) images
 
 -- ---- checks
@@ -103,7 +100,6 @@ abbrev pub ChecksRead : Type 0
 ChecksRead = (log : List Logged) (mine before part later : List Exchange) (manner : Manner) (shapes : List TableTree) (reads : List CheckRead)
     → mine ≡ before ++ (part ++ later) → ranges_hold log mine → Held manner (checks_all shapes reads) part (Ok tt)
     → AllByRecursion (λ read. AllFit (at_place log before later) shapes read.range.table) reads → AllByRecursion (λ read. IsReadable shapes read.range) reads
-    → AllByRecursion (λ exchange. GoneHas (key_size shapes) exchange.op exchange.reply) part
     → AllByRecursion (Passes (at_place log before later)) reads
 
 -- What is read for changes is read so, where the rows of all tables fit and each FOREIGN KEY has its parent.
@@ -118,7 +114,7 @@ ReadsReady = (db : Database) (shapes : List TableTree) (changes : List Planned) 
 abbrev pub WritesPass : Type 0
 WritesPass = (log : List Logged) (mine before part later : List Exchange) (manner : Manner) (shapes : List TableTree) (changes : List Planned) (mark : ℕ)
     → mine ≡ before ++ (part ++ later) → ranges_hold log mine → Held manner (writes shapes changes) part (Ok (Done mark))
-    → AllByRecursion (RowsFit (behind (at_place log before later) changes)) shapes → HaveParents shapes → AllByRecursion (λ exchange. GoneHas (key_size shapes) exchange.op exchange.reply) part
+    → AllByRecursion (RowsFit (behind (at_place log before later) changes)) shapes → HaveParents shapes
     → AllByRecursion (Passes (behind (at_place log before later) changes)) (reads_for changes shapes)
 
 -- and that is the database with which the transaction goes on
@@ -172,17 +168,6 @@ abbrev pub NextState : Type 0
 NextState = (asked : List Asked) (engine : Engine) → Run opening asked engine → (session place : ℕ) (changes : List Change) → slice_get engine.log place ≡ Some (record { session = session; changes = changes })
     → (has : HasCommit (without_waits (mine_of session asked)) place changes) × (State (take (suc place) engine.log) ≡ behind (State (take place engine.log)) (progress_of has.before).own)
 
--- ---- keys without a row
-
--- In every run a fetch is told of no key without a row but those that its own transaction has asked to write.
-abbrev pub RunsGone : Type 0
-RunsGone = (asked : List Asked) (engine : Engine) → Run opening asked engine → (session : ℕ) → gone_own (without_waits (mine_of session asked))
-
--- So these have as many values as the keys that it writes.
-abbrev pub GoneSized : Type 0
-GoneSized = (mine before part later : List Exchange) (sizes : TableName → ℕ) → mine ≡ before ++ (part ++ later) → gone_own mine → NoneEnds part
-    → ((t : TableName) (x : List Value) → IsTrue (has_asked (before ++ part) t x) → length x ≡ sizes t) → AllByRecursion (λ exchange. GoneHas sizes exchange.op exchange.reply) part
-
 -- ---- a transaction that wrote once
 
 -- Its commit leaves the database at its place behind its changes.
@@ -194,8 +179,7 @@ OnceLeaves = (session : ℕ) (begin log : List Logged) (mine : List Exchange) (s
 -- And there what is read for its changes passes, if the rows of all tables fit there.
 abbrev pub OncePasses : Type 0
 OncePasses = (log : List Logged) (mine : List Exchange) (shapes : List TableTree) (changes : List Planned) (place : ℕ)
-    → ranges_hold log mine → gone_own mine → WroteOnce mine shapes changes place
-    → AllByRecursion (KeyFits shapes) changes → HaveParents shapes → AllByRecursion (RowsFit (behind (State (take place log)) changes)) shapes
+    → ranges_hold log mine → WroteOnce mine shapes changes place → HaveParents shapes → AllByRecursion (RowsFit (behind (State (take place log)) changes)) shapes
     → AllByRecursion (Passes (behind (State (take place log)) changes)) (reads_for changes shapes)
 
 -- The keys of what a write plans have as many values as the key of its table.

@@ -1,8 +1,6 @@
 -- Own: a transaction that wrote once: it had written nothing, then changes were made and checked, and then it has written
 -- nothing more until its commit.
-use Rattle.std.specs.Prelude.{◌≡◌, ℕ, false, List, [], ◌∷◌, ◌++◌, length, Ok}
-use Rattle.value_types.specs.declared.table_name.TableName.{TableName}
-use Rattle.value_types.specs.declared.value.Value.{Value}
+use Rattle.std.specs.Prelude.{◌≡◌, ℕ, List, [], ◌∷◌, ◌++◌, length, Ok}
 use Rattle.tsql_tree.specs.declared.definition.TableTree.{TableTree}
 use Rattle.step_model.specs.declared.change.Planned.{Planned}
 use Rattle.step_model.specs.declared.manner.Manner.{Manner}
@@ -14,7 +12,6 @@ use Rattle.step_model.specs.Fits.{NoneEnds}
 use Rattle.step_model.specs.Own.{progress_of}
 use Rattle.dml_exec.specs.declared.written.Written.TheVariants.{Done}
 use Rattle.dml_exec.specs.Writing.{writes}
-use Rattle.reading_laws.specs.Gone.{has_asked}
 use Rattle.reading_laws.specs.Reads.{key_size}
 
 -- the key has as many values as its table's
@@ -29,7 +26,6 @@ pub record WroteOnce (mine : List Exchange) (shapes : List TableTree) (changes :
   pub commit : Exchange
   pub later : List Exchange
   pub split : mine ≡ front ++ (part ++ (between ++ commit ∷ later))
-  pub unasked : (t : TableName) (x : List Value) → has_asked front t x ≡ false
   pub unwritten : (progress_of front).own ≡ []
   pub manner : Manner
   pub mark : ℕ

@@ -11,7 +11,7 @@ use Rattle.tsql_tree.specs.declared.definition.TableTree.{TableTree}
 use Rattle.clause_binder.specs.Scope.{key_places}
 use Rattle.step_model.specs.declared.range.KeyRange.{KeyRange}
 use Rattle.step_model.specs.declared.range.Start.{Start}
-use Rattle.step_model.specs.declared.range.Start.TheVariants.{First, At, Past}
+use Rattle.step_model.specs.declared.range.Start.TheVariants.{First, At}
 use Rattle.step_model.specs.declared.range.Stop.{Stop}
 use Rattle.step_model.specs.declared.range.Stop.TheVariants.{Last, Within}
 use Rattle.lock_modes.specs.declared.KeyPart.{KeyPart}
@@ -28,7 +28,7 @@ use Rattle.step_model.specs.Ranges.{Keeps, Rows}
 use Rattle.catalog_rows.specs.Rows.{row_fits}
 use Rattle.constraint_check.specs.Integrity.{Stands}
 use Rattle.constraint_check.specs.Reads.{places_of, rows_table, shape_of}
-use Rattle.dml_exec.specs.Reading.{TableRead, fits}
+use Rattle.dml_exec.specs.Reading.{TableRead, behind_gone, fits}
 use Rattle.dml_exec.specs.Writing.{is_one_key}
 
 -- what the database has at the place of a transaction, of which `later` is left, with its own changes so far
@@ -71,11 +71,12 @@ FindsBy GoesOn later entries (Gone key at) = GoesOn key entries
 FindsBy GoesOn later entries (End at) = (later ≡ []) × (entries ≡ [])
 FindsBy GoesOn later entries reply = ⊥
 
--- A range was fetched to its end, each fetch past the key that the one before it was told of, and these rows were found.
-abbrev pub Walks : TableName → Stop → KeyPart → Start → List Exchange → List (List Value × List Value) → Type 0
-Walks table stop lock start [] entries = ⊥
-Walks table stop lock start (exchange ∷ later) entries = (exchange.op ≡ Fetch table start stop Range lock) × CanReply exchange.op exchange.reply
-    × FindsBy (λ key rest. Walks table stop lock (Past key) later rest) later entries exchange.reply
+-- A range of a table whose keys have so many values was fetched to its end, each fetch from behind the key that the one before it was
+-- told of, and these rows were found.
+abbrev pub Walks : ℕ → TableName → Stop → KeyPart → Start → List Exchange → List (List Value × List Value) → Type 0
+Walks width table stop lock start [] entries = ⊥
+Walks width table stop lock start (exchange ∷ later) entries = (exchange.op ≡ Fetch table start stop Range lock) × CanReply exchange.op exchange.reply
+    × FindsBy (λ key rest. Walks width table stop lock (behind_gone width key) later rest) later entries exchange.reply
 
 -- what the reply to the fetch of one whole key says of it
 abbrev pub Tells : Database → TableName → List Value → Reply → Type 0
@@ -86,15 +87,10 @@ Tells db table key reply = Unit {0}
 
 -- ---- how long keys are
 
--- A fetch goes on past a key and all that begin with it, so a key that another one begins would be passed over: all keys of
--- a table that have a row have so many values.
+-- Behind a row a fetch goes on past its key and all that begin with it, so a key that another one begins would be passed over: all
+-- keys of a table that have a row have so many values. Of keys without a row nothing is asked.
 abbrev pub KeysHave : ℕ → Database → TableName → Type 0
 KeysHave size db table = (key : List Value) → IsSome (db table key) → length key ≡ size
-
--- and so has a key that is told to have no row
-abbrev pub GoneHas : (TableName → ℕ) → Op → Reply → Type 0
-GoneHas sizes (Fetch table start stop hold part) (Gone key at) = length key ≡ sizes table
-GoneHas sizes op reply = Unit {0}
 
 -- a range of one whole key
 abbrev pub IsOneKey : ℕ → Start → Stop → Type 0

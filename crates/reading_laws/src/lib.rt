@@ -2,14 +2,14 @@
 //! database, which stands at its place in the log; what is checked behind its changes passes there; and the next database
 //! of the log is that one, behind its changes.
 //!
-//! Read `specs/Reads.antt` first: what was read, in the database at the transaction's place. Then `specs/Gone.antt`,
-//! `specs/Once.antt` and `specs/Laws.antt`. The functions do nothing: each one's contract is a law of the dialogs of
-//! `dml_exec`, of what fits a log, and of runs of the engine (`step_model`). They ask nothing of their caller; only the
-//! definitions that they cite say what they mean. That a statement asks such parts is no part of this crate, nor is that a
-//! port's exchanges are those of a run.
+//! Read `specs/Reads.antt` first: what was read, in the database at the transaction's place. Then `specs/Once.antt` and
+//! `specs/Laws.antt`. The functions do nothing: each one's contract is a law of the dialogs of `dml_exec`, of what fits a
+//! log, and of runs of the engine (`step_model`). They ask nothing of their caller; only the definitions that they cite say
+//! what they mean. That a statement asks such parts is no part of this crate, nor is that a port's exchanges are those of a
+//! run.
 #![tactic(auto)]
 
-ghost use Rattle.reading_laws.specs.Laws.{ChecksRead, CommitLeaves, FetchesLeave, FirstsFresh, GoneSized, ImagesFetch, ImagesRead, KeyTold, LoggedCommits, NetLeaves, NextState, OnceLeaves, OncePasses, PartAnswers, PlacesAreOne, PlannedKeys, RangeRead, ReadsReady, RowsCurrent, RunsGone, StatesAreOne, WalkRead, WritesLeave, WritesPass};
+ghost use Rattle.reading_laws.specs.Laws.{ChecksRead, CommitLeaves, FetchesLeave, FirstsFresh, ImagesFetch, ImagesRead, KeyTold, LoggedCommits, NetLeaves, NextState, OnceLeaves, OncePasses, PartAnswers, PlacesAreOne, PlannedKeys, RangeRead, ReadsReady, RowsCurrent, StatesAreOne, WalkRead, WritesLeave, WritesPass};
 
 /// A range that was read and held has the rows that the database has there at the transaction's place, with the
 /// transaction's own changes; of one that was not held each row is as it was at its own number.
@@ -74,15 +74,8 @@ pub fn law_logged()
     ensures next { NextState }
 {}
 
-/// In every run a fetch is told of no key without a row but those that its own transaction has asked to write; so these
-/// have as many values as the keys that it writes.
-pub fn law_gone()
-    ensures own { RunsGone }
-    ensures sized { GoneSized }
-{}
-
 /// The commit of a transaction that wrote once leaves the database at its place behind its changes, and there what is read
-/// for them passes, where their keys are as long as those of their tables: so are those of what a write plans.
+/// for them passes. The keys of what a write plans are as long as those of their tables.
 pub fn law_once()
     ensures leaves { OnceLeaves }
     ensures passes { OncePasses }

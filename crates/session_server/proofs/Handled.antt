@@ -21,7 +21,8 @@ use Rattle.tds_login.specs.Login.{login_of}
 use Rattle.tds_packets.specs.declared.message.Message.{Message}
 use Rattle.session_server.specs.declared.message.ServerState.{ServerState}
 use Rattle.session_server.specs.declared.message.ServerState.TheVariants.{Initial, LoginReady, LoggedIn}
-use Rattle.batch_meaning.specs.declared.form.Served.{Served}
+use Rattle.batch_meaning.specs.declared.form.ReadText.{ReadText}
+use Rattle.batch_meaning.specs.declared.form.ReadText.TheVariants.{Statements}
 use Rattle.batch_meaning.specs.Statements.{ReadsAs}
 use Rattle.batch_meaning.specs.Doing.{Did}
 use Rattle.session_server.specs.Talk.{Handling, responds, runs, refuses, ends, batch_response, handle, handle_prelogin, handle_login, handle_attention}
@@ -35,8 +36,8 @@ bears_tokens spid size tokens prepared by carries sized = record {
 }
 
 says_answers : (past : PortPast) (handling : Handling) (p : SessionProgress) (response : Response) → Says handling response → Answers past past handling p response p
-says_answers past (responds own next) p response is = record { statements = []; are = refl; has = tt; does = rw (← is) (does_over refl) }
-says_answers past (refuses own number) p response is = record { statements = []; are = refl; has = tt; does = rw (← is) (does_over refl) }
+says_answers past (responds own next) p response is = record { read_as = Statements []; are = refl; has = tt; does = rw (← is) (does_over refl) }
+says_answers past (refuses own number) p response is = record { read_as = Statements []; are = refl; has = tt; does = rw (← is) (does_over refl) }
 says_answers past (runs size text) p response is = absurd is
 says_answers past (ends end) p response is = absurd is
 
@@ -71,7 +72,7 @@ unread_handled past spid size text p (Ok made) err = absurd (let no : false ≡ 
 unread_handled past spid size text p (Err wanting) err = (tt, record { exchanges = []; past = goes_nowhere past; left = inl (refl, refl) })
 
 -- or behind that
-pub left_handled : {before after : PortPast} (spid size : ℕ) (text : List ℕ) (statements : List Served) {p q : SessionProgress} {memory : Memory} (result : Result MadeHandling Memory) → IsErr result → ReadsAs text statements → Did before after (batch_response size statements) p (Err memory) q
+pub left_handled : {before after : PortPast} (spid size : ℕ) (text : List ℕ) (read_as : ReadText) {p q : SessionProgress} {memory : Memory} (result : Result MadeHandling Memory) → IsErr result → ReadsAs text read_as → Did before after (batch_response size read_as) p (Err memory) q
     → IsHandled spid before after (runs size text) p result q
-left_handled spid size text statements (Ok made) err read does = absurd (let no : false ≡ true = err in cc)
-left_handled spid size text statements (Err wanting) err read does = (tt, record { exchanges = does.exchanges; past = does.past; left = inr (statements, read, does.came) })
+left_handled spid size text read_as (Ok made) err read does = absurd (let no : false ≡ true = err in cc)
+left_handled spid size text read_as (Err wanting) err read does = (tt, record { exchanges = does.exchanges; past = does.past; left = inr (read_as, read, does.came) })

@@ -24,8 +24,8 @@ use Rattle.session_server.specs.Conversation.{IsUnended, EndsAtLast, IsAnswered,
 use Rattle.session_server.specs.Ends.{Cause, no_message, by_message, unsent, unmade, end_of}
 use Rattle.session_server.specs.Parts.{HasResponse, Answers, EndsBy, Turned, EndsTurn, Ended, Spoke}
 use Rattle.session_server.specs.Response.{Response}
-use Rattle.session_server.specs.Talk.{Handling, responds, runs, refuses, ends, next_of, first_state, handle, Walk, with_handling, walk_on, walk_of, Request, AreStatements, IsRequest, AreRequests, talk_of, response_bytes, Bytes}
-use Rattle.batch_meaning.specs.declared.form.Served.{Served as ServedStatement}
+use Rattle.session_server.specs.Talk.{Handling, responds, runs, refuses, ends, next_of, first_state, handle, Walk, with_handling, walk_on, walk_of, Request, IsReadAs, IsRequest, AreRequests, talk_of, response_bytes, Bytes}
+use Rattle.batch_meaning.specs.declared.form.ReadText.{ReadText}
 use Rattle.batch_meaning.proofs.Composed.{does_over}
 use Rattle.session_server.proofs.Walks.{walk_more, requests_more, talk_with_request, handled_more, does_more, bytes_more}
 
@@ -83,21 +83,21 @@ module _ {S : Type 0} {config : Config} {left given : S → Option (List ℕ)} {
   walk_with message = walk_more config served.messages message state served.stands
 
   -- the requests with one more
-  abbrev requests_with : List ServedStatement → Message → List Request
-  requests_with statements message = served.requests ++ record { handling = handle config state message; statements = statements } ∷ []
+  abbrev requests_with : ReadText → Message → List Request
+  requests_with read_as message = served.requests ++ record { handling = handle config state message; read_as = read_as } ∷ []
 
-  are_with : (message : Message) (statements : List ServedStatement) → HasResponse (handle config state message) → AreStatements (handle config state message) statements
-      → AreRequests (walk_of config (served.messages ++ message ∷ [])).handled (requests_with statements message)
-  are_with message statements has are =
-      subst (λ (l : List Handling). AreRequests l (requests_with statements message))
+  are_with : (message : Message) (read_as : ReadText) → HasResponse (handle config state message) → IsReadAs (handle config state message) read_as
+      → AreRequests (walk_of config (served.messages ++ message ∷ [])).handled (requests_with read_as message)
+  are_with message read_as has are =
+      subst (λ (l : List Handling). AreRequests l (requests_with read_as message))
       (sym (ap (λ (w : Walk). w.handled) (walk_with message) ∙ handled_more (walk_of config served.messages).handled (handle config state message) has))
-      (requests_more (walk_of config served.messages).handled served.requests (handle config state message) statements served.are are)
+      (requests_more (walk_of config served.messages).handled served.requests (handle config state message) read_as served.are are)
 
   -- what was asked for a message that has a response
   talk_with : {after : PortPast} (message : Message) {more : SessionProgress} {response : Response} → (answers : Answers mid after (handle config state message) progress response more)
-      → Did before after (talk_of (requests_with answers.statements message)) first_progress (Ok (served.responses ++ response ∷ [])) more
+      → Did before after (talk_of (requests_with answers.read_as message)) first_progress (Ok (served.responses ++ response ∷ [])) more
   talk_with message answers =
-      rw (talk_with_request served.requests (record { handling = handle config state message; statements = answers.statements })) (does_more served.does answers.does)
+      rw (talk_with_request served.requests (record { handling = handle config state message; read_as = answers.read_as })) (does_more served.does answers.does)
 
   -- one message more, behind which the connection goes on
   pub served_more : {next : S} {after : PortPast} {new : Option (List ℕ)} {more : SessionProgress} {total : ℕ} {to : ServerState} → Turned config spid count state (Takes left given now next) mid after sink new progress more total to → Served config left given first next before after old new spid total to more
@@ -105,11 +105,11 @@ module _ {S : Type 0} {config : Config} {left given : S → Option (List ℕ)} {
       record {
         bytes = served.bytes ++ turned.bytes;
         messages = served.messages ++ turned.message ∷ [];
-        requests = requests_with turned.answers.statements turned.message;
+        requests = requests_with turned.answers.read_as turned.message;
         responses = served.responses ++ turned.response ∷ [];
         took = all_taken turned.bytes turned.taken;
         joined = joined_more turned.bytes turned.message turned.is;
-        are = are_with turned.message turned.answers.statements turned.answers.has turned.answers.are;
+        are = are_with turned.message turned.answers.read_as turned.answers.has turned.answers.are;
         does = talk_with turned.message turned.answers;
         written = subst (Appends old new) (sym (bytes_more spid served.responses turned.response)) (Appends-trans old sink new (Bytes spid served.responses) (response_bytes spid turned.response) served.written turned.written);
         stands = ap (λ w. w.stands) (walk_with turned.message) ∙ turned.goes_on;
@@ -195,8 +195,8 @@ module _ {S : Type 0} {config : Config} {left given : S → Option (List ℕ)} {
       end_is = same;
       emptied = emptied;
     };
-    requests = requests_with how.1.statements message;
-    asked = (are_with message how.1.statements how.1.has how.1.are, talk_with message how.1);
+    requests = requests_with how.1.read_as message;
+    asked = (are_with message how.1.read_as how.1.has how.1.are, talk_with message how.1);
   }
 
   spoke_by : {next : S} {after : PortPast} (new : Option (List ℕ)) {more : SessionProgress} (bytes : List ℕ) → Takes left given now next bytes → (cause : Cause) (end : End) → EndsTurn config spid count state mid after sink new progress more bytes cause → end ≡ end_of cause → Emptied (left next) cause
@@ -233,8 +233,8 @@ module _ {S : Type 0} {config : Config} {left given : S → Option (List ℕ)} {
       end_is = same;
       emptied = emptied;
     };
-    requests = requests_with how.3.statements how.0;
-    asked = (are_with how.0 how.3.statements how.3.has how.3.are, talk_with how.0 how.3);
+    requests = requests_with how.3.read_as how.0;
+    asked = (are_with how.0 how.3.read_as how.3.has how.3.are, talk_with how.0 how.3);
   }
   spoke_by {after = after} new bytes took unmade end how same emptied = record {
     heard = record {

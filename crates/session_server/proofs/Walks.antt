@@ -9,10 +9,10 @@ use Rattle.step_model.specs.Port.{PortPast}
 use Rattle.session_server.specs.declared.end.End.{End}
 use Rattle.session_server.specs.declared.message.ServerState.{ServerState}
 use Rattle.batch_meaning.specs.Progress.{SessionProgress}
-use Rattle.batch_meaning.specs.declared.form.Served.{Served}
+use Rattle.batch_meaning.specs.declared.form.ReadText.{ReadText}
 use Rattle.batch_meaning.specs.Doing.{Doing, over, Did}
 use Rattle.session_server.specs.Response.{Response}
-use Rattle.session_server.specs.Talk.{Handling, responds, runs, refuses, ends, handle, Walk, with_handling, walk_on, walk_by, with_message, first_walk, walk_of, Request, AreStatements, IsRequest, handling_in, AreRequests, talk_more, with_request, talk_of, response_bytes, Bytes}
+use Rattle.session_server.specs.Talk.{Handling, responds, runs, refuses, ends, handle, Walk, with_handling, walk_on, walk_by, with_message, first_walk, walk_of, Request, IsReadAs, IsRequest, handling_in, AreRequests, talk_more, with_request, talk_of, response_bytes, Bytes}
 use Rattle.session_server.specs.Conversation.{IsUnended}
 use Rattle.session_server.specs.Parts.{HasResponse}
 use Rattle.batch_meaning.proofs.Composed.{does_over, does_then}
@@ -46,11 +46,11 @@ module _ (config : Config) where
 -- ---- requests
 
 -- one request more
-pub requests_more : (handled : List Handling) (requests : List Request) (handling : Handling) (statements : List Served) → AreRequests handled requests → AreStatements handling statements
-    → AreRequests (handled ++ handling ∷ []) (requests ++ record { handling = handling; statements = statements } ∷ [])
-requests_more handled requests handling statements were are = record {
-  handlings = map-append handling_in requests (record { handling = handling; statements = statements } ∷ []) ∙ ap (λ (l : List Handling). l ++ handling ∷ []) were.handlings;
-  are = All-append IsRequest requests (record { handling = handling; statements = statements } ∷ []) were.are (All-cons IsRequest (record { handling = handling; statements = statements }) [] are (All-nil IsRequest));
+pub requests_more : (handled : List Handling) (requests : List Request) (handling : Handling) (read_as : ReadText) → AreRequests handled requests → IsReadAs handling read_as
+    → AreRequests (handled ++ handling ∷ []) (requests ++ record { handling = handling; read_as = read_as } ∷ [])
+requests_more handled requests handling read_as were are = record {
+  handlings = map-append handling_in requests (record { handling = handling; read_as = read_as } ∷ []) ∙ ap (λ (l : List Handling). l ++ handling ∷ []) were.handlings;
+  are = All-append IsRequest requests (record { handling = handling; read_as = read_as } ∷ []) were.are (All-cons IsRequest (record { handling = handling; read_as = read_as }) [] are (All-nil IsRequest));
 }
 
 pub talk_with_request : (requests : List Request) (request : Request) → talk_of (requests ++ request ∷ []) ≡ with_request (talk_of requests) request

@@ -17,11 +17,11 @@ use Rattle.session_server.specs.declared.end.End.{End}
 use Rattle.session_server.specs.declared.end.End.TheVariants.{Closed, LoginRefused, Memory}
 use Rattle.session_server.specs.declared.message.ServerState.{ServerState}
 use Rattle.batch_meaning.specs.Progress.{SessionProgress, first_progress}
-use Rattle.batch_meaning.specs.declared.form.Served.{Served}
+use Rattle.batch_meaning.specs.declared.form.ReadText.{ReadText}
 use Rattle.batch_meaning.specs.Doing.{Doing, over, ◌then◌, Held, Left}
 use Rattle.batch_meaning.specs.Meaning.{rolls_back_open}
 use Rattle.session_server.specs.Response.{Response}
-use Rattle.session_server.specs.Talk.{Handling, handle, walk_of, Request, AreStatements, AreRequests, response_to, talk_of, response_bytes, Bytes}
+use Rattle.session_server.specs.Talk.{Handling, handle, walk_of, Request, IsReadAs, AreRequests, response_to, talk_of, response_bytes, Bytes}
 use Rattle.session_server.specs.Ends.{Cause, no_message, by_message, unsent, unmade, end_of}
 
 -- the SPID of a session
@@ -86,7 +86,7 @@ closed talk = talk then λ responses. rolls_back_open then λ _. over responses
 -- is done for it.
 abbrev pub IsAbandoned : Handling → SessionProgress → List Exchange → SessionProgress → Type 0
 IsAbandoned handling old exchanges new = ((exchanges ≡ []) × (new ≡ old))
-    ⊎ ((statements : List Served) × AreStatements handling statements × Left (response_to handling statements) old exchanges new)
+    ⊎ ((read_as : ReadText) × IsReadAs handling read_as × Left (response_to handling read_as) old exchanges new)
 
 -- The responses to all messages but the last were made, which are these requests, and what is done for the last
 -- was left; then a transaction that was open was rolled back.
@@ -116,7 +116,7 @@ IsAsked config messages requests exchanges responses cause = AreRequests (walk_o
     × (new : SessionProgress) × Held (closed (talk_of requests)) first_progress exchanges responses new
 
 -- Between two moments of the port its exchanges are what was asked for these messages, of which the texts
--- read as the statements of these requests.
+-- read as these requests say.
 pub record Means (config : Config) (before after : PortPast) (messages : List Message) (responses : List Response) (cause : Cause) : Type 0 where
   pub requests : List Request
   pub exchanges : List Exchange

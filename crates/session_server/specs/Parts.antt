@@ -13,9 +13,9 @@ use Rattle.session_server.specs.declared.message.ServerState.TheVariants.{Logged
 use Rattle.batch_meaning.specs.Progress.{SessionProgress, first_progress}
 use Rattle.batch_meaning.specs.Doing.{Held, Did}
 use Rattle.session_server.specs.Response.{Response}
-use Rattle.session_server.specs.Talk.{Handling, responds, refuses, ends, next_of, handle, walk_of, Request, AreStatements, AreRequests, response_to, talk_of, response_bytes}
+use Rattle.session_server.specs.Talk.{Handling, responds, refuses, ends, next_of, handle, walk_of, Request, IsReadAs, AreRequests, response_to, talk_of, response_bytes}
 use Rattle.session_server.specs.Conversation.{IsAbandoned, Emptied, Heard}
-use Rattle.batch_meaning.specs.declared.form.Served.{Served}
+use Rattle.batch_meaning.specs.declared.form.ReadText.{ReadText}
 use Rattle.session_server.specs.Ends.{Cause, no_message, by_message, unsent, unmade, end_of}
 use Rattle.session_server.specs.declared.end.End.{End}
 use Rattle.std.specs.Io.KnownBytes.{Appends}
@@ -41,12 +41,12 @@ abbrev pub HasResponse : Handling → Type 0
 HasResponse (ends end) = ⊥
 HasResponse handling = Unit {0}
 
--- its response was made, with the statements that its text reads as
+-- its response was made, with what its text is read as
 pub record Answers (before after : PortPast) (handling : Handling) (old : SessionProgress) (response : Response) (new : SessionProgress) : Type 0 where
-  pub statements : List Served
-  pub are : AreStatements handling statements
+  pub read_as : ReadText
+  pub are : IsReadAs handling read_as
   pub has : HasResponse handling
-  pub does : Did before after (response_to handling statements) old (Ok response) new
+  pub does : Did before after (response_to handling read_as) old (Ok response) new
 
 -- what was done for it was left
 pub record Leaves (before after : PortPast) (handling : Handling) (old new : SessionProgress) : Type 0 where

@@ -1,6 +1,6 @@
 -- [MS-TDS] 2.2.1 and 3.3.5: what is answered to the messages of a client, by where the connection stands: a
 -- response, until one ends the connection, and the bytes of these. How a message is handled, and where it
--- leads, the message says alone; what is done for one that runs a batch is said of the statements that its
+-- leads, the message says alone; what is done for one that runs a batch is said of what its
 -- text reads as. Responses depend on what the port answers, so the talk is what a session does; the code
 -- handles one message after another.
 use Rattle.std.specs.Prelude.{◌≡◌, ℕ, ℤ, pos, All, map, ◌-◌, ◌%◌, ◌==◌, ◌||◌, nat_lt, if◌then◌else◌, List, [], ◌∷◌, ◌++◌, fold, length, drop, Option, None, Some, Result, Ok, Err}
@@ -27,7 +27,8 @@ use Rattle.session_server.specs.declared.end.End.{End}
 use Rattle.session_server.specs.declared.end.End.TheVariants.{OutOfPlace, BadPrelogin, LoginRefused, BadBatch}
 use Rattle.session_server.specs.declared.message.ServerState.{ServerState}
 use Rattle.session_server.specs.declared.message.ServerState.TheVariants.{Initial, LoginReady, LoggedIn}
-use Rattle.batch_meaning.specs.declared.form.Served.{Served}
+use Rattle.batch_meaning.specs.declared.form.ReadText.{ReadText}
+use Rattle.batch_meaning.specs.declared.form.ReadText.TheVariants.{Statements}
 use Rattle.batch_meaning.specs.Statements.{ReadsAs}
 use Rattle.batch_meaning.specs.Doing.{Doing, over, reads, never, ◌then◌}
 use Rattle.batch_meaning.specs.Meaning.{batch}
@@ -157,18 +158,18 @@ walk_of config messages = fold (with_message config) (first_walk config) message
 
 -- ---- what is done for them
 
--- how a message is handled, with the statements of the batch that it runs
+-- how a message is handled, with what the text of the batch that it runs is read as
 pub record Request : Type 0 where
   pub handling : Handling
-  pub statements : List Served
+  pub read_as : ReadText
 
--- the text of a batch reads as the statements; where none is run there are none
-abbrev pub AreStatements : Handling → List Served → Type 0
-AreStatements (runs size text) statements = ReadsAs text statements
-AreStatements handling statements = statements ≡ []
+-- where none is run it is a batch of no statements
+abbrev pub IsReadAs : Handling → ReadText → Type 0
+IsReadAs (runs size text) read_as = ReadsAs text read_as
+IsReadAs handling read_as = read_as ≡ Statements []
 
 abbrev pub IsRequest : Request → Type 0
-IsRequest request = AreStatements request.handling request.statements
+IsRequest request = IsReadAs request.handling request.read_as
 
 abbrev pub handling_in : Request → Handling
 handling_in request = request.handling
@@ -178,23 +179,23 @@ pub record AreRequests (handled : List Handling) (requests : List Request) : Typ
   pub handlings : map handling_in requests ≡ handled
   pub are : All IsRequest requests
 
--- a batch of these statements, its tokens in packets of this size
-unfoldable pub batch_response : ℕ → List Served → Doing Response
-batch_response size statements = batch statements then λ _. reads λ p. over (tabular size p.tokens)
+-- the batch that a text is read as, its tokens in packets of this size
+unfoldable pub batch_response : ℕ → ReadText → Doing Response
+batch_response size read_as = batch read_as then λ _. reads λ p. over (tabular size p.tokens)
 
--- the response to a message that is handled so, and whose batch has these statements
-abbrev pub response_to : Handling → List Served → Doing Response
-response_to (responds response next) statements = over response
-response_to (runs size text) statements = batch_response size statements
-response_to (refuses response number) statements = over response
-response_to (ends end) statements = never
+-- the response to a message that is handled so, and whose text is read so
+abbrev pub response_to : Handling → ReadText → Doing Response
+response_to (responds response next) read_as = over response
+response_to (runs size text) read_as = batch_response size read_as
+response_to (refuses response number) read_as = over response
+response_to (ends end) read_as = never
 
 -- one response more
 abbrev pub talk_more : Doing (List Response) → Doing Response → Doing (List Response)
 talk_more talk tree = talk then λ earlier. tree then λ response. over (earlier ++ response ∷ [])
 
 abbrev pub with_request : Doing (List Response) → Request → Doing (List Response)
-with_request talk request = talk_more talk (response_to request.handling request.statements)
+with_request talk request = talk_more talk (response_to request.handling request.read_as)
 
 -- The responses to requests, in order.
 unfoldable pub talk_of : List Request → Doing (List Response)

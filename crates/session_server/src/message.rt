@@ -2,6 +2,7 @@
 
 ghost use Rattle.std.specs.Prelude.{◌≡◌, ◌%◌, ℕ, length, drop, None, Some, Ok, IfOk, IfErr};
 ghost use Rattle.session_server.specs.Parts.{IsHandled, IsUnasked, IsSized};
+ghost use Rattle.batch_meaning.specs.Meaning.{vars_in_text};
 ghost use Rattle.batch_meaning.specs.Progress.{Ready};
 ghost use Rattle.session_server.specs.Talk.{first_state, runs, handle, handle_prelogin, handle_login, handle_verdict, handle_batch, handle_attention, refuse, batch_fault, headers_length};
 ghost use Rattle.batch_meaning.specs.Statements.{ReadsAs};
@@ -14,9 +15,10 @@ use crate::end::{BatchFault, End};
 use crate::prepared::{Channel, PreparedResponse};
 use crate::response::{attention_done, refusal_tokens};
 use batch_exec::{SessionState, run_batch};
-use batch_forms::read_statements;
-use batch_meaning::Served;
+use batch_forms::read_text;
+use batch_meaning::ReadText;
 use byteorder::{ByteOrder, LittleEndian};
+use session_vars::Vars;
 use std::alloc::Global;
 use step_model::Port;
 use tds_login::{
@@ -231,8 +233,8 @@ fn respond_to_batch<P: Port>(
     ensures handled { IsHandled channel.spid (P.past port.old) (P.past port.new) (runs channel.packet_size (units_of text.now)) session.old result session.new }
     ensures ready { Ready session.new (P.past port.new) }
 {
-    let statements = statements_in(alloc, text)?;
-    run_batch(alloc, session, port, statements.as_slice())?;
+    let (read, vars) = read_in(alloc, text)?;
+    run_batch(alloc, session, port, &read, vars)?;
     let response = PreparedResponse::of_tokens(alloc, channel, session.tokens())?;
     Ok(Handling::Responds {
         response,
@@ -242,13 +244,14 @@ fn respond_to_batch<P: Port>(
     })
 }
 
-/// The statements that a text of whole units is read as.
-fn statements_in(alloc: Global, text: &[u8]) -> Result<Vec<Served>, Memory>
+/// What a text of whole units is read as, and the variables that it declares.
+fn read_in(alloc: Global, text: &[u8]) -> Result<(ReadText, Vars), Memory>
     requires { length text.now % 2 ≡ 0 }
-    ensures read { IfOk result (λ statements. ReadsAs (units_of text.now) statements.items) }
+    ensures read { IfOk result (λ read. ReadsAs (units_of text.now) read.0) }
+    ensures vars { IfOk result (λ read. read.1 ≡ vars_in_text read.0) }
 {
     match units_of_le(alloc, text) {
-        Ok(units) => read_statements(alloc, &units),
+        Ok(units) => read_text(alloc, &units),
         Err(UnitsFault::OddLength) => unreachable!(),
         Err(UnitsFault::Memory) => Err(Memory),
     }

@@ -9,7 +9,7 @@ ghost use Rattle.tds_packets.specs.Reading.{byte_limit};
 
 use crate::end::End;
 use crate::message::{Handling, ServerState, handle};
-use batch_exec::SessionState;
+use batch_exec::{SessionState, roll_back_open};
 use outside_io::{Sink, Source};
 use std::alloc::Global;
 use step_model::Port;
@@ -53,7 +53,7 @@ pub fn serve_on_port<P: Port, S: Source, K: Sink>(
     let spid = SPID_BASE + session as u16;
     let mut progress = SessionState::new(alloc);
     let end = serve_messages(alloc, config, spid, &mut progress, port, source, sink);
-    progress.roll_back_open(port);
+    roll_back_open(&mut progress, port);
     end
 }
 

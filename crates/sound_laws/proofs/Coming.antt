@@ -67,7 +67,7 @@ come_run session old new before (one ∷ asked) so run = by_session (same_or_not
         rw (apart one.session session differ)
         (rest before (other_step old run.0 one.session session before one.exchange.op one.exchange.manner one.exchange.reply (λ same. differ (sym same)) run.1 run.2 so))
 
-none_split : (before : List Exchange) (exchange : Exchange) (later : List Exchange) → [] ≡ before ++ exchange ∷ later → ⊥
+pub none_split : (before : List Exchange) (exchange : Exchange) (later : List Exchange) → [] ≡ before ++ exchange ∷ later → ⊥
 none_split [] exchange later is = absurd (let no : [] ≡ exchange ∷ later = is in cc)
 none_split (e ∷ before) exchange later is = absurd (let no : [] ≡ e ∷ (before ++ exchange ∷ later) = is in cc)
 

@@ -1,34 +1,34 @@
 -- Where all of `objects` was read, its range held, the tables among the definitions are those that are defined in the
 -- database at the transaction's place.
-use Rattle.std.proofs.Common.{◌≡◌, ℕ, List, [], ◌∷◌, ◌++◌, take, refl, sym, subst}
+use Rattle.std.proofs.Common.{◌≡◌, List, [], ◌∷◌, ◌++◌, refl, sym, subst}
 use Rattle.lock_modes.specs.declared.KeyPart.TheVariants.{S}
 use Rattle.value_types.specs.declared.table_name.TableName.{TableName}
 use Rattle.tsql_tree.specs.declared.definition.Definition.{Definition}
 use Rattle.step_model.specs.declared.manner.Manner.{Manner}
 use Rattle.step_model.specs.declared.op.Op.{Op}
 use Rattle.step_model.specs.declared.range.Start.{Start}
-use Rattle.step_model.specs.declared.range.Start.TheVariants.{First, Past}
+use Rattle.step_model.specs.declared.range.Start.TheVariants.{First}
 use Rattle.step_model.specs.declared.range.Stop.TheVariants.{Last}
 use Rattle.step_model.specs.declared.reply.Reply.{Reply}
 use Rattle.step_model.specs.declared.reply.Reply.TheVariants as replies
 use Rattle.step_model.specs.Database.{Database, In}
 use Rattle.step_model.specs.Exchange.{Exchange, CanReply}
 use Rattle.step_model.specs.Fits.{ranges_hold}
-use Rattle.step_model.specs.Log.{Commit as Logged, State}
+use Rattle.step_model.specs.Log.{Commit as Logged}
 use Rattle.catalog_rows.specs.Definitions.{objects_name, tables_of}
 use Rattle.constraint_check.specs.Reads.{rows_table}
-use Rattle.batch_meaning.specs.Meaning.{with_found}
-use Rattle.reading_laws.specs.Gone.{gone_own}
+use Rattle.dml_exec.specs.Reading.{behind_gone}
+use Rattle.batch_meaning.specs.Asking.{with_found}
 use Rattle.reading_laws.specs.Reads.{AskOnly, FindsBy, HoldsIt, KeysHave, Walks, at_place}
-use Rattle.reading_laws.proofs.Parts.{fetches_leave}
 use Rattle.reading_laws.proofs.Walks.{walk_read}
 use Rattle.statement_paths.specs.Paths.{AddsBy, AreDefined}
 use Rattle.integrity_laws.specs.Found.{Entry, ReadAs}
 use Rattle.integrity_laws.specs.Laws.{AreTables}
-use Rattle.integrity_laws.specs.Sound.{Sound}
+use Rattle.integrity_laws.specs.Sound.{Firm}
 use Rattle.integrity_laws.proofs.Found.{found_tables}
 use Rattle.integrity_laws.proofs.Keys.{keys_sized}
-use Rattle.sound_laws.proofs.Here.{Here, here_gone, here_is, hold_fetches}
+use Rattle.sound_laws.proofs.Here.{hold_fetches}
+use Rattle.sound_laws.proofs.Trees.{front_place}
 
 abbrev objects : TableName
 objects = rows_table objects_name
@@ -36,24 +36,24 @@ objects = rows_table objects_name
 -- the rows that were found, read as these definitions
 pub record Read (start : Start) (so_far : List Definition) (part : List Exchange) (all : List Definition) : Type 0 where
   pub entries : List Entry
-  pub walks : Walks objects Last S start part entries
+  pub walks : Walks 1 objects Last S start part entries
   pub reads : ReadAs so_far entries all
 
 module _ (manner : Manner) (all : List Definition) where
   -- what one reply adds
   pub record Adds (start : Start) (so_far : List Definition) (later : List Exchange) (reply : Reply) : Type 0 where
     pub entries : List Entry
-    pub finds : FindsBy (λ key rest. Walks objects Last S (Past key) later rest) later entries reply
+    pub finds : FindsBy (λ key rest. Walks 1 objects Last S (behind_gone 1 key) later rest) later entries reply
     pub reads : ReadAs so_far entries all
 
   adds_by : (start : Start) (so_far : List Definition) (later : List Exchange) (reply : Reply)
       → ((on : Start) (more : List Definition) → AreDefined manner on more later all → Read on more later all)
       → AddsBy (λ on more. AreDefined manner on more later all) (λ more. (later ≡ []) × (all ≡ more)) so_far reply → Adds start so_far later reply
   adds_by start so_far later (replies.Row key row at) goes (found, is, on) =
-      let rest = goes (Past key) (with_found so_far found) on in
+      let rest = goes (behind_gone 1 key) (with_found so_far found) on in
       record { entries = (key, row) ∷ rest.entries; finds = (rest.entries, refl, rest.walks); reads = (found, is, rest.reads) }
   adds_by start so_far later (replies.Gone key at) goes on =
-      let rest = goes (Past key) so_far on in
+      let rest = goes (behind_gone 1 key) so_far on in
       record { entries = rest.entries; finds = rest.walks; reads = rest.reads }
   adds_by start so_far later (replies.End at) goes ends = record { entries = []; finds = (ends.0, refl); reads = ends.1 }
   adds_by start so_far later reply goes adds = absurd adds
@@ -76,18 +76,17 @@ module _ (manner : Manner) (all : List Definition) where
     where
       by_reply : (reply : Reply) → AddsBy (λ on more. AreDefined manner on more later all) (λ more. (later ≡ []) × (all ≡ more)) so_far reply
           → ((on : Start) (more : List Definition) → AreDefined manner on more later all → AskOnly HoldsIt later) → AskOnly HoldsIt later
-      by_reply (replies.Row key row at) adds goes = goes (Past key) (with_found so_far adds.0) adds.2
-      by_reply (replies.Gone key at) adds goes = goes (Past key) so_far adds
+      by_reply (replies.Row key row at) adds goes = goes (behind_gone 1 key) (with_found so_far adds.0) adds.2
+      by_reply (replies.Gone key at) adds goes = goes (behind_gone 1 key) so_far adds
       by_reply (replies.End at) adds goes = subst (AskOnly HoldsIt) (sym adds.0) tt
       by_reply reply adds goes = absurd adds
 
-pub tables_read : (log : List Logged) (place : ℕ) (mine front part rest : List Exchange) (manner : Manner) (all : List Definition) → ranges_hold log mine → gone_own mine
-    → mine ≡ front ++ (part ++ rest) → Here log place front (part ++ rest) → AreDefined manner First [] part all → Sound (State (take place log)) → AreTables (State (take place log)) (tables_of all)
-tables_read log place mine front part rest manner all ranges gone is here defined sound =
+pub tables_read : (log : List Logged) (mine front part rest : List Exchange) (manner : Manner) (all : List Definition) → ranges_hold log mine
+    → mine ≡ front ++ (part ++ rest) → AreDefined manner First [] part all → Firm (at_place log front (part ++ rest)) → AreTables (at_place log front (part ++ rest)) (tables_of all)
+tables_read log mine front part rest manner all ranges is defined firm =
     let holds = defined_holds manner all part First [] defined in
-    let fetches = hold_fetches part holds in
-    let there = here_is log place front part rest here (fetches_leave front part fetches).goes_on in
+    let there : at_place log front (part ++ rest) ≡ at_place log front rest = front_place log front part rest (hold_fetches part holds) in
     let read = all_read manner all part First [] defined in
-    let rows : In (at_place log front rest) objects First Last read.entries = walk_read log mine front part rest objects First Last S read.entries (λ t. 1) is ranges read.walks
-    (subst (λ (db : Database). KeysHave 1 db objects) (sym there) (keys_sized (State (take place log)) sound).0) (here_gone log place front part rest here mine (λ t. 1) is gone fetches) in
-    found_tables (State (take place log)) read.entries all sound (subst (λ (db : Database). In db objects First Last read.entries) there rows) read.reads
+    let rows : In (at_place log front rest) objects First Last read.entries = walk_read log mine front part rest 1 objects First Last S read.entries is ranges read.walks
+    (subst (λ (db : Database). KeysHave 1 db objects) there (keys_sized (at_place log front (part ++ rest)) firm).0) in
+    found_tables (at_place log front (part ++ rest)) read.entries all firm (subst (λ (db : Database). In db objects First Last read.entries) (sym there) rows) read.reads

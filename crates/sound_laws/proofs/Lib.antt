@@ -1,11 +1,19 @@
 -- Read in this order; the comment behind a name says what the file is for.
-pub mod Here  -- where a transaction that has written nothing stands
+pub mod Shut  -- where no transaction is open nothing is left of one
+pub mod Coming  -- in every run each operation is asked where it may come
+pub mod Steps  -- what one exchange leaves of what stands
+pub mod Bringing  -- how a tree brings a session from one fact to another
+pub mod Here  -- what goes on within one transaction
+pub mod Trees  -- what a tree asks, by its operations alone
 pub mod Looked  -- what was looked up is defined
 pub mod Defined  -- the tables among all definitions are those that are defined
-pub mod Transactions  -- what a statement did keeps its database intact
-pub mod Statements  -- the commit of a statement
-pub mod Batches  -- each commit of a batch
+pub mod Preparing  -- what a statement is bound to
+pub mod Writing  -- where changes are asked, what stands goes on
+pub mod Creating  -- where a definition is put, what stands goes on
+pub mod Changing  -- what a write and DROP TABLE ask keeps what stands
+pub mod Statements  -- the work of each statement keeps what stands
+pub mod Meanings  -- and so does each batch
+pub mod Serving  -- each commit of connections keeps its database intact
 pub mod Logs  -- the databases of a log
-pub mod Coming  -- in every run each operation is asked where it may come
 pub mod Runs  -- the databases of a run
-pub mod ReadingBack  -- what a CREATE TABLE keeps of a text reads as its table
+pub mod StandardFacts  -- worked sessions

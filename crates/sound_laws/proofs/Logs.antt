@@ -1,15 +1,20 @@
--- Where each commit is one of a batch, each database of the log is intact.
+-- Where each commit is one of a batch, each database of the log is intact; and so it is sound.
 use Rattle.std.proofs.Common.{◌≡◌, ℕ, zero, suc, ◌+◌, ◌-◌, ◌≤◌, ◌<◌, List, length, take, subst, arith}
 use Rattle.step_model.specs.Log.{Commit as Logged, State}
-use Rattle.integrity_laws.proofs.Empty.{sound_empty, untriggered_empty}
-use Rattle.sound_laws.specs.Laws.{Intact, IsOfBatch, LogSound, WholeLogSound}
-use Rattle.sound_laws.proofs.Batches.{batch_sound}
+use Rattle.integrity_laws.proofs.Empty.{firm_empty, untriggered_empty}
+use Rattle.integrity_laws.proofs.Whole.{firm_sound}
+use Rattle.sound_laws.specs.Laws.{IntactSound, IsOfBatch, LogSound, WholeLogSound}
+use Rattle.sound_laws.specs.Stands.{Intact}
+use Rattle.sound_laws.proofs.Serving.{served_keep}
+
+pub intact_sound : IntactSound
+intact_sound db intact = firm_sound db intact.firm
 
 -- one commit more
 one_more : (log : List Logged) (place : ℕ) → IsOfBatch log place → Intact (State (take place log)) → Intact (State (take (place + 1) log))
 one_more log place of intact =
     subst (λ (n : ℕ). Intact (State (take (place + n) log))) of.one
-    (batch_sound of.session of.begin log of.mine of.before of.exchanges of.later of.tied of.batch of.front of.behind of.exchange of.among of.commits place of.ended intact)
+    ((served_keep of.session of.begin log of.mine of.tied of.before of.part of.later of.now of.split of.shut of.served).0 of.front of.behind of.exchange of.among of.commits place of.ended intact)
 
 module _ (log : List Logged) (first : ℕ) (intact : Intact (State (take first log))) (each : (place : ℕ) → first ≤ place → place < length log → IsOfBatch log place) where
   so_many : (n : ℕ) → first + n ≤ length log → Intact (State (take (first + n) log))
@@ -29,4 +34,4 @@ log_sound log first intact each place low high =
 
 pub whole_log_sound : WholeLogSound
 whole_log_sound log each place high =
-    log_sound log 0 (record { sound = sound_empty; untriggered = untriggered_empty }) (λ place low. each place) place (omega arith) high
+    log_sound log 0 (record { firm = firm_empty; untriggered = untriggered_empty }) (λ place low. each place) place (omega arith) high

@@ -11,11 +11,11 @@ use Rattle.step_model.specs.Database.{Database}
 use Rattle.step_model.specs.Exchange.{Exchange, CanReply}
 use Rattle.step_model.specs.Fits.{AnswersIn}
 use Rattle.catalog_rows.specs.Definitions.{defined_name, is_objects, tables_of}
-use Rattle.batch_meaning.specs.Meaning.{definition_fetch, with_found}
+use Rattle.batch_meaning.specs.Asking.{definition_fetch, with_found}
 use Rattle.write_laws.proofs.Changes.{all_both}
 use Rattle.reading_laws.specs.Reads.{AskOnly, HoldsIt}
 use Rattle.statement_paths.specs.Paths.{AreLookedUp, IsFound, IsLookedUp}
-use Rattle.integrity_laws.specs.Sound.{IsDefined, IsTableOf, Sound}
+use Rattle.integrity_laws.specs.Sound.{IsDefined, IsTableOf, Firm}
 use Rattle.integrity_laws.proofs.Found.{found_defined}
 
 abbrev pub DefinedIn : Database → Definition → Type 0
@@ -47,11 +47,11 @@ looked_holds manner (name ∷ names) so_far definitions exchanges (found, first,
     ]))
 
 -- what one finds is defined
-module _ (db : Database) (sound : Sound db) where
+module _ (db : Database) (firm : Firm db) where
   found_by : (name : List ℕ) (reply : Reply) (found : Option Definition) (so_far : List Definition) → AnswersIn db (definition_fetch name) reply → IsFound reply found → AllByRecursion (DefinedIn db) so_far
       → AllByRecursion (DefinedIn db) (with_found so_far found)
   found_by name (replies.Row key row at) None so_far answer is all = all
-  found_by name (replies.Row key row at) (Some definition) so_far answer is all = all_both (DefinedIn db) so_far (definition ∷ []) all (found_defined db key row definition sound answer.1 is, tt)
+  found_by name (replies.Row key row at) (Some definition) so_far answer is all = all_both (DefinedIn db) so_far (definition ∷ []) all (found_defined db key row definition firm answer.1 is, tt)
   found_by name (replies.Gone key at) found so_far answer is all = subst (λ (found : Option Definition). AllByRecursion (DefinedIn db) (with_found so_far found)) (sym is) all
   found_by name (replies.End at) found so_far answer is all = subst (λ (found : Option Definition). AllByRecursion (DefinedIn db) (with_found so_far found)) (sym is) all
   found_by name reply found so_far answer is all = absurd is

@@ -1,186 +1,389 @@
--- The commit of a statement that went its path keeps its database intact.
-use Rattle.std.proofs.Common.{◌≡◌, ℕ, ◌+◌, false, List, [], ◌∷◌, ◌++◌, length, take, Ok, refl, sym, ap, subst, ◌∙◌, append_assoc}
+-- The work of each statement keeps what stands.
+use Rattle.std.proofs.Common.{◌≡◌, ℕ, Bool, true, false, if◌then◌else◌, is_ok, List, [], ◌∷◌, ◌++◌, length, take, Option, Some, None, Result, Ok, Err, refl, sym, subst, ◌∙◌}
+use Rattle.std.specs.Prelude.{nat_lt, pos}
 use Rattle.std.specs.List.{AllByRecursion}
+use Rattle.tsql_tree.specs.declared.definition.Definition.TheVariants.{Table}
 use Rattle.tsql_tree.specs.declared.definition.TableTree.{TableTree}
+use Rattle.tsql_tree.specs.declared.statement.DropKind.{DropKind}
+use Rattle.tsql_tree.specs.declared.statement.DropKind.TheVariants as drop
 use Rattle.tsql_tree.specs.declared.statement.Form.{Form-F}
-use Rattle.tsql_tree.specs.declared.statement.Statement.{Statement}
+use Rattle.tsql_tree.specs.declared.statement.Statement.{Statement, out-Statement}
+use Rattle.bound_tree.specs.declared.query.BoundQuery.{BoundQuery}
 use Rattle.bound_tree.specs.declared.write.Bound.{Bound}
 use Rattle.bound_tree.specs.declared.write.Bound.TheVariants as bound
 use Rattle.binder.specs.Names.{Layer, form_of, looked_up}
-use Rattle.catalog_rows.specs.Definitions.{tables_of}
-use Rattle.step_model.specs.declared.change.Planned.{Planned}
-use Rattle.step_model.specs.declared.manner.Manner.{Manner}
+use Rattle.catalog_rows.specs.Definitions.{Defines, is_objects}
+use Rattle.constraint_check.specs.Reads.{rows_table, shape_of}
 use Rattle.step_model.specs.declared.op.Op.TheVariants as ops
-use Rattle.step_model.specs.declared.range.Start.TheVariants.{First}
+use Rattle.step_model.specs.declared.reply.Reply.{Reply}
 use Rattle.step_model.specs.declared.reply.Reply.TheVariants as replies
 use Rattle.step_model.specs.Database.{Database}
-use Rattle.step_model.specs.Exchange.{Exchange}
-use Rattle.step_model.specs.Fits.{NoneEnds, committed_by}
+use Rattle.step_model.specs.Exchange.{CanReply, Exchange}
+use Rattle.step_model.specs.Fits.{place_of, place_or}
 use Rattle.step_model.specs.Log.{Commit as Logged, State}
-use Rattle.step_model.specs.Own.{progress_of}
-use Rattle.constraint_check.specs.Laws.{behind}
-use Rattle.dml_exec.specs.declared.refusal.Level.TheVariants.{ReadCommitted, Serializable}
-use Rattle.dml_exec.specs.declared.written.Written.TheVariants.{Done}
-use Rattle.dml_exec.specs.Writing.{writes}
-use Rattle.write_laws.proofs.Changes.{all_both}
-use Rattle.reading_laws.proofs.Commits.{commit_leaves}
-use Rattle.reading_laws.proofs.Images.{images_fetch}
-use Rattle.reading_laws.proofs.Parts.{answers}
-use Rattle.batch_meaning.specs.declared.form.Form.{Form}
-use Rattle.batch_meaning.specs.declared.form.Form.TheVariants as forms
-use Rattle.batch_meaning.specs.Changing.{whole}
-use Rattle.batch_meaning.specs.Selecting.{bound_over}
-use Rattle.statement_paths.specs.Paths.{IsFormed, IsWorked, Path, replied}
-use Rattle.tds_tokens.specs.declared.token.Token.{Token}
+use Rattle.step_model.specs.Ranges.{Rows, no_memory}
+use Rattle.batch_meaning.specs.declared.failure.Failure.{Failure}
+use Rattle.batch_meaning.specs.declared.home.Home.{Home}
+use Rattle.batch_meaning.specs.declared.home.Home.TheVariants.{Nowhere, Open, Own}
+use Rattle.batch_meaning.specs.declared.raised.Raised.{Raised}
+use Rattle.batch_meaning.specs.Raised.{Around}
+use Rattle.batch_meaning.specs.Asking.{comes_to, fails, fails_naming, if_bytes_left, reads_images, unless_refused, where_begun, where_done, where_ended, with_room, ◌>>=◌}
+use Rattle.batch_meaning.specs.Changing.{object_present}
+use Rattle.batch_meaning.specs.Doing.{Doing, asks, makes, over, reads, ◌then◌}
+use Rattle.batch_meaning.specs.Failures.{plain}
+use Rattle.batch_meaning.specs.Progress.{SessionProgress, SessionStep, size_of}
+use Rattle.batch_meaning.specs.Selecting.{Effect, answer_in, made_of, messages, not_built, raised_by, result_full, result_of}
+use Rattle.batch_meaning.specs.Values.{Assigned, first_of, first_row, is_one, rows_assigned}
+use Rattle.batch_meaning.specs.Working.{answers, asks_any, assigns_rows, binds, change_bound, changes, closes, composes, composes_bound, computes, creates, creates_table, drops_in, drops_kind, enters, if_it_fits, leaves, own, relaxes, select_bound, selects, selects_into, tests, tests_bound, unless_objects, values_bound, within, works, works_bound}
+use Rattle.statement_paths.proofs.Only.{AnyStep, only_bind, only_comes, only_if, only_naming, only_room, only_then}
+use Rattle.statement_paths.proofs.Working.{images_read as images_fetched}
+use Rattle.reading_laws.specs.Reads.{at_place}
+use Rattle.integrity_laws.specs.Sound.{IsTableOf}
 use Rattle.integrity_laws.proofs.Bound.{bound_stands}
-use Rattle.sound_laws.specs.Laws.{Intact, StatementSound}
-use Rattle.sound_laws.specs.Tied.{ReadsBack, ReadsBackAs, Tied}
-use Rattle.sound_laws.proofs.Defined.{defined_holds}
-use Rattle.sound_laws.proofs.Here.{Here, here_begun, here_is, here_on, hold_fetches, place_past}
-use Rattle.sound_laws.proofs.Looked.{Answered, DefinedIn, looked_defined, looked_holds, tables_defined}
-use Rattle.sound_laws.proofs.Transactions.{Comes, answered, created_is, dropped_is, fetch_goes, held_goes, relaxed_goes, relaxed_own, written}
+use Rattle.integrity_laws.proofs.Created.{firm_created, untriggered_created}
+use Rattle.sound_laws.specs.Stands.{Carries, Intact, Keeps, Brings, Stands, base_of}
+use Rattle.text_laws.specs.Laws.{ReadsBackAs}
+use Rattle.sound_laws.specs.Tied.{Tied}
+use Rattle.sound_laws.proofs.Changing.{changes_bring, drops_bring, fits_still}
+use Rattle.sound_laws.proofs.Creating.{MayCreate, creates_bring}
+use Rattle.sound_laws.proofs.Bringing.{brings_asks, brings_bind, brings_makes, brings_mono, brings_over, brings_reads, brings_room, brings_then}
+use Rattle.sound_laws.proofs.Looked.{DefinedIn, tables_defined}
+use Rattle.sound_laws.proofs.Preparing.{IsPrepared, binds_bring}
+use Rattle.sound_laws.proofs.Steps.{IsStill, one_stands}
+use Rattle.sound_laws.proofs.Trees.{StandsWith, WritesNothing, carries_still, only_assigns, only_refused, reads_still}
 
--- ---- the last of a list
+-- ---- trees put together
 
-empty_last : {A : Type 0} (ys : List A) (a b : A) → a ∷ [] ≡ ys ++ b ∷ [] → ([] ≡ ys) × (a ≡ b)
-empty_last [] a b is = (refl, let same : a ≡ b = cc in same)
-empty_last {A} (y ∷ []) a b is = absurd (let no : [] ≡ b ∷ [] = cc in cc)
-empty_last {A} (y ∷ z ∷ ys) a b is = absurd (let no : [] ≡ z ∷ (ys ++ b ∷ []) = cc in cc)
+pub carries_then : {A B : Type 0} (tree : Doing A) (go : A → Doing B) → Carries tree → ((a : A) → Carries (go a)) → Carries (tree then go)
+carries_then {A} {B} tree go first second session begin log mine tied =
+    brings_then log mine (Stands log) tree (λ (a : A). Stands log) go (λ (b : B). Stands log) (first session begin log mine tied) (λ a. second a session begin log mine tied)
 
-pub same_last : {A : Type 0} (xs ys : List A) (a b : A) → xs ++ a ∷ [] ≡ ys ++ b ∷ [] → (xs ≡ ys) × (a ≡ b)
-same_last [] ys a b is = empty_last ys a b is
-same_last (x ∷ []) [] a b is = absurd (let no : a ∷ [] ≡ [] = cc in cc)
-same_last {A} (x ∷ z ∷ xs) [] a b is = absurd (let no : z ∷ (xs ++ a ∷ []) ≡ [] = cc in cc)
-same_last {A} (x ∷ xs) (y ∷ ys) a b is =
-    let rest : xs ++ a ∷ [] ≡ ys ++ b ∷ [] = cc in
-    let first : x ≡ y = cc in
-    let same = same_last xs ys a b rest in
-    (ap (λ (x : A). x ∷ xs) first ∙ ap (λ (xs : List A). y ∷ xs) same.0, same.1)
+pub carries_bind : {A B : Type 0} (tree : Doing (Result A Failure)) (go : A → Doing (Result B Failure)) → Carries tree → ((a : A) → Carries (go a)) → Carries (tree >>= go)
+carries_bind {A} {B} tree go first second session begin log mine tied =
+    brings_bind log mine (Stands log) tree (λ (a : Result A Failure). Stands log) go (λ (b : Result B Failure). Stands log) (first session begin log mine tied) (λ a. second a session begin log mine tied) (λ failure before later is stands. stands)
 
--- ---- what a statement does ends nothing
+pub carries_reads : {A : Type 0} (look : SessionProgress → Doing A) → ((p : SessionProgress) → Carries (look p)) → Carries (reads look)
+carries_reads {A} look each session begin log mine tied = brings_reads log mine (Stands log) look (λ (a : A). Stands log) (λ p. each p session begin log mine tied)
 
-module _ (manner : Manner) (statement : Statement) (named : List TableTree) (planned : List Planned) (tokens : List Token) (worked : List Exchange) where
-  parts_go : (a b c : List Exchange) → worked ≡ a ++ (b ++ c) → NoneEnds a → NoneEnds b → NoneEnds c → NoneEnds worked
-  parts_go a b c is first second third = subst NoneEnds (sym is) (all_both _ a (b ++ c) first (all_both _ b c second third))
+pub carries_makes : {A : Type 0} (step : SessionStep) (next : Doing A) → Carries next → Carries (makes step next)
+carries_makes {A} step next rest session begin log mine tied = brings_makes log mine (Stands log) step next (λ (a : A). Stands log) (rest session begin log mine tied)
 
-  formed_goes : (form : Layer) → IsFormed manner form named planned tokens worked → NoneEnds worked
-  formed_goes (Form-F.CreateTable table text) c = subst NoneEnds (sym c.parts) (refl, (refl, tt))
-  formed_goes (Form-F.Drop kind name) d =
-      parts_go d.defined d.read d.applied d.parts (fetch_goes d.defined (hold_fetches d.defined (defined_holds manner d.definitions d.defined First [] d.defines)))
-      (fetch_goes d.read (images_fetch manner named Serializable (bound.Write (whole name)) d.read (Ok d.images) d.reads))
-      (held_goes manner (writes [] planned) d.applied (Ok (Done d.applies.mark)) d.applies.whole)
-  formed_goes form is = absurd is
+pub carries_if : {A : Type 0} (b : Bool) (one other : Doing A) → Carries one → Carries other → Carries (if b then one else other)
+carries_if true one other first second = first
+carries_if false one other first second = second
 
-  pub worked_goes : (of : Bound) → IsWorked manner statement named of planned tokens worked → NoneEnds worked
-  worked_goes (bound.Query query) a = fetch_goes worked (images_fetch manner named ReadCommitted (bound.Query query) worked (Ok a.images) a.reads)
-  worked_goes (bound.Write write) w =
-      parts_go w.defined w.read w.applied w.parts (fetch_goes w.defined (hold_fetches w.defined (defined_holds manner w.definitions w.defined First [] w.defines)))
-      (fetch_goes w.read (images_fetch manner named ReadCommitted (bound.Write write) w.read (Ok w.images) w.reads))
-      (held_goes manner (writes (tables_of w.definitions) planned) w.applied (Ok (Done w.applies.mark)) w.applies.whole)
-  worked_goes bound.Plain is = formed_goes (form_of statement) is
-  worked_goes (bound.Assign query places) is = absurd is
+pub carries_room : {A : Type 0} (tree : Doing (Result A Failure)) → Carries tree → Carries (with_room tree)
+carries_room {A} tree rest session begin log mine tied = brings_room log mine (Stands log) (λ enough. if enough then tree else fails no_memory) (λ (a : Result A Failure). Stands log) by_room
+  where
+    by_room : (enough : Bool) → Brings log mine (Stands log) (if enough then tree else fails no_memory) (λ (a : Result A Failure). Stands log)
+    by_room true = rest session begin log mine tied
+    by_room false = brings_over log mine (Stands log) (Err (plain no_memory)) (λ (a : Result A Failure). Stands log) (λ before later is stands. stands)
 
--- ---- the whole path
+-- ---- transactions of a statement's own
 
-module _ (session : ℕ) (begin log : List Logged) (mine before path later : List Exchange) (manner : Manner) (tied : Tied session begin log mine) (is : mine ≡ before ++ (path ++ later)) (shut : (progress_of before).is_open ≡ false)
-    (statement : Statement) (planned : List Planned) (tokens : List Token) (p : Path manner statement planned tokens path) where
-  abbrev begins : Exchange
-  begins = replied manner ops.Begin replies.Began
+pub ended_still : {A : Type 0} (next : Doing A) → WritesNothing next → (reply : Reply) → WritesNothing (where_ended next reply)
+ended_still next still (replies.Ended place) = still
+ended_still next still reply = tt
 
-  abbrev commit : Exchange
-  commit = replied manner ops.Commit (replies.Ended p.place)
+pub done_still : {A : Type 0} (next : Doing A) → WritesNothing next → (reply : Reply) → WritesNothing (where_done next reply)
+done_still next still replies.Done = still
+done_still next still reply = tt
 
-  abbrev head : List Exchange
-  head = begins ∷ (p.looked ++ (p.worked ++ p.relaxed))
+pub begun_still : {A : Type 0} (next : Doing (Result A Failure)) → WritesNothing next → (reply : Reply) → WritesNothing (where_begun next reply)
+begun_still next still replies.Began = still
+begun_still next still reply = tt
 
-  abbrev rest : List Exchange
-  rest = p.relaxed ++ commit ∷ later
+relaxes_still : WritesNothing relaxes
+unfolding relaxes
+relaxes_still = λ p. only_if AnyStep IsStill p.touched (asks ops.Relax (where_done (over tt))) (over tt) (tt, λ reply can. done_still (over tt) tt reply) tt
 
-  abbrev db : Database
-  db = State (take p.place log)
+closes_still : (succeeded : Bool) → WritesNothing (closes succeeded)
+unfolding closes
+closes_still true = (tt, λ reply can. ended_still (over tt) tt reply)
+closes_still false = (tt, λ reply can. ended_still (over tt) tt reply)
 
-  -- its commit among the session's exchanges
-  at_commit : mine ≡ (before ++ head) ++ commit ∷ later
-  at_commit = is ∙ ap (λ (xs : List Exchange). before ++ (xs ++ later)) p.parts ∙ ap (λ (xs : List Exchange). before ++ xs) (append_assoc head (commit ∷ []) later) ∙ sym (append_assoc before head (commit ∷ later))
+enters_still : (asking : Bool) → WritesNothing (enters asking)
+unfolding enters
+enters_still false = tt
+enters_still true = λ p. only_if AnyStep IsStill p.is_open (over (Ok Open)) (asks ops.Begin (unless_refused (where_begun (over (Ok Own))))) tt
+    (tt, λ reply can. only_refused IsStill (where_begun (over (Ok Own))) (begun_still (over (Ok Own)) tt) reply)
 
-  -- and what is between
-  at_begin : mine ≡ (before ++ begins ∷ []) ++ (p.looked ++ (p.worked ++ rest))
-  at_begin =
-      at_commit ∙ append_assoc before head (commit ∷ later)
-      ∙ ap (λ (xs : List Exchange). before ++ begins ∷ xs) (append_assoc p.looked (p.worked ++ p.relaxed) (commit ∷ later) ∙ ap (λ (xs : List Exchange). p.looked ++ xs) (append_assoc p.worked p.relaxed (commit ∷ later)))
-      ∙ sym (append_assoc before (begins ∷ []) (p.looked ++ (p.worked ++ rest)))
+leaves_still : (home : Home) (succeeded : Bool) → WritesNothing (leaves home succeeded)
+unfolding leaves
+leaves_still Nowhere succeeded = tt
+leaves_still Open succeeded = relaxes_still
+leaves_still Own succeeded = only_then AnyStep IsStill relaxes (λ done. closes succeeded) relaxes_still (λ done. closes_still succeeded)
 
-  looked_goes : NoneEnds p.looked
-  looked_goes = fetch_goes p.looked (hold_fetches p.looked (looked_holds manner (looked_up statement) [] p.definitions p.looked p.looks))
+left_still : {A : Type 0} (home : Home) (came : Result A Failure) → WritesNothing (leaves home (is_ok came) then λ done. over came)
+left_still home came = only_then AnyStep IsStill (leaves home (is_ok came)) (λ done. over came) (leaves_still home (is_ok came)) (λ done. tt)
 
-  here_first : Here log p.place (before ++ begins ∷ []) (p.looked ++ (p.worked ++ rest))
-  here_first = here_begun log p.place manner mine before (p.looked ++ (p.worked ++ rest)) (path ++ later) is tied.comes shut (
-      place_past (length log) p.looked (p.worked ++ rest) looked_goes
-      ∙ place_past (length log) p.worked rest (worked_goes manner statement (tables_of p.definitions) planned tokens p.worked p.of p.works)
-      ∙ place_past (length log) p.relaxed (commit ∷ later) (relaxed_goes manner p.relaxed p.relaxes))
+-- in whatever transaction the work is done
+pub own_carries : {A : Type 0} (asking : Bool) (work : Doing (Result A Failure)) → Carries work → Carries (own asking work)
+unfolding own
+own_carries asking work carries =
+    carries_bind (enters asking) (λ home. work then λ came. leaves home (is_ok came) then λ done. over came) (carries_still (enters asking) (enters_still asking))
+    (λ home. carries_then work (λ came. leaves home (is_ok came) then λ done. over came) carries (λ came. carries_still (leaves home (is_ok came) then λ done. over came) (left_still home came)))
 
-  here_looked : Here log p.place ((before ++ begins ∷ []) ++ p.looked) (p.worked ++ rest)
-  here_looked = here_on log p.place (before ++ begins ∷ []) p.looked (p.worked ++ rest) here_first (hold_fetches p.looked (looked_holds manner (looked_up statement) [] p.definitions p.looked p.looks))
+-- ---- bound statements
 
-  looked_answered : Answered db p.looked
-  looked_answered = subst (λ (db : Database). Answered db p.looked) (here_is log p.place (before ++ begins ∷ []) p.looked (p.worked ++ rest) here_first looked_goes)
-      (answers log mine (before ++ begins ∷ []) p.looked (p.worked ++ rest) at_begin tied.ranges (looked_holds manner (looked_up statement) [] p.definitions p.looked p.looks))
+-- what goes on by what a statement is bound to
+abbrev pub GoesOn : {A : Type 0} → Statement → (List TableTree → Bound → Doing (Result A Failure)) → Type 0
+GoesOn {A} statement go = (session : ℕ) (begin log : List Logged) (mine : List Exchange) → Tied session begin log mine → (shapes : List TableTree) (of : Bound)
+    → Brings log mine (StandsWith log (IsPrepared statement shapes of)) (go shapes of) (λ (a : Result A Failure). Stands log)
 
-  at_work : mine ≡ ((before ++ begins ∷ []) ++ p.looked) ++ (p.worked ++ rest)
-  at_work = at_begin ∙ sym (append_assoc (before ++ begins ∷ []) p.looked (p.worked ++ rest))
+still_on : {A : Type 0} (statement : Statement) (shapes : List TableTree) (of : Bound) (tree : Doing (Result A Failure)) → Carries tree
+    → (session : ℕ) (begin log : List Logged) (mine : List Exchange) → Tied session begin log mine → Brings log mine (StandsWith log (IsPrepared statement shapes of)) tree (λ (a : Result A Failure). Stands log)
+still_on {A} statement shapes of tree carries session begin log mine tied =
+    brings_mono log mine (Stands log) (StandsWith log (IsPrepared statement shapes of)) tree (λ (a : Result A Failure). Stands log) (λ (a : Result A Failure). Stands log) (λ before later is from. from.0) (λ a before later is stands. stands) (carries session begin log mine tied)
 
-  module _ (back : ReadsBackAs (form_of statement)) (intact : Intact db) where
-    all_defined : AllByRecursion (DefinedIn db) p.definitions
-    all_defined = looked_defined db intact.sound manner (looked_up statement) [] p.definitions p.looked p.looks looked_answered tt
+pub within_carries : {A : Type 0} (statement : Statement) (go : List TableTree → Bound → Doing (Result A Failure)) → GoesOn statement go → Carries (within statement go)
+unfolding within
+within_carries statement go brings = carries_room (own (asks_any (looked_up statement)) (binds statement go))
+    (own_carries (asks_any (looked_up statement)) (binds statement go) (λ session begin log mine tied. binds_bring session begin log mine tied statement go (brings session begin log mine tied)))
 
-    abbrev Came : Type 0
-    Came = Comes db ((before ++ begins ∷ []) ++ p.looked) p.worked planned
+-- ---- what only reads
 
-    by_form : (form : Layer) → form_of statement ≡ form → (of : Bound) → bound_over p.definitions statement ≡ Ok of → IsFormed manner form (tables_of p.definitions) planned tokens p.worked → ReadsBackAs form → Came
-    by_form (Form-F.CreateTable table text) form of binds c back =
-        created_is session begin log mine tied p.place manner p.relaxed later p.relaxes ((before ++ begins ∷ []) ++ p.looked) p.worked at_work here_looked (tables_of p.definitions) (tables_defined db p.definitions all_defined) intact
-        table text planned tokens c back (bound_stands db p.definitions statement table text of intact.sound all_defined form binds)
-    by_form (Form-F.Drop kind name) form of binds d back =
-        dropped_is session begin log mine tied p.place manner p.relaxed later p.relaxes ((before ++ begins ∷ []) ++ p.looked) p.worked at_work here_looked (tables_of p.definitions) (tables_defined db p.definitions all_defined) intact
-        name planned tokens d
-    by_form form is of binds formed back = absurd formed
+pub bytes_still : {A : Type 0} (tokens : List _) (next : Doing (Result A Failure)) → WritesNothing next → WritesNothing (if_bytes_left tokens next)
+bytes_still tokens next still = λ p. only_if AnyStep IsStill (nat_lt p.bytes_left (size_of tokens)) (fails result_full) next tt still
 
-    by_bound : (of : Bound) → bound_over p.definitions statement ≡ Ok of → IsWorked manner statement (tables_of p.definitions) of planned tokens p.worked → Came
-    by_bound (bound.Query query) binds a =
-        answered session begin log mine tied p.place manner p.relaxed later p.relaxes ((before ++ begins ∷ []) ++ p.looked) p.worked at_work here_looked (tables_of p.definitions) (tables_defined db p.definitions all_defined) intact
-        statement query planned tokens a
-    by_bound (bound.Write write) binds w =
-        written session begin log mine tied p.place manner p.relaxed later p.relaxes ((before ++ begins ∷ []) ++ p.looked) p.worked at_work here_looked (tables_of p.definitions) (tables_defined db p.definitions all_defined) intact
-        write planned tokens w
-    by_bound bound.Plain binds formed = by_form (form_of statement) refl bound.Plain binds formed back
-    by_bound (bound.Assign query places) binds is = absurd is
+rows_still : (count : ℕ) (came : List Assigned × Option Failure) → WritesNothing (assigns_rows count came)
+rows_still count (sets, None) = tt
+rows_still count (sets, Some failure) = only_assigns IsStill sets (over (Err failure)) tt
 
-    comes : Came
-    comes = by_bound p.of p.binds p.works
+module _ (around : Around) where
+  answers_still : (shapes : List TableTree) (query : BoundQuery) → WritesNothing (answers around shapes query)
+  unfolding answers
+  answers_still shapes query = only_bind AnyStep IsStill (reads_images shapes (bound.Query query)) (λ images. reads λ p. comes_to (answer_in around p query images)) (reads_still (reads_images shapes (bound.Query query)) (images_fetched shapes (bound.Query query)))
+      (λ images p. only_comes AnyStep IsStill (answer_in around p query images))
 
-    own_is : (progress_of (before ++ head)).own ≡ planned
-    own_is =
-        ap (λ (xs : List Exchange). (progress_of xs).own) (
-        sym (append_assoc before (begins ∷ []) (p.looked ++ (p.worked ++ p.relaxed))) ∙ sym (append_assoc (before ++ begins ∷ []) p.looked (p.worked ++ p.relaxed))
-        ∙ sym (append_assoc ((before ++ begins ∷ []) ++ p.looked) p.worked p.relaxed))
-        ∙ relaxed_own manner (((before ++ begins ∷ []) ++ p.looked) ++ p.worked) p.relaxed p.relaxes ∙ comes.own
+  selects_still : (shapes : List TableTree) (query : BoundQuery) → WritesNothing (selects around shapes query)
+  unfolding selects
+  selects_still shapes query =
+      only_bind AnyStep IsStill (answers around shapes query) (λ rows. (reads λ p. comes_to (result_of p.settings.no_count query rows)) >>= λ effect. if_it_fits effect) (answers_still shapes query)
+      (λ rows. only_bind AnyStep IsStill (reads λ p. comes_to (result_of p.settings.no_count query rows)) (λ effect. if_it_fits effect) (λ p. only_comes AnyStep IsStill (result_of p.settings.no_count query rows)) (λ effect. fits_still effect))
 
-    pub keeps : Intact (State (take (p.place + length (committed_by ops.Commit (replies.Ended p.place) (progress_of (before ++ head)))) log))
-    keeps = subst Intact (sym (commit_leaves session begin log mine (before ++ head) later commit p.place at_commit tied.inserts tied.commits refl refl))
-        (subst (λ (own : List Planned). Intact (behind db own)) (sym own_is) comes.intact)
+  into_still : (shapes : List TableTree) (query : BoundQuery) (places : List ℕ) → WritesNothing (selects_into around shapes query places)
+  unfolding selects_into
+  into_still shapes query places =
+      only_bind AnyStep IsStill (answers around shapes query) (λ rows. reads λ p. with_room (assigns_rows (length rows) (rows_assigned p.vars places [] rows))) (answers_still shapes query)
+      (λ rows p. only_room AnyStep IsStill (assigns_rows (length rows) (rows_assigned p.vars places [] rows)) (rows_still (length rows) (rows_assigned p.vars places [] rows)))
 
-reads_back : (form : Form) (statement : Statement) → form ≡ forms.Statement statement → ReadsBack form → ReadsBackAs (form_of statement)
-reads_back form statement is back = subst ReadsBack is back
+  select_still : (shapes : List TableTree) (of : Bound) → WritesNothing (select_bound around shapes of)
+  select_still shapes (bound.Query query) = selects_still shapes query
+  select_still shapes (bound.Assign query places) = into_still shapes query places
+  select_still shapes bound.Plain = tt
+  select_still shapes (bound.Write write) = tt
 
-pub statement_sound : StatementSound
-statement_sound session begin log mine before path later manner served tied is shut (statement, planned, tokens, form, p) back front exchange last place ended intact =
-    let head : List Exchange = replied manner ops.Begin replies.Began ∷ (p.looked ++ (p.worked ++ p.relaxed)) in
-    let commit : Exchange = replied manner ops.Commit (replies.Ended p.place) in
-    let same = same_last head front commit exchange (sym p.parts ∙ last) in
-    let end : replies.Ended p.place ≡ replies.Ended place = ap (λ (x : Exchange). x.reply) same.1 ∙ ended in
-    let there : p.place ≡ place = cc in
-    subst (λ (place : ℕ). Intact (State (take (place + length (committed_by exchange.op exchange.reply (progress_of (before ++ front)))) log))) there
-    (subst (λ (x : Exchange). Intact (State (take (p.place + length (committed_by x.op x.reply (progress_of (before ++ front)))) log))) same.1
-    (subst (λ (xs : List Exchange). Intact (State (take (p.place + length (committed_by ops.Commit (replies.Ended p.place) (progress_of (before ++ xs)))) log))) same.0
-    (keeps session begin log mine before path later manner tied is shut statement planned tokens p (reads_back served.form statement form back)
-    (subst (λ (place : ℕ). Intact (State (take place log))) (sym there) intact))))
+  values_still : (shapes : List TableTree) (of : Bound) → WritesNothing (values_bound around shapes of)
+  values_still shapes (bound.Query query) = answers_still shapes query
+  values_still shapes bound.Plain = tt
+  values_still shapes (bound.Write write) = tt
+  values_still shapes (bound.Assign query places) = tt
+
+  computes_still : (form : Layer) (shapes : List TableTree) (of : Bound) → WritesNothing (computes around form shapes of)
+  unfolding computes
+  computes_still form shapes of = only_bind AnyStep IsStill (values_bound around shapes of) (λ rows. reads λ p. comes_to (made_of form p.vars (first_row rows))) (values_still shapes of) (λ rows p. only_comes AnyStep IsStill (made_of form p.vars (first_row rows)))
+
+  tests_still : (shapes : List TableTree) (of : Bound) → WritesNothing (tests_bound around shapes of)
+  unfolding tests_bound
+  tests_still shapes of = only_bind AnyStep IsStill (values_bound around shapes of) (λ rows. over (Ok (is_one (first_of (first_row rows))))) (values_still shapes of) (λ rows. tt)
+
+  composes_still : (statement : Statement) (shapes : List TableTree) (of : Bound) → WritesNothing (composes_bound around statement shapes of)
+  unfolding composes_bound
+  composes_still statement shapes of =
+      only_bind AnyStep IsStill (values_bound around shapes of) (λ rows. comes_to (Composed rows) >>= Sent) (values_still shapes of)
+      (λ rows. only_bind AnyStep IsStill (comes_to (Composed rows)) Sent (only_comes AnyStep IsStill (Composed rows))
+      (λ raised. only_room AnyStep IsStill (if_bytes_left (messages raised) (over (Ok raised))) (bytes_still (messages raised) (over (Ok raised)) tt)))
+    where
+      Composed : Rows → Result Raised Failure
+      Composed rows = raised_by (form_of statement) (pos (out-Statement statement).line) (first_row rows)
+
+      Sent : Raised → Doing (Result Raised Failure)
+      Sent raised = with_room (if_bytes_left (messages raised) (over (Ok raised)))
+
+  -- a test, and a message
+  pub tests_carry : (statement : Statement) → Carries (tests around statement)
+  unfolding tests
+  tests_carry statement = within_carries statement (tests_bound around) (λ session begin log mine tied shapes of. still_on statement shapes of (tests_bound around shapes of) (carries_still (tests_bound around shapes of) (tests_still shapes of)) session begin log mine tied)
+
+  pub composes_carry : (statement : Statement) → Carries (composes around statement)
+  unfolding composes
+  composes_carry statement =
+      within_carries statement (composes_bound around statement) (λ session begin log mine tied shapes of. still_on statement shapes of (composes_bound around statement shapes of) (carries_still (composes_bound around statement shapes of) (composes_still statement shapes of)) session begin log mine tied)
+
+  -- ---- what writes
+
+  module _ (statement : Statement) (session : ℕ) (begin log : List Logged) (mine : List Exchange) (tied : Tied session begin log mine) where
+    abbrev From : List TableTree → Bound → List Exchange → List Exchange → Type 0
+    From shapes of = StandsWith log (IsPrepared statement shapes of)
+
+    abbrev To : Result Effect Failure → List Exchange → List Exchange → Type 0
+    To result = Stands log
+
+    -- the tables that were named are defined
+    named : (shapes : List TableTree) (of : Bound) (before later : List Exchange) → mine ≡ before ++ later → From shapes of before later → StandsWith log (λ db. AllByRecursion (IsTableOf db) shapes) before later
+    named shapes of before later is from = (from.0, λ intact. let prepared = from.1 intact in subst (AllByRecursion (IsTableOf (at_place log before later))) (sym prepared.tables) (tables_defined (at_place log before later) prepared.definitions prepared.defined))
+
+    nothing_on : (shapes : List TableTree) (of : Bound) (tree : Doing (Result Effect Failure)) → WritesNothing tree → Brings log mine (From shapes of) tree To
+    nothing_on shapes of tree still = still_on statement shapes of tree (carries_still tree still) session begin log mine tied
+
+    change_on : (shapes : List TableTree) (of : Bound) → Brings log mine (From shapes of) (change_bound around shapes of) To
+    change_on [] of = nothing_on [] of (fails not_built) tt
+    change_on (shape ∷ shapes) (bound.Write write) =
+        brings_mono log mine (StandsWith log (λ db. AllByRecursion (IsTableOf db) (shape ∷ shapes))) (From (shape ∷ shapes) (bound.Write write)) (changes around (shape ∷ shapes) write) To To (named (shape ∷ shapes) (bound.Write write)) (λ a before later is stands. stands)
+        (changes_bring session begin log mine tied around (shape ∷ shapes) write)
+    change_on (shape ∷ shapes) (bound.Query query) = nothing_on (shape ∷ shapes) (bound.Query query) (fails not_built) tt
+    change_on (shape ∷ shapes) (bound.Assign query places) = nothing_on (shape ∷ shapes) (bound.Assign query places) (fails not_built) tt
+    change_on (shape ∷ shapes) bound.Plain = nothing_on (shape ∷ shapes) bound.Plain (fails not_built) tt
+
+    drop_in : (shapes : List TableTree) (of : Bound) (name : List ℕ) (found : Option TableTree) → shape_of (rows_table name) shapes ≡ found → Brings log mine (From shapes of) (drops_in around found shapes name) To
+    drop_in shapes of name None known = nothing_on shapes of (fails_naming _ name) (only_naming AnyStep IsStill Effect _ name)
+    drop_in shapes of name (Some shape) known =
+        brings_mono log mine (StandsWith log (λ db. AllByRecursion (IsTableOf db) shapes)) (From shapes of) (drops_in around (Some shape) shapes name) To To (named shapes of) (λ a before later is stands. stands)
+        (drops_bring session begin log mine tied around shapes shape name known)
+
+    drop_on : (kind : DropKind) (shapes : List TableTree) (of : Bound) (name : List ℕ) → Brings log mine (From shapes of) (drops_kind around kind shapes name) To
+    drop_on drop.Table shapes of name = drop_in shapes of name (shape_of (rows_table name) shapes) refl
+    drop_on other shapes of name = nothing_on shapes of (fails_naming _ name) (only_naming AnyStep IsStill Effect _ name)
+
+    work_on : (form : Layer) (shapes : List TableTree) (of : Bound) → Brings log mine (From shapes of) (works_bound around form shapes of) To
+    work_on (Form-F.Select select) shapes of = nothing_on shapes of (select_bound around shapes of) (select_still shapes of)
+    work_on (Form-F.Insert table columns rows) shapes of = change_on shapes of
+    work_on (Form-F.Update table sets filter) shapes of = change_on shapes of
+    work_on (Form-F.Delete table filter) shapes of = change_on shapes of
+    work_on (Form-F.Drop kind name) shapes of = drop_on kind shapes of name
+    work_on form shapes of = nothing_on shapes of (computes around form shapes of) (computes_still form shapes of)
+
+  -- a statement that is done with its effect
+  pub works_carry : (statement : Statement) → Carries (works around statement)
+  unfolding works
+  works_carry statement = within_carries statement (works_bound around (form_of statement)) (λ session begin log mine tied shapes of. work_on statement session begin log mine tied (form_of statement) shapes of)
+
+-- ---- CREATE TABLE
+
+-- a table whose CREATE TABLE is bound over definitions of a database may be created there
+may_create : (db : Database) (statement : Statement) (table : TableTree) (text : List ℕ) (shapes : List TableTree) (of : Bound) → form_of statement ≡ Form-F.CreateTable table text → ReadsBackAs statement (Form-F.CreateTable table text)
+    → is_objects table.name ≡ false → IsPrepared statement shapes of db → Intact db → MayCreate table.name text db
+may_create db statement table text shapes of form back other prepared intact free =
+    let defines : Defines table.name text (Table table) = back prepared.definitions prepared.vars of prepared.binds in
+    record {
+      firm = firm_created db table.name text table intact.firm (record {
+        free = free;
+        defines = defines;
+        other = other;
+        stands = bound_stands db prepared.definitions prepared.vars statement table text of intact.firm prepared.defined form prepared.binds;
+      });
+      untriggered = untriggered_created db table.name text table defines intact.untriggered;
+    }
+
+-- where nothing was looked up, in any other database too
+elsewhere : (db other : Database) (statement : Statement) (shapes : List TableTree) (of : Bound) → asks_any (looked_up statement) ≡ false → IsPrepared statement shapes of db → IsPrepared statement shapes of other
+elsewhere db other statement shapes of nameless prepared = record {
+  definitions = prepared.definitions;
+  vars = prepared.vars;
+  tables = prepared.tables;
+  binds = prepared.binds;
+  defined = subst (AllByRecursion (DefinedIn other)) (sym (prepared.none nameless)) tt;
+  none = prepared.none;
+}
+
+module _ (statement : Statement) (table : TableTree) (text : List ℕ) (form : form_of statement ≡ Form-F.CreateTable table text) (back : ReadsBackAs statement (Form-F.CreateTable table text))
+    (session : ℕ) (begin log : List Logged) (mine : List Exchange) (tied : Tied session begin log mine) where
+  abbrev Made : Result Effect Failure → List Exchange → List Exchange → Type 0
+  Made result = Stands log
+
+  -- a fact of no database in particular
+  abbrev Known : Type 0 → List Exchange → List Exchange → Type 0
+  Known C = StandsWith log (λ db. C)
+
+  -- it is known still behind the begin of a transaction
+  begun_knows : (C : Type 0) → Brings log mine (Known C) (enters true) (λ (home : Result Home Failure). Known C)
+  unfolding enters
+  begun_knows C = brings_reads log mine (Known C) (λ p. if p.is_open then over (Ok Open) else Beginning) (λ (home : Result Home Failure). Known C) (λ p. by_open p.is_open)
+    where
+      Beginning : Doing (Result Home Failure)
+      Beginning = asks ops.Begin (unless_refused (where_begun (over (Ok Own))))
+
+      on : (a : Result Home Failure) → Brings log mine (Known C) (over a) (λ (home : Result Home Failure). Known C)
+      on a = brings_over log mine (Known C) a (λ (home : Result Home Failure). Known C) (λ before later is known. known)
+
+      step : (before : List Exchange) (x : Exchange) (later : List Exchange) → mine ≡ before ++ x ∷ later → x.op ≡ ops.Begin → CanReply ops.Begin x.reply → Known C before (x ∷ later)
+          → (x.op ≡ ops.Commit → Keeps log before x) × Known C (before ++ x ∷ []) later
+      step before x later is of can known =
+          ((λ commits. absurd (let no : ops.Begin ≡ ops.Commit = sym of ∙ commits in cc)), (one_stands session begin log mine tied before x later is (subst IsStill (sym of) tt) known.0, λ intact. known.1 (subst Intact (base x.reply can) intact)))
+        where
+          base : (reply : Reply) → CanReply ops.Begin reply → base_of log later ≡ State (take (place_or reply (place_of (length log) later)) log)
+          base replies.Began can = refl
+          base replies.Memory can = refl
+          base reply can = absurd can
+
+      by_reply : (reply : Reply) → CanReply ops.Begin reply → Brings log mine (Known C) (unless_refused (where_begun (over (Ok Own))) reply) (λ (home : Result Home Failure). Known C)
+      by_reply replies.Began can = on (Ok Own)
+      by_reply replies.Memory can = on (Err (plain no_memory))
+      by_reply reply can = absurd can
+
+      by_open : (b : Bool) → Brings log mine (Known C) (if b then over (Ok Open) else Beginning) (λ (home : Result Home Failure). Known C)
+      by_open true = on (Ok Open)
+      by_open false = brings_asks log mine (Known C) ops.Begin (unless_refused (where_begun (over (Ok Own)))) (λ reply. Known C) (λ (home : Result Home Failure). Known C) step by_reply
+
+  -- so work that may count on it keeps what stands
+  own_knows : (C : Type 0) (work : Doing (Result Effect Failure)) → Brings log mine (Known C) work Made → Brings log mine (Known C) (own true work) Made
+  unfolding own
+  own_knows C work brings =
+      brings_bind log mine (Known C) (enters true) (λ (home : Result Home Failure). Known C) (λ home. work then λ came. leaves home (is_ok came) then λ done. over came) Made (begun_knows C)
+      (λ home. brings_then log mine (Known C) work Made (λ came. leaves home (is_ok came) then λ done. over came) Made brings
+      (λ came. carries_still (leaves home (is_ok came) then λ done. over came) (left_still home came) session begin log mine tied))
+      (λ failure before later is known. known.0)
+
+  -- the name of `objects` is none of a batch
+  unless_bring : (From : List Exchange → List Exchange → Type 0) (tree : Doing (Result Effect Failure)) → ((before later : List Exchange) → mine ≡ before ++ later → From before later → Stands log before later)
+      → (is_objects table.name ≡ false → Brings log mine From tree Made) → Brings log mine From (unless_objects table.name tree) Made
+  unless_bring From tree stands brings = by_name (is_objects table.name) refl
+    where
+      by_name : (b : Bool) → is_objects table.name ≡ b → Brings log mine From (if b then fails_naming object_present table.name else tree) Made
+      by_name true is = brings_mono log mine (Stands log) From (fails_naming object_present table.name) Made Made stands (λ a before later is stands. stands)
+          (carries_still (fails_naming object_present table.name) (only_naming AnyStep IsStill Effect object_present table.name) session begin log mine tied)
+      by_name false is = brings is
+
+  -- what is bound within the transaction
+  inner : (shapes : List TableTree) (of : Bound) → Brings log mine (StandsWith log (IsPrepared statement shapes of)) (unless_objects table.name (creates table.name text)) Made
+  inner shapes of = unless_bring (StandsWith log (IsPrepared statement shapes of)) (creates table.name text) (λ before later is from. from.0)
+      (λ other. brings_mono log mine (StandsWith log (MayCreate table.name text)) (StandsWith log (IsPrepared statement shapes of)) (creates table.name text) Made Made
+      (λ before later is from. (from.0, λ intact. may_create (at_place log before later) statement table text shapes of form back other (from.1 intact) (from.0 intact).now)) (λ a before later is stands. stands)
+      (creates_bring session begin log mine tied table.name text))
+
+  -- and what is bound in front of it, where nothing was looked up
+  abbrev Anywhere : List TableTree → Bound → Type 0
+  Anywhere shapes of = (db : Database) → IsPrepared statement shapes of db
+
+  outer : asks_any (looked_up statement) ≡ false → (shapes : List TableTree) (of : Bound) → Brings log mine (StandsWith log (IsPrepared statement shapes of)) (unless_objects table.name (own true (creates table.name text))) Made
+  outer nameless shapes of = unless_bring (StandsWith log (IsPrepared statement shapes of)) (own true (creates table.name text)) (λ before later is from. from.0)
+      (λ other. brings_mono log mine (Known (Anywhere shapes of)) (StandsWith log (IsPrepared statement shapes of)) (own true (creates table.name text)) Made Made
+      (λ before later is from. (from.0, λ intact db. elsewhere (at_place log before later) db statement shapes of nameless (from.1 intact))) (λ a before later is stands. stands)
+      (own_knows (Anywhere shapes of) (creates table.name text)
+      (brings_mono log mine (StandsWith log (MayCreate table.name text)) (Known (Anywhere shapes of)) (creates table.name text) Made Made
+      (λ before later is from. (from.0, λ intact. may_create (at_place log before later) statement table text shapes of form back other (from.1 intact (at_place log before later)) (from.0 intact).now)) (λ a before later is stands. stands)
+      (creates_bring session begin log mine tied table.name text))))
+
+  created_brings : Brings log mine (Stands log) (creates_table statement table.name text) Made
+  unfolding creates_table own ◌then◌
+  created_brings = brings_room log mine (Stands log) (λ enough. if enough then Creating (asks_any (looked_up statement)) else fails no_memory) Made by_room
+    where
+      Creating : Bool → Doing (Result Effect Failure)
+      Creating b = if b then own true (binds statement λ shapes of. unless_objects table.name (creates table.name text)) else binds statement λ shapes of. unless_objects table.name (own true (creates table.name text))
+
+      by_asks : (b : Bool) → asks_any (looked_up statement) ≡ b → Brings log mine (Stands log) (Creating b) Made
+      by_asks true is = brings_bind log mine (Stands log) (enters true) (λ (home : Result Home Failure). Stands log) (λ home. binds statement (λ shapes of. unless_objects table.name (creates table.name text)) then λ came. leaves home (is_ok came) then λ done. over came) Made
+          (carries_still (enters true) (enters_still true) session begin log mine tied)
+          (λ home. brings_then log mine (Stands log) (binds statement (λ shapes of. unless_objects table.name (creates table.name text))) Made (λ came. leaves home (is_ok came) then λ done. over came) Made
+          (binds_bring session begin log mine tied statement (λ shapes of. unless_objects table.name (creates table.name text)) inner)
+          (λ came. carries_still (leaves home (is_ok came) then λ done. over came) (left_still home came) session begin log mine tied))
+          (λ failure before later is stands. stands)
+      by_asks false is = binds_bring session begin log mine tied statement (λ shapes of. unless_objects table.name (own true (creates table.name text))) (outer is)
+
+      by_room : (enough : Bool) → Brings log mine (Stands log) (if enough then Creating (asks_any (looked_up statement)) else fails no_memory) Made
+      by_room true = by_asks (asks_any (looked_up statement)) refl
+      by_room false = brings_over log mine (Stands log) (Err (plain no_memory)) Made (λ before later is stands. stands)
+
+pub creates_carry : (statement : Statement) (table : TableTree) (text : List ℕ) → form_of statement ≡ Form-F.CreateTable table text → ReadsBackAs statement (Form-F.CreateTable table text) → Carries (creates_table statement table.name text)
+creates_carry statement table text form back session begin log mine tied = created_brings statement table text form back session begin log mine tied

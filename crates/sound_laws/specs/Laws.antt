@@ -1,80 +1,75 @@
--- Own: the laws. Each commit of a statement keeps a sound database sound; so each database that the log's commits leave is.
-use Rattle.std.specs.Prelude.{◌≡◌, ◌⊎◌, ℕ, ◌+◌, ◌≤◌, ◌<◌, List, [], ◌∷◌, ◌++◌, length, take, false}
-use Rattle.std.specs.List.{AllByRecursion}
-use Rattle.step_model.specs.declared.manner.Manner.{Manner}
+-- Own: the laws. What a statement or a batch asks keeps what stands, and each of its commits keeps an intact database intact; such a one is
+-- sound; and so is each database that the log's commits leave.
+use Rattle.std.specs.Prelude.{◌≡◌, ◌⊎◌, ℕ, ◌≤◌, ◌<◌, false, List, ◌∷◌, ◌++◌, length, take}
+use Rattle.tsql_tree.specs.declared.statement.Statement.{Statement}
 use Rattle.step_model.specs.declared.op.Op.TheVariants.{Commit}
 use Rattle.step_model.specs.declared.reply.Reply.TheVariants.{Ended}
 use Rattle.step_model.specs.Database.{Database}
 use Rattle.step_model.specs.Exchange.{Exchange}
 use Rattle.step_model.specs.Fits.{committed_by}
 use Rattle.step_model.specs.Log.{Commit as Logged, State}
-use Rattle.step_model.specs.Own.{none_open, progress_of}
-use Rattle.batch_meaning.specs.declared.form.Served.{Served}
+use Rattle.step_model.specs.Own.{progress_of}
+use Rattle.batch_meaning.specs.declared.form.ReadText.{ReadText}
+use Rattle.batch_meaning.specs.Meaning.{batch, mean_of, rolls_back_open}
 use Rattle.batch_meaning.specs.Doing.{Held, Left}
-use Rattle.batch_meaning.specs.Meaning.{batch}
 use Rattle.batch_meaning.specs.Progress.{SessionProgress}
-use Rattle.statement_paths.specs.Paths.{HasPath}
+use Rattle.batch_meaning.specs.Raised.{Around}
 use Rattle.integrity_laws.specs.Sound.{Sound}
-use Rattle.integrity_laws.specs.Laws.{HasNoTrigger}
-use Rattle.sound_laws.specs.Tied.{ReadsBack, Tied}
+use Rattle.sound_laws.specs.Stands.{Carries, Intact, Stands}
+use Rattle.text_laws.specs.Laws.{Everywhere, ReadsBack, TextReadsBack}
+use Rattle.sound_laws.specs.Tied.{Tied}
+use Rattle.sound_laws.specs.Runs.{IsServed}
 
--- ---- what is kept
+-- ---- databases
 
--- a sound database, in which no trigger is: statements make none
-pub record Intact (db : Database) : Type 0 where
-  pub sound : Sound db
-  pub untriggered : HasNoTrigger db
+-- an intact database is sound
+abbrev pub IntactSound : Type 0
+IntactSound = (db : Database) → Intact db → Sound db
 
--- an exchange that ended a transaction at a place of the log keeps the database there intact, by what it committed, if anything
-abbrev pub Keeps : List Logged → List Exchange → Exchange → Type 0
-Keeps log before exchange =
-    (place : ℕ) → exchange.reply ≡ Ended place → Intact (State (take place log)) → Intact (State (take (place + length (committed_by exchange.op exchange.reply (progress_of before))) log))
+-- ---- what stands
 
--- ---- one statement
+-- where no transaction is open, it stands
+abbrev pub ShutStands : Type 0
+ShutStands = (session : ℕ) (begin log : List Logged) (mine before later : List Exchange) → Tied session begin log mine → mine ≡ before ++ later → (progress_of before).is_open ≡ false → Stands log before later
 
--- the last exchange of a statement's path, which is its commit
+-- what a statement asks keeps it, with all that stands in the statement
 abbrev pub StatementSound : Type 0
-StatementSound = (session : ℕ) (begin log : List Logged) (mine before path later : List Exchange) (manner : Manner) (served : Served) → Tied session begin log mine → mine ≡ before ++ (path ++ later)
-    → (progress_of before).is_open ≡ false → HasPath manner served path → ReadsBack served.form
-    → (front : List Exchange) (exchange : Exchange) → path ≡ front ++ exchange ∷ [] → Keeps log (before ++ front) exchange
+StatementSound = (levels : ℕ) (statement : Statement) (around : Around) → Everywhere ReadsBack statement → Carries (mean_of levels statement around)
 
--- ---- one batch
-
--- these exchanges are all of a batch, or it was left in the middle with them
-abbrev pub IsRun : List Served → SessionProgress → List Exchange → Type 0
-IsRun statements old exchanges = (new : SessionProgress) × (Held (batch statements) old exchanges tt new ⊎ Left (batch statements) old exchanges new)
-
--- Among a session's exchanges these are those of a batch, which began where no transaction was open.
-pub record IsBatch (mine before exchanges later : List Exchange) : Type 0 where
-  pub statements : List Served
-  pub old : SessionProgress
-  pub split : mine ≡ before ++ (exchanges ++ later)
-  pub shut : progress_of before ≡ none_open
-  pub closed : old.is_open ≡ false
-  pub run : IsRun statements old exchanges
-  pub back : AllByRecursion (λ served. ReadsBack served.form) statements
-
--- each commit of a batch
+-- so does what a batch asks
 abbrev pub BatchSound : Type 0
-BatchSound = (session : ℕ) (begin log : List Logged) (mine before exchanges later : List Exchange) → Tied session begin log mine → IsBatch mine before exchanges later
-    → (front behind : List Exchange) (exchange : Exchange) → exchanges ≡ front ++ exchange ∷ behind → exchange.op ≡ Commit → Keeps log (before ++ front) exchange
+BatchSound = (read : ReadText) → TextReadsBack read → Carries (batch read)
+
+-- behind it session and port agree on whether a transaction is open, if they did before it
+abbrev pub BatchAgrees : Type 0
+BatchAgrees = (read : ReadText) (old new : SessionProgress) (before part : List Exchange) → old.is_open ≡ (progress_of before).is_open → Held (batch read) old part tt new ⊎ Left (batch read) old part new
+    → new.is_open ≡ (progress_of (before ++ part)).is_open
+
+-- and the rollback of what it left open keeps what stands
+abbrev pub RollbackSound : Type 0
+RollbackSound = Carries rolls_back_open
 
 -- ---- the log
 
--- The commit at this place is one of a batch, of whatever session.
+-- The commit at this place is one of those that a connection of some session has asked, which began where no transaction was open.
 pub record IsOfBatch (log : List Logged) (place : ℕ) : Type 0 where
   pub session : ℕ
   pub begin : List Logged
   pub mine : List Exchange
-  pub before : List Exchange
-  pub exchanges : List Exchange
-  pub later : List Exchange
   pub tied : Tied session begin log mine
-  pub batch : IsBatch mine before exchanges later
+  -- these exchanges of the session are what the connection has asked
+  pub before : List Exchange
+  pub part : List Exchange
+  pub later : List Exchange
+  pub now : SessionProgress
+  pub split : mine ≡ before ++ (part ++ later)
+  pub shut : (progress_of before).is_open ≡ false
+  pub served : IsServed part now
+  -- and this one of them is the commit
   pub front : List Exchange
   pub behind : List Exchange
   pub exchange : Exchange
-  pub among : exchanges ≡ front ++ exchange ∷ behind
+  pub among : part ≡ front ++ exchange ∷ behind
   pub commits : exchange.op ≡ Commit
   pub ended : exchange.reply ≡ Ended place
   pub one : length (committed_by exchange.op exchange.reply (progress_of (before ++ front))) ≡ 1

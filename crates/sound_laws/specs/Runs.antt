@@ -1,56 +1,72 @@
--- Own: the law of runs. Sessions step one after another, as they come; each of them asks what batches are, one behind another.
--- A batch may be left in the middle, for want of memory, or since its client is gone; then its transaction is rolled back.
-use Rattle.std.specs.Prelude.{◌≡◌, ℕ, false, List, [], ◌∷◌, ◌++◌, take}
+-- Own: the law of runs. Sessions step one after another, as they come; each of them asks what connections ask, one behind another.
+-- A connection runs batches, from a progress where nothing is open; a transaction may go on from one to the next. The last of them may be
+-- left in the middle, for want of memory, or since its client is gone; and behind them what is open is rolled back.
+use Rattle.std.specs.Prelude.{◌≡◌, ℕ, false, List, [], ◌∷◌, ◌++◌, take, Option, Some, None}
 use Rattle.std.specs.List.{AllByRecursion, flat_map}
-use Rattle.step_model.specs.declared.op.Op.TheVariants.{Rollback}
-use Rattle.step_model.specs.declared.reply.Reply.TheVariants.{Ended}
+use Rattle.std.specs.Option.{ForSome}
 use Rattle.step_model.specs.Exchange.{Exchange}
 use Rattle.step_model.specs.Fits.{without_waits}
 use Rattle.step_model.specs.Log.{State}
-use Rattle.step_model.specs.Own.{none_open, progress_of}
 use Rattle.step_model.specs.Runs.{Asked, Run, mine_of, opening}
 use Rattle.step_model.specs.State.{Engine}
-use Rattle.batch_meaning.specs.declared.form.Served.{Served}
+use Rattle.batch_meaning.specs.declared.form.ReadText.{ReadText}
 use Rattle.batch_meaning.specs.Doing.{Held, Left}
-use Rattle.batch_meaning.specs.Meaning.{batch}
+use Rattle.batch_meaning.specs.Meaning.{batch, rolls_back_open}
 use Rattle.batch_meaning.specs.Progress.{SessionProgress}
-use Rattle.statement_paths.specs.Paths.{NoneCommits}
-use Rattle.sound_laws.specs.Laws.{Intact, IsRun}
-use Rattle.sound_laws.specs.Tied.{ReadsBack}
+use Rattle.sound_laws.specs.Stands.{Intact}
+use Rattle.text_laws.specs.Laws.{TextReadsBack}
 
--- these exchanges are those of a batch, which began where no transaction was open, and others that commit nothing
-pub record IsServed (part : List Exchange) : Type 0 where
-  pub statements : List Served
+-- ---- a connection
+
+-- these exchanges are all that the batches ask, one behind another, each from where the one before it has come to
+abbrev pub AreDone : List ReadText → SessionProgress → List Exchange → SessionProgress → Type 0
+AreDone [] old exchanges new = (exchanges ≡ []) × (new ≡ old)
+AreDone (read ∷ others) old exchanges new = (mid : SessionProgress) × (first later : List Exchange) × (exchanges ≡ first ++ later) × Held (batch read) old first tt mid × AreDone others mid later new
+
+-- they are a front of what one batch more asks, if there is one
+abbrev pub IsCut : Option ReadText → SessionProgress → List Exchange → SessionProgress → Type 0
+IsCut None old exchanges new = (exchanges ≡ []) × (new ≡ old)
+IsCut (Some read) old exchanges new = Left (batch read) old exchanges new
+
+-- These exchanges are what a connection has asked so far, from a progress where nothing is open, as the first one is: batches that were
+-- done, and then one that was left, or none.
+pub record IsServed (exchanges : List Exchange) (new : SessionProgress) : Type 0 where
   pub old : SessionProgress
-  pub exchanges : List Exchange
-  pub rest : List Exchange
-  pub parts : part ≡ exchanges ++ rest
   pub closed : old.is_open ≡ false
-  pub run : IsRun statements old exchanges
-  pub quiet : NoneCommits rest
-  pub back : AllByRecursion (λ served. ReadsBack served.form) statements
+  pub batches : List ReadText
+  pub last : Option ReadText
+  pub done : List Exchange
+  pub left : List Exchange
+  pub mid : SessionProgress
+  pub parts : exchanges ≡ done ++ left
+  pub are_done : AreDone batches old done mid
+  pub was_left : IsCut last mid left new
+  -- the text of each CREATE TABLE reads as its table
+  pub back : AllByRecursion TextReadsBack batches
+  pub last_back : ForSome last TextReadsBack
 
--- behind them no transaction is open
-abbrev pub IsWhole : List Exchange → Type 0
-IsWhole part = IsServed part × (progress_of part ≡ none_open)
+-- behind them what was open is rolled back, as it is where a connection ends
+pub record IsWhole (part : List Exchange) : Type 0 where
+  pub served : List Exchange
+  pub rolled : List Exchange
+  pub mid : SessionProgress
+  pub new : SessionProgress
+  pub parts : part ≡ served ++ rolled
+  pub asked : IsServed served mid
+  pub end : Held rolls_back_open mid rolled tt new
 
--- so are those of a batch that was done
-abbrev pub DoneWhole : Type 0
-DoneWhole = (statements : List Served) (old new : SessionProgress) (exchanges : List Exchange) → old.is_open ≡ false → Held (batch statements) old exchanges tt new
-    → AllByRecursion (λ served. ReadsBack served.form) statements → IsWhole exchanges
+-- ---- a session
 
--- and those of one that was left in the middle, behind which its transaction was rolled back
-abbrev pub LeftWhole : Type 0
-LeftWhole = (statements : List Served) (old new : SessionProgress) (exchanges : List Exchange) (last : Exchange) (place : ℕ) → old.is_open ≡ false → Left (batch statements) old exchanges new
-    → AllByRecursion (λ served. ReadsBack served.form) statements → last.op ≡ Rollback → last.reply ≡ Ended place → IsWhole (exchanges ++ last ∷ [])
-
--- A session's exchanges are such, one behind another; behind the last a transaction may be open still.
+-- A session's exchanges are those of connections, one behind another; that of the last may not have ended.
 pub record AreServed (mine : List Exchange) : Type 0 where
   pub parts : List (List Exchange)
   pub last : List Exchange
+  pub now : SessionProgress
   pub split : mine ≡ flat_map (λ part. part) parts ++ last
   pub whole : AllByRecursion IsWhole parts
-  pub ends : IsServed last
+  pub ends : IsServed last now
+
+-- ---- a run
 
 -- so it is of each session
 abbrev pub ServeBatches : List Asked → Type 0

@@ -1,46 +1,50 @@
-//! Laws of soundness: each commit of the statements that batches are keeps a database sound in which no trigger is defined,
-//! and so each database that the commits of the log leave is sound: none of these statements defines a trigger.
+//! Laws of soundness: what a statement or a batch asks keeps what stands in its transaction, and each commit that it asks keeps a
+//! database sound in which no trigger is defined; and so each database that the commits of the log leave is sound: none of these
+//! statements defines a trigger.
 //!
-//! Read `specs/Tied.antt` first: what is asked of the exchanges of a session; then `specs/Laws.antt`. The functions do
-//! nothing: each one's contract is a law. They ask nothing of their caller; only the definitions that they cite say what
-//! they mean.
+//! Read `specs/Tied.antt` first: what is asked of the exchanges of a session, and of its statements; then `specs/Stands.antt`:
+//! the database at a transaction's place, with the transaction's changes so far, is intact, and so it was at each of its live
+//! marks. The functions do nothing: each one's contract is a law. They ask nothing of their caller; only the definitions that
+//! they cite say what they mean.
 #![tactic(auto)]
 
-ghost use Rattle.sound_laws.specs.Laws.{BatchSound, LogSound, StatementSound, WholeLogSound};
-ghost use Rattle.sound_laws.specs.Runs.{DoneWhole, LeftWhole, RunSound};
-ghost use Rattle.sound_laws.specs.Tied.{TextsBack};
+ghost use Rattle.sound_laws.specs.Laws.{BatchAgrees, BatchSound, IntactSound, LogSound, RollbackSound, ShutStands, StatementSound, WholeLogSound};
+ghost use Rattle.sound_laws.specs.Runs.{RunSound};
 
-/// The commit of a statement that went its path keeps a database sound in which no trigger is defined, and such.
+/// An intact database is sound.
+#[tactic(auto, using(crate::proofs::Logs::intact_sound))]
+pub fn law_intact_sound()
+    ensures { IntactSound }
+{}
+
+/// Where no transaction is open, what is to stand does: a session begins so, and comes to it behind each commit and each
+/// rollback.
+pub fn law_shut_stands()
+    ensures { ShutStands }
+{}
+
+/// What a statement asks keeps what stands, and each commit that it asks keeps its database intact, be it done or left in the
+/// middle; so does what stands in the statement, at whatever level.
 pub fn law_statement_sound()
     ensures { StatementSound }
 {}
 
-/// Each commit of a batch does.
+/// So does what a batch asks, and the rollback of what it has left open.
 pub fn law_batch_sound()
-    ensures { BatchSound }
+    ensures batch { BatchSound }
+    ensures open { BatchAgrees }
+    ensures rollback { RollbackSound }
 {}
 
-/// Where each commit of the log is one of a batch, of whatever session, every database that its first commits leave is
-/// sound.
+/// Where each commit of the log is one of a session that serves batches, every database that its first commits leave is
+/// intact.
 pub fn law_log_sound()
     ensures from { LogSound }
     ensures whole { WholeLogSound }
 {}
 
-/// What a batch has asked that was done, or left in the middle and rolled back, is such a part of a session's exchanges.
-pub fn law_served()
-    ensures done { DoneWhole }
-    ensures left { LeftWhole }
-{}
-
-/// In every run, of any sessions that ask what batches are, every database that the first commits of the log leave is sound.
+/// In every run, of any sessions that serve connections one behind another, every database that the first commits of the log
+/// leave is intact.
 pub fn law_run_sound()
     ensures { RunSound }
-{}
-
-/// What each CREATE TABLE keeps of a text that is served reads as its table, if the text is not too long: this the laws ask of
-/// statements.
-#[tactic(auto, using(crate::proofs::ReadingBack::texts_back))]
-pub fn law_reads_back()
-    ensures { TextsBack }
 {}

@@ -1,34 +1,16 @@
 -- A tree that was held is taken apart: what its first part asked, and what the rest did.
-use Rattle.std.proofs.Common.{◌≡◌, ◌⊎◌, inl, inr, Bool, true, false, if◌then◌else◌, List, [], ◌∷◌, ◌++◌, Result, Ok, Err, refl, sym, ap, ◌∙◌, subst}
-use Rattle.step_model.specs.declared.manner.Manner.{Manner}
+use Rattle.std.proofs.Common.{◌≡◌, ◌⊎◌, inl, inr, Bool, true, false, if◌then◌else◌, List, [], ◌∷◌, ◌++◌, Result, Ok, Err, refl, sym, ap, ◌∙◌, subst, append-nil}
+use Rattle.step_model.specs.declared.op.Op.{Op}
+use Rattle.step_model.specs.declared.reply.Reply.{Reply}
 use Rattle.step_model.specs.Dialog as said
 use Rattle.step_model.specs.Dialog.{Dialog}
 use Rattle.step_model.specs.Exchange.{Exchange}
 use Rattle.step_model.specs.Ranges.{no_memory}
 use Rattle.batch_meaning.specs.declared.failure.Failure.{Failure}
-use Rattle.batch_meaning.specs.Progress.{SessionProgress, SessionStep, begins, counts, touches, sends, made, asked}
+use Rattle.batch_meaning.specs.Progress.{SessionProgress, touches, made, asked, asked_all}
 use Rattle.batch_meaning.specs.Doing.{Doing, over, reads, makes, defines, asks, room, never, ◌then◌, Held, Left}
-use Rattle.batch_meaning.specs.Meaning.{fails, on_ok, ◌>>=◌, with_room, comes_to, ◌gives◌, holds}
-
--- ---- the manner
-
-made_manner : (step : SessionStep) (p : SessionProgress) → (made step p).manner ≡ p.manner
-made_manner begins p = refl
-made_manner counts p = refl
-made_manner touches p = refl
-made_manner (sends tokens) p = refl
-
--- a session asks in one manner
-pub held_manner : {A : Type 0} (tree : Doing A) (p new : SessionProgress) (exchanges : List Exchange) (a : A) → Held tree p exchanges a new → new.manner ≡ p.manner
-unfolding Held
-held_manner (over c) p new exchanges a held = ap (λ (q : SessionProgress). q.manner) held.2
-held_manner (reads look) p new exchanges a held = held_manner (look p) p new exchanges a held
-held_manner (makes step next) p new exchanges a held = held_manner next (made step p) new exchanges a held ∙ made_manner step p
-held_manner (defines row go) p new exchanges a held = held_manner (go held.0) p new exchanges a held.2
-held_manner (asks op go) p new [] a held = absurd held
-held_manner (asks op go) p new (x ∷ later) a held = held_manner (go x.reply) (asked op x.reply p) new later a held.3
-held_manner (room go) p new exchanges a held = held_manner (go held.0) p new exchanges a held.1
-held_manner never p new exchanges a held = absurd held
+use Rattle.batch_meaning.specs.Asking.{fails, on_ok, ◌>>=◌, with_room, comes_to, ◌gives◌, holds}
+use Rattle.statement_paths.specs.Paths.{IsAsked}
 
 -- ---- one tree behind another
 
@@ -136,48 +118,60 @@ pub comes_apart : {A : Type 0} (result : Result A Failure) (p new : SessionProgr
 unfolding Held
 comes_apart result p new exchanges a held = let was = room_apart (over result) p new exchanges a held in (was.0, sym was.1, was.2)
 
--- the same, going on
-pub bind_on : {A B Goal : Type 0} (manner : Manner) (tree : Doing (Result A Failure)) (go : A → Doing (Result B Failure)) (p new : SessionProgress) (exchanges : List Exchange) (b : B) → p.manner ≡ manner → Held (tree >>= go) p exchanges (Ok b) new
-    → ((front back : List Exchange) (a : A) (mid : SessionProgress) → exchanges ≡ front ++ back → Held tree p front (Ok a) mid → mid.manner ≡ manner → Held (go a) mid back (Ok b) new → Goal) → Goal
-bind_on manner tree go p new exchanges b is held on =
-    let was = bind_apart tree go p new exchanges b held in on was.0 was.1 was.2 was.3 was.4 was.5 (held_manner tree p was.3 was.0 (Ok was.2) was.5 ∙ is) was.6
-
--- behind a result that is there at once
-pub comes_on : {A B Goal : Type 0} (manner : Manner) (result : Result A Failure) (go : A → Doing (Result B Failure)) (p new : SessionProgress) (exchanges : List Exchange) (b : B) → p.manner ≡ manner → Held (comes_to result >>= go) p exchanges (Ok b) new
-    → ((a : A) (mid : SessionProgress) → result ≡ Ok a → mid.manner ≡ manner → Held (go a) mid exchanges (Ok b) new → Goal) → Goal
-comes_on {A = A} {B = B} {Goal = Goal} manner result go p new exchanges b is held on = bind_on manner (comes_to result) go p new exchanges b is held by_parts
+-- by what the first part came to, where the whole failed: it failed so, or it succeeded, and the rest failed
+pub bind_failed : {A B : Type 0} (tree : Doing (Result A Failure)) (go : A → Doing (Result B Failure)) (p new : SessionProgress) (exchanges : List Exchange) (failure : Failure)
+    → Held (tree >>= go) p exchanges (Err failure) new
+    → Held tree p exchanges (Err failure) new ⊎ ((front back : List Exchange) × (a : A) × (mid : SessionProgress) × (exchanges ≡ front ++ back) × Held tree p front (Ok a) mid × Held (go a) mid back (Err failure) new)
+unfolding Held
+bind_failed {A = A} {B = B} tree go p new exchanges failure held =
+    let on = held_apart tree (on_ok go) p new exchanges (Err failure) held in by_came on.front on.back on.mid on.came on.parts on.held on.rest
   where
-    by_parts : (front back : List Exchange) (a : A) (mid : SessionProgress) → exchanges ≡ front ++ back → Held (comes_to result) p front (Ok a) mid → mid.manner ≡ manner → Held (go a) mid back (Ok b) new → Goal
-    by_parts front back a mid parts was same rest =
-        let came = comes_apart result p mid front a was in
-        on a mid came.1 same (subst (λ (l : List Exchange). Held (go a) mid l (Ok b) new) (sym (parts ∙ ap (λ (l : List Exchange). l ++ back) came.0)) rest)
+    by_came : (front back : List Exchange) (mid : SessionProgress) (came : Result A Failure) → exchanges ≡ front ++ back → Held tree p front came mid → Held (on_ok go came) mid back (Err failure) new
+        → Held tree p exchanges (Err failure) new ⊎ ((front back : List Exchange) × (a : A) × (mid : SessionProgress) × (exchanges ≡ front ++ back) × Held tree p front (Ok a) mid × Held (go a) mid back (Err failure) new)
+    by_came front back mid (Ok a) parts was rest = inr (front, back, a, mid, parts, was, rest)
+    by_came front back mid (Err why) parts was rest =
+        let same : why ≡ failure = (let so : Err failure ≡ Err why = rest.1 in cc) in
+        let whole : front ≡ exchanges = sym (parts ∙ ap (λ (l : List Exchange). front ++ l) rest.0 ∙ append-nil front) in
+        inl (subst (λ (q : SessionProgress). Held tree p exchanges (Err failure) q) (sym rest.2) (subst (λ (l : List Exchange). Held tree p l (Err failure) mid) whole (subst (λ (f : Failure). Held tree p front (Err f) mid) same was)))
+
+-- one operation, and what its reply leads to
+pub asks_apart : {A : Type 0} (op : Op) (go : Reply → Doing A) (p new : SessionProgress) (exchanges : List Exchange) (a : A) → Held (asks op go) p exchanges a new
+    → (x : Exchange) × (later : List Exchange) × (exchanges ≡ x ∷ later) × IsAsked p.settings.manner op x × Held (go x.reply) (asked op x.reply p) later a new
+unfolding Held
+asks_apart op go p new [] a held = absurd held
+asks_apart op go p new (x ∷ later) a held = (x, later, refl, (held.0, held.1, held.2), held.3)
 
 -- ---- dialogs
 
 -- a dialog was held, and behind it the rest was done
-pub record Said {A : Type 0} (manner : Manner) (dialog : Dialog A) (exchanges : List Exchange) (Rest : A → SessionProgress → List Exchange → Type 0) : Type 0 where
+pub record Said {A : Type 0} (p : SessionProgress) (dialog : Dialog A) (exchanges : List Exchange) (Rest : A → SessionProgress → List Exchange → Type 0) : Type 0 where
   pub front : List Exchange
   pub back : List Exchange
   pub came : A
-  pub mid : SessionProgress
   pub parts : exchanges ≡ front ++ back
-  pub same : mid.manner ≡ manner
-  pub held : said.Held manner dialog front came
-  pub rest : Rest came mid back
+  pub held : said.Held p.settings.manner dialog front came
+  pub rest : Rest came (asked_all front p) back
 
-gives_apart : {A B : Type 0} (dialog : Dialog A) (go : A → Doing B) (manner : Manner) (p new : SessionProgress) (exchanges : List Exchange) (b : B)
-    → p.manner ≡ manner → Held (dialog gives go) p exchanges b new → Said manner dialog exchanges (λ a mid back. Held (go a) mid back b new)
+pub gives_apart : {A B : Type 0} (dialog : Dialog A) (go : A → Doing B) (p new : SessionProgress) (exchanges : List Exchange) (b : B)
+    → Held (dialog gives go) p exchanges b new → Said p dialog exchanges (λ a mid back. Held (go a) mid back b new)
 unfolding Held said.Held ◌gives◌
-gives_apart (said.over c) go manner p new exchanges b is held = record { front = []; back = exchanges; came = c; mid = p; parts = refl; same = is; held = (refl, refl); rest = held }
-gives_apart (said.asks op quiet next) go manner p new [] b is held = absurd held
-gives_apart (said.asks op quiet next) go manner p new (x ∷ later) b is held =
-    let on = gives_apart (next x.reply) go manner (asked op x.reply p) new later b is held.3 in
-    record { front = x ∷ on.front; back = on.back; came = on.came; mid = on.mid; parts = ap (λ (l : List Exchange). x ∷ l) on.parts; same = on.same; held = (held.0, held.1 ∙ is, held.2, on.held); rest = on.rest }
-gives_apart (said.room next) go manner p new exchanges b is held =
-    let on = gives_apart (next held.0) go manner p new exchanges b is held.1 in record { front = on.front; back = on.back; came = on.came; mid = on.mid; parts = on.parts; same = on.same; held = (held.0, on.held); rest = on.rest }
-gives_apart said.never go manner p new exchanges b is held = absurd held
+gives_apart (said.over c) go p new exchanges b held = record { front = []; back = exchanges; came = c; parts = refl; held = (refl, refl); rest = held }
+gives_apart (said.asks op quiet next) go p new [] b held = absurd held
+gives_apart (said.asks op quiet next) go p new (x ∷ later) b held =
+    let on = gives_apart (next x.reply) go (asked op x.reply p) new later b held.3 in
+    record {
+      front = x ∷ on.front;
+      back = on.back;
+      came = on.came;
+      parts = ap (λ (l : List Exchange). x ∷ l) on.parts;
+      held = (held.0, held.1, held.2, on.held);
+      rest = subst (λ (o : Op). Held (go on.came) (asked_all on.front (asked o x.reply p)) on.back b new) (sym held.0) on.rest;
+    }
+gives_apart (said.room next) go p new exchanges b held =
+    let on = gives_apart (next held.0) go p new exchanges b held.1 in record { front = on.front; back = on.back; came = on.came; parts = on.parts; held = (held.0, on.held); rest = on.rest }
+gives_apart said.never go p new exchanges b held = absurd held
 
-pub holds_apart : {A B : Type 0} (dialog : Dialog A) (go : A → Doing B) (manner : Manner) (p new : SessionProgress) (exchanges : List Exchange) (b : B)
-    → p.manner ≡ manner → Held (holds dialog go) p exchanges b new → Said manner dialog exchanges (λ a mid back. Held (go a) mid back b new)
+pub holds_apart : {A B : Type 0} (dialog : Dialog A) (go : A → Doing B) (p new : SessionProgress) (exchanges : List Exchange) (b : B)
+    → Held (holds dialog go) p exchanges b new → Said (made touches p) dialog exchanges (λ a mid back. Held (go a) mid back b new)
 unfolding Held
-holds_apart dialog go manner p new exchanges b is held = gives_apart dialog go manner (made touches p) new exchanges b is held
+holds_apart dialog go p new exchanges b held = gives_apart dialog go (made touches p) new exchanges b held

@@ -1,5 +1,5 @@
 -- A dialog that was held is taken apart.
-use Rattle.std.proofs.Common.{◌≡◌, Bool, true, false, if◌then◌else◌, ℕ, List, [], ◌∷◌, ◌++◌, Result, Ok, Err, refl, ap, ◌∙◌, subst, append-nil}
+use Rattle.std.proofs.Common.{◌≡◌, inl, inr, Bool, true, false, if◌then◌else◌, ℕ, List, [], ◌∷◌, ◌++◌, Some, Result, Ok, Err, refl, sym, ap, ◌∙◌, subst, append-nil}
 use Rattle.tsql_tree.specs.declared.definition.TableTree.{TableTree}
 use Rattle.step_model.specs.declared.change.Planned.{Planned}
 use Rattle.step_model.specs.declared.manner.Manner.{Manner}
@@ -11,12 +11,15 @@ use Rattle.step_model.specs.Dialog.{Dialog, over, asks, room, never, ◌then◌,
 use Rattle.step_model.specs.Exchange.{Exchange, CanReply}
 use Rattle.constraint_check.specs.Reads.{reads_for}
 use Rattle.dml_exec.specs.declared.refusal.Refusal.{Refusal}
+use Rattle.dml_exec.specs.declared.written.Attempt.{Attempt}
 use Rattle.dml_exec.specs.declared.written.Written.{Written}
 use Rattle.dml_exec.specs.declared.written.Written.TheVariants as written
 use Rattle.dml_exec.specs.Asking.{on_ok, ◌>>=◌, with_room}
-use Rattle.dml_exec.specs.Writing.{no_room, writes_all, checks_all, works, outcome, where_done, ends, marked, writes}
+use Rattle.dml_exec.specs.Writing.{no_room, writes_all, checks_all, works, told, outcome, where_done, ends, marked, attempts, writes}
 use Rattle.dml_exec.proofs.Halts.{by_outcome}
-use Rattle.statement_paths.specs.Paths.{replied, AreApplied}
+use Rattle.statement_paths.specs.Paths.{replied, AreApplied, IsForward, IsUndone}
+use Rattle.statement_paths.proofs.Only.{says_held}
+use Rattle.statement_paths.proofs.Asking.{works_say}
 
 -- ---- exchanges
 
@@ -36,6 +39,14 @@ said_apart (asks op quiet next) go manner (x ∷ later) b held =
     let on = said_apart (next x.reply) go manner later b held.3 in (x ∷ on.0, on.1, on.2, ap (λ (l : List Exchange). x ∷ l) on.3, (held.0, held.1, held.2, on.4), on.5)
 said_apart (room next) go manner exchanges b held = let on = said_apart (next held.0) go manner exchanges b held.1 in (on.0, on.1, on.2, on.3, (held.0, on.4), on.5)
 said_apart never go manner exchanges b held = absurd held
+
+said_then : {A B : Type 0} (dialog : Dialog A) (go : A → Dialog B) (manner : Manner) (front back : List Exchange) (a : A) (b : B) → Held manner dialog front a → Held manner (go a) back b → Held manner (dialog then go) (front ++ back) b
+unfolding Held ◌then◌
+said_then (over c) go manner front back a b held more = rw (held.0) (subst (λ x. Held manner (go x) back b) held.1 more)
+said_then (asks op quiet next) go manner [] back a b held more = absurd held
+said_then (asks op quiet next) go manner (x ∷ front) back a b held more = (held.0, held.1, held.2, said_then (next x.reply) go manner front back a b held.3 more)
+said_then (room next) go manner front back a b held more = (held.0, said_then (next held.0) go manner front back a b held.1 more)
+said_then never go manner front back a b held more = absurd held
 
 -- the first part succeeded, where the whole did
 said_bind : {A B E : Type 0} (dialog : Dialog (Result A E)) (go : A → Dialog (Result B E)) (manner : Manner) (exchanges : List Exchange) (b : B) → Held manner (dialog >>= go) exchanges (Ok b)
@@ -72,36 +83,96 @@ module _ (manner : Manner) (shapes : List TableTree) (planned : List Planned) wh
       (on.0, on.1, on.3, on.4, said_room no_room (checks_all shapes (reads_for planned shapes)) manner on.1 tt on.5)
 
   -- where the changes stand, this is the mark, and nothing was asked for it
-  ends_apart : (mark number : ℕ) (came : Result (Unit {0}) _) (back : List Exchange) → Held manner (ends number came) back (Ok (written.Done mark)) → (back ≡ []) × (came ≡ Ok tt) × (mark ≡ number)
+  ends_apart : (mark number : ℕ) (came : Result (Unit {0}) _) (back : List Exchange) (attempt : Attempt) → Held manner (ends number came) back attempt → attempt.came ≡ Ok (written.Done mark) → (back ≡ []) × (came ≡ Ok tt) × (mark ≡ number)
   unfolding Held
-  ends_apart mark number (Ok done) back held = (held.0, refl, let same : Ok (written.Done mark) ≡ Ok (written.Done number) = held.1 in cc)
-  ends_apart mark number (Err why) [] held = absurd held
-  ends_apart mark number (Err why) (x ∷ later) held = absurd (by_reply x.reply held.2 held.3)
+  ends_apart mark number (Ok done) back attempt held is = (held.0, refl, let same : Ok (written.Done mark) ≡ Ok (written.Done number) = sym is ∙ ap (λ (a : Attempt). a.came) held.1 in cc)
+  ends_apart mark number (Err why) [] attempt held is = absurd held
+  ends_apart mark number (Err why) (x ∷ later) attempt held is = absurd (by_reply x.reply held.2 held.3)
     where
-      by_reply : (reply : Reply) → CanReply (ops.BackTo number) reply → Held manner (where_done (over (outcome why)) reply) later (Ok (written.Done mark)) → ⊥
-      by_reply replies.Done can was = never_done mark why was.1
+      by_reply : (reply : Reply) → CanReply (ops.BackTo number) reply → Held manner (where_done (over (told (Some number) (outcome why))) reply) later attempt → ⊥
+      by_reply replies.Done can was = never_done mark why (sym is ∙ ap (λ (a : Attempt). a.came) was.1)
       by_reply reply can was = absurd can
 
-  pub writes_apart : (mark : ℕ) (exchanges : List Exchange) → Held manner (writes shapes planned) exchanges (Ok (written.Done mark)) → AreApplied manner shapes planned exchanges
-  unfolding Held writes
-  writes_apart mark [] held = absurd held
-  writes_apart mark (x ∷ later) held = by_reply x.reply refl held.2 held.3
+  joined : (mark number : ℕ) (x : Exchange) (later front back put checked : List Exchange) → x ≡ replied manner ops.Mark (replies.Marked number) → mark ≡ number → later ≡ front ++ back → back ≡ [] → front ≡ put ++ checked
+      → x ∷ later ≡ replied manner ops.Mark (replies.Marked mark) ∷ (put ++ checked)
+  joined mark number x later front back put checked is same parts none all =
+      ap (λ (y : Exchange). y ∷ later) (is ∙ ap (λ (n : ℕ). replied manner ops.Mark (replies.Marked n)) (sym same))
+      ∙ ap (λ (l : List Exchange). replied manner ops.Mark (replies.Marked mark) ∷ l) (parts ∙ ap (λ (l : List Exchange). front ++ l) none ∙ append-nil front ∙ all)
+
+  -- the mark, the changes and their checks
+  record Attempted (mark : ℕ) (exchanges : List Exchange) : Type 0 where
+    pub put : List Exchange
+    pub checked : List Exchange
+    pub parts : exchanges ≡ replied manner ops.Mark (replies.Marked mark) ∷ (put ++ checked)
+    pub puts : Held manner (writes_all shapes planned) put (Ok tt)
+    pub checks : Held manner (checks_all shapes (reads_for planned shapes)) checked (Ok tt)
+
+  attempts_apart : (mark : ℕ) (exchanges : List Exchange) (attempt : Attempt) → Held manner (attempts shapes planned) exchanges attempt → attempt.came ≡ Ok (written.Done mark) → Attempted mark exchanges
+  unfolding Held attempts
+  attempts_apart mark [] attempt held is = absurd held
+  attempts_apart mark (x ∷ later) attempt held is = by_reply x.reply refl held.2 held.3
     where
-      by_reply : (reply : Reply) → x.reply ≡ reply → CanReply ops.Mark reply → Held manner (marked shapes planned reply) later (Ok (written.Done mark)) → AreApplied manner shapes planned (x ∷ later)
-      by_reply (replies.Marked number) told can was =
-          let on = said_apart (works shapes planned) (ends number) manner later (Ok (written.Done mark)) was in
-          let end = ends_apart mark number on.2 on.1 on.5 in
+      by_reply : (reply : Reply) → x.reply ≡ reply → CanReply ops.Mark reply → Held manner (marked shapes planned reply) later attempt → Attempted mark (x ∷ later)
+      by_reply (replies.Marked number) was_told can was =
+          let on = said_apart (works shapes planned) (ends number) manner later attempt was in
+          let end = ends_apart mark number on.2 on.1 attempt on.5 is in
           let done : Held manner (works shapes planned) on.0 (Ok tt) = subst (λ (r : Result (Unit {0}) _). Held manner (works shapes planned) on.0 r) end.1 on.4 in
           let parts = works_apart on.0 done in
           record {
-            mark = number;
             put = parts.0;
             checked = parts.1;
-            parts = ap (λ (y : Exchange). y ∷ later) (is_replied x manner ops.Mark (replies.Marked number) held.0 held.1 told)
-                ∙ ap (λ (l : List Exchange). replied manner ops.Mark (replies.Marked number) ∷ l) (on.3 ∙ ap (λ (l : List Exchange). on.0 ++ l) end.0 ∙ append-nil on.0 ∙ parts.2);
+            parts = joined mark number x later on.0 on.1 parts.0 parts.1 (is_replied x manner ops.Mark (replies.Marked number) held.0 held.1 was_told) end.2 on.3 end.0 parts.2;
             puts = parts.3;
             checks = parts.4;
-            whole = subst (λ (n : ℕ). Held manner (writes shapes planned) (x ∷ later) (Ok (written.Done n))) end.2 held;
           }
-      by_reply replies.Memory told can was = absurd (let no : Ok (written.Done mark) ≡ Err _ = was.1 in cc)
-      by_reply reply told can was = absurd can
+      by_reply replies.Memory was_told can was = absurd (let no : Ok (written.Done mark) ≡ Err _ = sym is ∙ ap (λ (a : Attempt). a.came) was.1 in cc)
+      by_reply reply was_told can was = absurd can
+
+  -- where an attempt came to Done, this is its mark
+  pub applied_apart : (mark : ℕ) (exchanges : List Exchange) (attempt : Attempt) → Held manner (attempts shapes planned) exchanges attempt → attempt.came ≡ Ok (written.Done mark) → AreApplied manner shapes planned exchanges
+  unfolding Held writes
+  applied_apart mark exchanges attempt held is =
+      let parts = attempts_apart mark exchanges attempt held is in
+      record {
+        mark = mark;
+        put = parts.put;
+        checked = parts.checked;
+        parts = parts.parts;
+        puts = parts.puts;
+        checks = parts.checks;
+        whole = subst (λ (l : List Exchange). Held manner (writes shapes planned) l (Ok (written.Done mark))) (append-nil exchanges)
+            (said_then (attempts shapes planned) (λ one. over one.came) manner exchanges [] attempt (Ok (written.Done mark)) held (refl, sym is));
+      }
+
+  -- ---- where it did not come to Done
+
+  -- something was undone, if it was asked
+  ends_undone : (number : ℕ) (came : Result (Unit {0}) _) (front back : List Exchange) (attempt : Attempt) → Held manner (works shapes planned) front came → Held manner (ends number came) back attempt
+      → ((mark : ℕ) → attempt.came ≡ Ok (written.Done mark) → ⊥) → back ≡ replied manner (ops.BackTo number) replies.Done ∷ []
+  unfolding Held
+  ends_undone number (Ok done) front back attempt was held undone = absurd (undone number (ap (λ (a : Attempt). a.came) held.1))
+  ends_undone number (Err why) front [] attempt was held undone = absurd held
+  ends_undone number (Err why) front (x ∷ later) attempt was held undone = by_reply x.reply refl held.2 held.3
+    where
+      by_reply : (reply : Reply) → x.reply ≡ reply → CanReply (ops.BackTo number) reply → Held manner (where_done (over (told (Some number) (outcome why))) reply) later attempt → x ∷ later ≡ replied manner (ops.BackTo number) replies.Done ∷ []
+      by_reply replies.Done was_told can rest = ap (λ (y : Exchange). y ∷ later) (is_replied x manner (ops.BackTo number) replies.Done held.0 held.1 was_told) ∙ ap (λ (l : List Exchange). replied manner (ops.BackTo number) replies.Done ∷ l) rest.0
+      by_reply reply was_told can rest = absurd can
+
+  pub undone_apart : (exchanges : List Exchange) (attempt : Attempt) → Held manner (attempts shapes planned) exchanges attempt → ((mark : ℕ) → attempt.came ≡ Ok (written.Done mark) → ⊥) → IsUndone manner exchanges
+  unfolding Held attempts
+  undone_apart [] attempt held undone = absurd held
+  undone_apart (x ∷ later) attempt held undone = by_reply x.reply refl held.2 held.3
+    where
+      by_reply : (reply : Reply) → x.reply ≡ reply → CanReply ops.Mark reply → Held manner (marked shapes planned reply) later attempt → IsUndone manner (x ∷ later)
+      by_reply (replies.Marked number) was_told can was =
+          let on = said_apart (works shapes planned) (ends number) manner later attempt was in
+          let back = ends_undone number on.2 on.0 on.1 attempt on.4 on.5 undone in
+          inr (inr (record {
+            mark = number;
+            between = on.0;
+            parts = ap (λ (y : Exchange). y ∷ later) (is_replied x manner ops.Mark (replies.Marked number) held.0 held.1 was_told) ∙ ap (λ (l : List Exchange). replied manner ops.Mark (replies.Marked number) ∷ l) (on.3 ∙ ap (λ (l : List Exchange). on.0 ++ l) back);
+            forward = says_held IsForward manner (works shapes planned) on.0 on.2 (works_say shapes planned) on.4;
+          }))
+      by_reply replies.Memory was_told can was =
+          inr (inl (ap (λ (y : Exchange). y ∷ later) (is_replied x manner ops.Mark replies.Memory held.0 held.1 was_told) ∙ ap (λ (l : List Exchange). replied manner ops.Mark replies.Memory ∷ l) was.0))
+      by_reply reply was_told can was = absurd can

@@ -1,12 +1,15 @@
 -- Read in this order; the comment behind a name says what the file is for.
+pub mod Only  -- trees that make only such steps, and ask only such operations
+pub mod Still  -- what reads alone changes nothing of the session
 pub mod Apart  -- a tree is taken apart
+pub mod Asking  -- which operations the dialogs of a statement ask
 pub mod Dialogs  -- a dialog is taken apart
 pub mod Looking  -- what was looked up, and what is defined
 pub mod Working  -- what each statement has asked within its transaction
-pub mod Calm  -- trees that ask no commit
-pub mod Owned  -- a transaction of a statement
-pub mod Statements  -- the path of a statement
-pub mod Batches  -- the paths of a batch
-pub mod Keeping  -- what a statement came to is not sent yet
-pub mod Runs  -- what a batch has sent, beside what it has asked
+pub mod Failing  -- what it has asked where it failed
+pub mod Works  -- what the work of a statement leaves of its session
+pub mod Owned  -- in the open transaction, or in one of its own
+pub mod Statements  -- what a statement that is done with its effect has asked
+pub mod Unasked  -- where a statement asks nothing
+pub mod Laws  -- the laws
 mod StandardFacts  -- worked parts

@@ -6,28 +6,68 @@ use Rattle.catalog_rows.specs.Definitions.{IsDefinitionIn, is_objects}
 use Rattle.step_model.specs.declared.manner.Manner.{Manner}
 use Rattle.step_model.specs.declared.op.Op.{Op}
 use Rattle.step_model.specs.declared.range.Start.{Start}
-use Rattle.step_model.specs.declared.range.Start.TheVariants.{First, Past}
+use Rattle.step_model.specs.declared.range.Start.TheVariants.{First}
 use Rattle.step_model.specs.declared.reply.Reply.{Reply}
 use Rattle.step_model.specs.declared.reply.Reply.TheVariants as replies
 use Rattle.step_model.specs.Exchange.{Exchange, CanReply}
+use Rattle.dml_exec.specs.Reading.{behind_gone}
 use Rattle.step_model.specs.Ranges.{range_limit}
+use Rattle.reading_laws.specs.Reads.{IsFetch}
 use Rattle.batch_meaning.specs.declared.failure.Failure.{Failure}
 use Rattle.batch_meaning.specs.Progress.{SessionProgress, asked}
-use Rattle.batch_meaning.specs.Doing.{Doing, over, asks, defines, Held}
-use Rattle.batch_meaning.specs.Meaning.{unless_refused, with_room, known, definition_fetch, look_up, is_table, with_found, looks_up, objects_fetch, defined_by, defined_on, defined_from, reads_definitions}
+use Rattle.batch_meaning.specs.Doing.{over, asks, defines, Held}
+use Rattle.batch_meaning.specs.Asking.{unless_refused, with_room, known, definition_fetch, look_up, is_table, with_found, looks_up, objects_fetch, defined_by, defined_on, defined_from, reads_definitions}
 use Rattle.statement_paths.specs.Paths.{IsAsked, IsFound, IsLookedUp, AreLookedUp, AddsBy, AreDefined}
-use Rattle.statement_paths.proofs.Apart.{held_manner, bind_apart, room_apart}
+use Rattle.statement_paths.proofs.Only.{IsTouch, only_bind, only_room, only_if}
+use Rattle.statement_paths.proofs.Still.{Reads, reads_still, still_manner}
+use Rattle.statement_paths.proofs.Apart.{asks_apart, bind_apart, room_apart}
 
 pub ok_same : {A E : Type 0} (a b : A) → ◌≡◌ {A = Result A E} (Ok a) (Ok b) → a ≡ b
 ok_same a b is = cc
 
+-- ---- they fetch alone
+
+known_reads : (name : List ℕ) (reply : Reply) → CanReply (definition_fetch name) reply → Reads (unless_refused known reply)
+known_reads name (replies.Row key row at) can = λ enough. only_if IsTouch IsFetch enough _ (over (Err _)) (λ found. tt) tt
+known_reads name replies.Memory can = tt
+known_reads name (replies.TimedOut holder held wanted on) can = tt
+known_reads name (replies.Victim cycle) can = tt
+known_reads name reply can = tt
+
+look_reads : (name : List ℕ) → Reads (look_up name)
+unfolding look_up
+look_reads name = only_if IsTouch IsFetch (is_objects name) (over (Ok None)) _ tt (only_room IsTouch IsFetch (asks (definition_fetch name) (unless_refused known)) (tt, known_reads name))
+
+pub looks_read : (names : List (List ℕ)) (so_far : List Definition) → Reads (looks_up so_far names)
+unfolding looks_up
+looks_read [] so_far = tt
+looks_read (name ∷ names) so_far = only_bind IsTouch IsFetch (look_up name) (λ found. if is_table found then with_room (looks_up (with_found so_far found) names) else over (Ok so_far)) (look_reads name)
+    (λ found. only_if IsTouch IsFetch (is_table found) _ (over (Ok so_far)) (only_room IsTouch IsFetch (looks_up (with_found so_far found) names) (looks_read names (with_found so_far found))) tt)
+
+by_reads : (start : Start) (so_far : List Definition) (reply : Reply) → CanReply (objects_fetch start) reply → Reads (unless_refused (defined_by so_far) reply)
+by_reads start so_far (replies.Row key row at) can = λ enough. only_if IsTouch IsFetch enough _ (over (Err _)) (λ found. only_room IsTouch IsFetch (over (Ok _)) tt) tt
+by_reads start so_far replies.Memory can = tt
+by_reads start so_far (replies.TimedOut holder held wanted on) can = tt
+by_reads start so_far (replies.Victim cycle) can = tt
+by_reads start so_far reply can = tt
+
+defined_reads : (left : ℕ) (start : Start) (so_far : List Definition) → Reads (defined_from left start so_far)
+unfolding defined_from
+defined_reads zero start so_far = tt
+defined_reads (suc left) start so_far = only_bind IsTouch IsFetch (asks (objects_fetch start) (unless_refused (defined_by so_far))) (defined_on (λ more key. defined_from left (behind_gone 1 key) more)) (tt, by_reads start so_far)
+    (by_came (λ more key. defined_reads left (behind_gone 1 key) more))
+  where
+    by_came : ((more : List Definition) (key : List Value) → Reads (defined_from left (behind_gone 1 key) more)) → (came : List Definition × Option (List Value)) → Reads (defined_on (λ more key. defined_from left (behind_gone 1 key) more) came)
+    by_came on (more, None) = tt
+    by_came on (more, Some key) = on more key
+
+pub definitions_read : Reads reads_definitions
+unfolding reads_definitions
+definitions_read = only_room IsTouch IsFetch (defined_from range_limit First []) (defined_reads range_limit First [])
+
 module _ (manner : Manner) where
-  -- one operation, and what its reply leads to
-  asks_apart : {A : Type 0} (op : Op) (go : Reply → Doing A) (p new : SessionProgress) (exchanges : List Exchange) (a : A) → p.manner ≡ manner → Held (asks op go) p exchanges a new
-      → (x : Exchange) × (later : List Exchange) × (exchanges ≡ x ∷ later) × IsAsked manner op x × Held (go x.reply) (asked op x.reply p) later a new
-  unfolding Held
-  asks_apart op go p new [] a is held = absurd held
-  asks_apart op go p new (x ∷ later) a is held = (x, later, refl, (held.0, held.1 ∙ is, held.2), held.3)
+  in_manner : (op : Op) (x : Exchange) (p : SessionProgress) → p.settings.manner ≡ manner → IsAsked p.settings.manner op x → IsAsked manner op x
+  in_manner op x p is asked = (asked.0, asked.1 ∙ is, asked.2)
 
   -- ---- look-ups
 
@@ -44,16 +84,16 @@ module _ (manner : Manner) where
   found_by name (replies.Victim cycle) p new later found can held = absurd (let no : Ok found ≡ Err _ = held.1 in cc)
   found_by name reply p new later found can held = absurd can
 
-  look_apart : (name : List ℕ) (p new : SessionProgress) (exchanges : List Exchange) (found : Option Definition) → p.manner ≡ manner → Held (look_up name) p exchanges (Ok found) new → IsLookedUp manner (is_objects name) name exchanges found
+  look_apart : (name : List ℕ) (p new : SessionProgress) (exchanges : List Exchange) (found : Option Definition) → p.settings.manner ≡ manner → Held (look_up name) p exchanges (Ok found) new → IsLookedUp manner (is_objects name) name exchanges found
   unfolding look_up Held
   look_apart name p new exchanges found is held = by_test (is_objects name) held
     where
       by_test : (test : Bool) → Held (if test then over (Ok None) else with_room (asks (definition_fetch name) (unless_refused known))) p exchanges (Ok found) new → IsLookedUp manner test name exchanges found
       by_test true was = (was.0, ok_same {E = Failure} found None was.1)
       by_test false was =
-          let on = asks_apart (definition_fetch name) (unless_refused known) p new exchanges (Ok found) is (room_apart (asks (definition_fetch name) (unless_refused known)) p new exchanges found was) in
+          let on = asks_apart (definition_fetch name) (unless_refused known) p new exchanges (Ok found) (room_apart (asks (definition_fetch name) (unless_refused known)) p new exchanges found was) in
           let by = found_by name on.0.reply (asked (definition_fetch name) on.0.reply p) new on.1 found on.3.2 on.4 in
-          (on.0, on.2 ∙ ap (λ (l : List Exchange). on.0 ∷ l) by.0, on.3, by.1)
+          (on.0, on.2 ∙ ap (λ (l : List Exchange). on.0 ∷ l) by.0, in_manner (definition_fetch name) on.0 p is on.3, by.1)
 
   -- behind what was found
   on_found : (so_far : List Definition) (found : Option Definition) (names : List (List ℕ)) (p new : SessionProgress) (later : List Exchange) (definitions : List Definition)
@@ -65,7 +105,7 @@ module _ (manner : Manner) where
   on_found so_far found names p new later definitions on false so held = inr (so, held.0, ok_same {E = Failure} definitions so_far held.1)
 
   pub looks_apart : (names : List (List ℕ)) (so_far : List Definition) (p new : SessionProgress) (exchanges : List Exchange) (definitions : List Definition)
-      → p.manner ≡ manner → Held (looks_up so_far names) p exchanges (Ok definitions) new → AreLookedUp manner so_far names exchanges definitions
+      → p.settings.manner ≡ manner → Held (looks_up so_far names) p exchanges (Ok definitions) new → AreLookedUp manner so_far names exchanges definitions
   unfolding looks_up Held
   looks_apart [] so_far p new exchanges definitions is held = (held.0, ok_same {E = Failure} definitions so_far held.1)
   looks_apart (name ∷ names) so_far p new exchanges definitions is held =
@@ -76,13 +116,13 @@ module _ (manner : Manner) where
         on.4,
         look_apart name p on.3 on.0 on.2 is on.5,
         on_found so_far on.2 names on.3 new on.1 definitions
-            (λ more. looks_apart names (with_found so_far on.2) on.3 new on.1 definitions (held_manner (look_up name) p on.3 on.0 (Ok on.2) on.5 ∙ is) more) (is_table on.2) refl on.6,
+            (λ more. looks_apart names (with_found so_far on.2) on.3 new on.1 definitions (still_manner p on.3 (reads_still p (look_up name) on.3 on.0 (Ok on.2) (look_reads name) on.5) ∙ is) more) (is_table on.2) refl on.6,
       )
 
   -- ---- all definitions
 
   adds_by : (GoesOn : Start → List Definition → Type 0) (Ends : List Definition → Type 0) (start : Start) (so_far : List Definition) (reply : Reply) (p new : SessionProgress) (later : List Exchange) (came : List Definition × Option (List Value))
-      → ((more : List Definition) (key : List Value) → came ≡ (more, Some key) → GoesOn (Past key) more) → ((more : List Definition) → came ≡ (more, None) → Ends more)
+      → ((more : List Definition) (key : List Value) → came ≡ (more, Some key) → GoesOn (behind_gone 1 key) more) → ((more : List Definition) → came ≡ (more, None) → Ends more)
       → CanReply (objects_fetch start) reply → Held (unless_refused (defined_by so_far) reply) p later (Ok came) new → (later ≡ []) × AddsBy GoesOn Ends so_far reply
   unfolding Held
   adds_by GoesOn Ends start so_far (replies.Row key row at) p new later came on end can held =
@@ -97,22 +137,22 @@ module _ (manner : Manner) where
   adds_by GoesOn Ends start so_far reply p new later came on end can held = absurd can
 
   defined_apart : (left : ℕ) (start : Start) (so_far : List Definition) (p new : SessionProgress) (exchanges : List Exchange) (all : List Definition)
-      → p.manner ≡ manner → Held (defined_from left start so_far) p exchanges (Ok all) new → AreDefined manner start so_far exchanges all
+      → p.settings.manner ≡ manner → Held (defined_from left start so_far) p exchanges (Ok all) new → AreDefined manner start so_far exchanges all
   unfolding defined_from Held
   defined_apart zero start so_far p new exchanges all is held = absurd (let no : Ok all ≡ Err _ = held.1 in cc)
   defined_apart (suc left) start so_far p new exchanges all is held =
-      let on = bind_apart (asks (objects_fetch start) (unless_refused (defined_by so_far))) (defined_on (λ more key. defined_from left (Past key) more)) p new exchanges all held in
-      let same : on.3.manner ≡ manner = held_manner (asks (objects_fetch start) (unless_refused (defined_by so_far))) p on.3 on.0 (Ok on.2) on.5 ∙ is in
-      let one = asks_apart (objects_fetch start) (unless_refused (defined_by so_far)) p on.3 on.0 (Ok on.2) is on.5 in
+      let on = bind_apart (asks (objects_fetch start) (unless_refused (defined_by so_far))) (defined_on (λ more key. defined_from left (behind_gone 1 key) more)) p new exchanges all held in
+      let same : on.3.settings.manner ≡ manner = still_manner p on.3 (reads_still p (asks (objects_fetch start) (unless_refused (defined_by so_far))) on.3 on.0 (Ok on.2) (tt, by_reads start so_far) on.5) ∙ is in
+      let one = asks_apart (objects_fetch start) (unless_refused (defined_by so_far)) p on.3 on.0 (Ok on.2) on.5 in
       let by = adds_by (λ at more. AreDefined manner at more on.1 all) (λ more. (on.1 ≡ []) × (all ≡ more)) start so_far one.0.reply (asked (objects_fetch start) one.0.reply p) on.3 one.1 on.2
-      (λ more key so. defined_apart left (Past key) more on.3 new on.1 all same (subst (λ (c : List Definition × Option (List Value)). Held (defined_on (λ more key. defined_from left (Past key) more) c) on.3 on.1 (Ok all) new) so on.6))
-      (λ more so. ended more (subst (λ (c : List Definition × Option (List Value)). Held (defined_on (λ more key. defined_from left (Past key) more) c) on.3 on.1 (Ok all) new) so on.6))
+      (λ more key so. defined_apart left (behind_gone 1 key) more on.3 new on.1 all same (subst (λ (c : List Definition × Option (List Value)). Held (defined_on (λ more key. defined_from left (behind_gone 1 key) more) c) on.3 on.1 (Ok all) new) so on.6))
+      (λ more so. ended more (subst (λ (c : List Definition × Option (List Value)). Held (defined_on (λ more key. defined_from left (behind_gone 1 key) more) c) on.3 on.1 (Ok all) new) so on.6))
       one.3.2 one.4 in
-      subst (λ (l : List Exchange). AreDefined manner start so_far l all) (sym (on.4 ∙ ap (λ (l : List Exchange). l ++ on.1) (one.2 ∙ ap (λ (l : List Exchange). one.0 ∷ l) by.0))) (one.3, by.1)
+      subst (λ (l : List Exchange). AreDefined manner start so_far l all) (sym (on.4 ∙ ap (λ (l : List Exchange). l ++ on.1) (one.2 ∙ ap (λ (l : List Exchange). one.0 ∷ l) by.0))) (in_manner (objects_fetch start) one.0 p is one.3, by.1)
     where
       ended : {q : SessionProgress} {back : List Exchange} (more : List Definition) → (back ≡ []) × ◌≡◌ {A = Result (List Definition) Failure} (Ok all) (Ok more) × (new ≡ q) → (back ≡ []) × (all ≡ more)
       ended more was = (was.0, ok_same {E = Failure} all more was.1)
 
-  pub definitions_apart : (p new : SessionProgress) (exchanges : List Exchange) (all : List Definition) → p.manner ≡ manner → Held reads_definitions p exchanges (Ok all) new → AreDefined manner First [] exchanges all
+  pub definitions_apart : (p new : SessionProgress) (exchanges : List Exchange) (all : List Definition) → p.settings.manner ≡ manner → Held reads_definitions p exchanges (Ok all) new → AreDefined manner First [] exchanges all
   unfolding reads_definitions
   definitions_apart p new exchanges all is held = defined_apart range_limit First [] p new exchanges all is (room_apart (defined_from range_limit First []) p new exchanges all held)

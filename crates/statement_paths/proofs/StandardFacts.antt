@@ -1,23 +1,23 @@
--- Worked parts: what is asked where nothing is there to be found, and what has no path.
-use Rattle.std.proofs.Common.{◌≡◌, ℤ, ℕ, false, inr, List, [], ◌∷◌, ◌++◌, None, Ok, refl, sym, subst}
-use Rattle.step_model.specs.declared.manner.Manner.{Manner}
-use Rattle.step_model.specs.declared.op.Op.TheVariants.{Begin, Mark, Relax, Commit}
-use Rattle.step_model.specs.declared.range.Start.TheVariants.{First}
-use Rattle.step_model.specs.declared.reply.Reply.TheVariants.{Began, Marked, Done, End, Ended}
-use Rattle.step_model.specs.Exchange.{Exchange}
-use Rattle.batch_meaning.specs.declared.form.Form.TheVariants as forms
-use Rattle.batch_meaning.specs.Meaning.{definition_fetch, objects_fetch}
-use Rattle.catalog_rows.specs.Definitions.{is_objects, objects_name}
+-- Worked parts: what is asked where nothing is there to be found, and CREATE TABLE in the open transaction and in one of its own.
+use Rattle.std.proofs.Common.{◌≡◌, ℕ, true, false, inr, List, [], ◌∷◌, ◌++◌, None, Ok, refl, sym, subst}
 use Rattle.std.specs.Prelude.{codes}
 use Rattle.tsql_tree.specs.declared.definition.TableTree.{TableTree}
 use Rattle.tsql_tree.specs.declared.statement.Form.{Form-F}
 use Rattle.tsql_tree.specs.declared.statement.Statement.{Statement}
 use Rattle.bound_tree.specs.declared.write.Bound.TheVariants as bound
 use Rattle.binder.specs.Names.{Layer, form_of, looked_up}
+use Rattle.catalog_rows.specs.Definitions.{is_objects, objects_name}
+use Rattle.step_model.specs.declared.manner.Manner.{Manner}
+use Rattle.step_model.specs.declared.op.Op.TheVariants.{Begin, Mark, BackTo, Relax, Commit}
+use Rattle.step_model.specs.declared.range.Start.TheVariants.{First}
+use Rattle.step_model.specs.declared.reply.Reply.TheVariants.{Began, Marked, Done, End, Ended, Exists}
+use Rattle.step_model.specs.Exchange.{Exchange}
+use Rattle.batch_meaning.specs.Asking.{definition_fetch, objects_fetch}
 use Rattle.batch_meaning.specs.Changing.{created}
-use Rattle.batch_meaning.specs.Selecting.{bound_over}
-use Rattle.batch_laws.specs.Committing.{definition_put}
-use Rattle.statement_paths.specs.Paths.{replied, NoneCommits, AreLookedUp, AreDefined, IsFormed, Path, HasPath}
+use Rattle.batch_meaning.specs.Progress.{SessionProgress}
+use Rattle.batch_meaning.specs.Raised.{Around}
+use Rattle.batch_meaning.specs.Selecting.{bound_over, no_effect}
+use Rattle.statement_paths.specs.Paths.{definition_put, replied, AreDefined, AreLookedUp, IsAround, IsDone, IsFailed, IsWorked, NoneCommits}
 
 -- where no name is looked up nothing is asked
 no_names : (manner : Manner) → AreLookedUp manner [] [] [] []
@@ -39,28 +39,38 @@ no_definitions manner at = ((refl, refl, tt), (refl, refl))
 none_committed : (manner : Manner) → NoneCommits (replied manner Begin Began ∷ replied manner Relax Done ∷ [])
 none_committed manner = (λ is. cc, ((λ is. cc), tt))
 
--- a refused text has no path
-refused_none : (manner : Manner) (line : ℤ) (code : ℕ) (near : List ℕ) (exchanges : List Exchange) → HasPath manner (record { line = line; form = forms.Refused code near }) exchanges → ⊥
-refused_none manner line code near exchanges has = let no : forms.Refused code near ≡ forms.Statement has.0 = has.3 in cc
+-- where an object of the name is there, the definition is taken back
+present_failed : (manner : Manner) (name text : List ℕ) (mark : ℕ) → IsFailed manner (replied manner Mark (Marked mark) ∷ replied manner (created name text) Exists ∷ replied manner (BackTo mark) Done ∷ [])
+present_failed manner name text mark = record {
+  read = [];
+  undone = replied manner Mark (Marked mark) ∷ replied manner (created name text) Exists ∷ replied manner (BackTo mark) Done ∷ [];
+  parts = refl;
+  reads = tt;
+  undoes = inr (inr (record { mark = mark; between = replied manner (created name text) Exists ∷ []; parts = refl; forward = ((tt, tt), tt) }));
+}
 
--- CREATE TABLE, where it names no other table, is five exchanges
-module _ (manner : Manner) (statement : Statement) (table : TableTree) (text : List ℕ) (mark place : ℕ) (is : form_of statement ≡ Form-F.CreateTable table text) (names : looked_up statement ≡ [])
-    (binds : bound_over [] statement ≡ Ok bound.Plain) (another : is_objects table.name ≡ false) where
+-- CREATE TABLE, where it names no other table
+module _ (around : Around) (p : SessionProgress) (statement : Statement) (table : TableTree) (text : List ℕ) (mark place : ℕ) (is : form_of statement ≡ Form-F.CreateTable table text) (names : looked_up statement ≡ [])
+    (binds : bound_over [] p.vars statement ≡ Ok bound.Plain) (another : is_objects table.name ≡ false) where
   abbrev worked : List Exchange
-  worked = replied manner Mark (Marked mark) ∷ replied manner (created table.name text) Done ∷ []
+  worked = replied p.settings.manner Mark (Marked mark) ∷ replied p.settings.manner (created table.name text) Done ∷ []
 
-  created_path : Path manner statement (definition_put table.name text ∷ []) [] (replied manner Begin Began ∷ worked ++ replied manner Relax Done ∷ replied manner Commit (Ended place) ∷ [])
-  created_path = record {
+  created_done : IsDone around p statement (definition_put table.name text ∷ []) no_effect worked
+  created_done = record {
     definitions = [];
     of = bound.Plain;
     looked = [];
     worked = worked;
-    relaxed = replied manner Relax Done ∷ [];
-    place = place;
     parts = refl;
-    looks = subst (λ (l : List (List ℕ)). AreLookedUp manner [] l [] []) (sym names) (refl, refl);
+    looks = subst (λ (l : List (List ℕ)). AreLookedUp p.settings.manner [] l [] []) (sym names) (refl, refl);
     binds = binds;
-    works = subst (λ (form : Layer). IsFormed manner form [] (definition_put table.name text ∷ []) [] worked) (sym is) (record { mark = mark; parts = refl; another = another; plans = refl; tells = refl });
-    relaxes = inr refl;
-    alone = ((λ so. cc), ((λ so. cc), ((λ so. cc), ((λ so. cc), tt))));
+    works = subst (λ (form : Layer). IsWorked around p form [] bound.Plain (definition_put table.name text ∷ []) no_effect worked) (sym is) (record { mark = mark; parts = refl; another = another; plans = refl; tells = refl });
   }
+
+  -- in the open transaction it ends with its locks
+  created_open : IsAround true true true p.settings.manner worked (worked ++ replied p.settings.manner Relax Done ∷ [])
+  created_open = (replied p.settings.manner Relax Done ∷ [], refl, inr refl)
+
+  -- in one of its own it is five exchanges
+  created_own : IsAround true false true p.settings.manner worked (replied p.settings.manner Begin Began ∷ worked ++ replied p.settings.manner Relax Done ∷ replied p.settings.manner Commit (Ended place) ∷ [])
+  created_own = (replied p.settings.manner Relax Done ∷ [], place, refl, inr refl)

@@ -1,15 +1,17 @@
--- What each statement has asked within its transaction, where it succeeded.
-use Rattle.std.proofs.Common.{◌≡◌, ℕ, Bool, true, false, if◌then◌else◌, List, [], ◌∷◌, ◌++◌, Option, None, Some, Result, Ok, Err, refl, sym, ap, ◌∙◌, subst, append-nil}
+-- What each statement has asked within its transaction, where it succeeded. The session stands as it did where the work began, but that its
+-- locks are to be relaxed.
+use Rattle.std.proofs.Common.{◌≡◌, ℕ, Bool, true, false, if◌then◌else◌, List, [], ◌∷◌, ◌++◌, length, Option, None, Some, Result, Ok, Err, refl, sym, ap, ◌∙◌, subst, append-nil}
 use Rattle.std.specs.Prelude.{nat_lt}
 use Rattle.tsql_tree.specs.declared.definition.Definition.{Definition}
 use Rattle.tsql_tree.specs.declared.definition.TableTree.{TableTree}
+use Rattle.tsql_tree.specs.declared.statement.DropKind.{DropKind}
+use Rattle.tsql_tree.specs.declared.statement.DropKind.TheVariants as drop
 use Rattle.tsql_tree.specs.declared.statement.Form.{Form-F}
-use Rattle.tsql_tree.specs.declared.statement.Statement.{Statement}
 use Rattle.bound_tree.specs.declared.query.BoundQuery.{BoundQuery}
 use Rattle.bound_tree.specs.declared.write.Bound.{Bound}
 use Rattle.bound_tree.specs.declared.write.Bound.TheVariants as bound
 use Rattle.bound_tree.specs.declared.write.BoundWrite.{BoundWrite}
-use Rattle.binder.specs.Names.{Layer, form_of, looked_up}
+use Rattle.binder.specs.Names.{Layer}
 use Rattle.catalog_rows.specs.Definitions.{is_objects, tables_of}
 use Rattle.step_model.specs.declared.change.Planned.{Planned}
 use Rattle.step_model.specs.declared.manner.Manner.{Manner}
@@ -21,116 +23,336 @@ use Rattle.step_model.specs.Exchange.{Exchange, CanReply}
 use Rattle.step_model.specs.Ranges.{Rows, no_memory}
 use Rattle.constraint_check.specs.Reads.{rows_table, shape_of}
 use Rattle.dml_exec.specs.declared.refusal.Level.{Level}
-use Rattle.dml_exec.specs.declared.refusal.Level.TheVariants.{ReadCommitted, Serializable}
+use Rattle.dml_exec.specs.declared.refusal.Level.TheVariants.{Serializable}
 use Rattle.dml_exec.specs.declared.refusal.Refusal.{Refusal}
+use Rattle.dml_exec.specs.declared.written.Attempt.{Attempt}
 use Rattle.dml_exec.specs.declared.written.Written.{Written}
 use Rattle.dml_exec.specs.declared.written.Written.TheVariants as written
 use Rattle.dml_exec.specs.Reading.{images_of}
-use Rattle.dml_exec.specs.Writing.{writes}
-use Rattle.tds_tokens.specs.declared.token.Token.{Token}
+use Rattle.dml_exec.specs.Writing.{attempts}
+use Rattle.reading_laws.specs.Reads.{IsFetch}
 use Rattle.batch_meaning.specs.declared.failure.Failure.{Failure}
-use Rattle.batch_meaning.specs.Changing.{object_present, not_there, planned_over, tokens_by, created, dropped, unless_referred, whole}
+use Rattle.batch_meaning.specs.Raised.{Around}
+use Rattle.batch_meaning.specs.Changing.{object_present, not_there, planned_over, told_by, created, dropped, unless_referred, whole}
 use Rattle.batch_meaning.specs.Failures.{plain, naming}
-use Rattle.batch_meaning.specs.Selecting.{answered, bound_over, not_built, result_full}
-use Rattle.batch_meaning.specs.Statements.{is_select}
-use Rattle.batch_meaning.specs.Progress.{SessionProgress, asked, size_of}
-use Rattle.batch_meaning.specs.Doing.{over, asks, Held}
-use Rattle.batch_meaning.specs.Meaning.{fails, fails_naming, ◌>>=◌, with_room, comes_to, unless_refused, looks_up, reads_definitions, unless_stopped, unless_broken, reads_images, applies, answers, changes, takes_back, where_done, inserted, marked, creates, drops, drops_in, done_for, done_by, over_definitions, done, if_bytes_left}
-use Rattle.batch_laws.specs.Committing.{definition_put}
-use Rattle.statement_paths.specs.Paths.{replied, AreLookedUp, AreApplied, IsAnswered, IsWritten, IsCreated, IsDropped, IsFormed, IsWorked}
-use Rattle.statement_paths.proofs.Apart.{held_manner, bind_apart, bind_on, room_apart, comes_apart, comes_on, holds_apart}
-use Rattle.statement_paths.proofs.Dialogs.{is_replied, writes_apart}
-use Rattle.statement_paths.proofs.Looking.{ok_same, looks_apart, definitions_apart}
+use Rattle.batch_meaning.specs.Selecting.{Effect, answer_in, made_of, no_effect, not_built, result_full, result_of}
+use Rattle.batch_meaning.specs.Progress.{SessionProgress, touches, made, asked, asked_all, size_of}
+use Rattle.batch_meaning.specs.Values.{Assigned, first_row, rows_assigned}
+use Rattle.batch_meaning.specs.Doing.{Doing, over, asks, ◌then◌, Held}
+use Rattle.batch_meaning.specs.Asking.{fails, fails_naming, ◌>>=◌, with_room, comes_to, unless_refused, reads_at, reads_definitions, reads_images, unless_stopped, unless_broken, applies, assigns_all, takes_back, where_done, marked}
+use Rattle.batch_meaning.specs.Working.{answers, assigns_rows, change_bound, changes, computes, creates, drops, drops_in, drops_kind, if_it_fits, inserted, select_bound, selects, selects_into, values_bound, works_bound}
+use Rattle.statement_paths.specs.Paths.{definition_put, replied, AreApplied, AreAssigned, AreRead, AreValues, IsAnswered, IsChange, IsComputed, IsCreated, IsDrop, IsDropped, IsSelect, IsSelected, IsWorked, IsWritten}
+use Rattle.statement_paths.proofs.Only.{IsTouch, only_bind, only_comes, only_gives, only_room}
+use Rattle.statement_paths.proofs.Still.{Reads, Still, reads_still, still_then, still_manner}
+use Rattle.statement_paths.proofs.Apart.{bind_apart, room_apart, comes_apart, holds_apart}
+use Rattle.statement_paths.proofs.Asking.{images_say}
+use Rattle.statement_paths.proofs.Dialogs.{applied_apart, is_replied}
+use Rattle.statement_paths.proofs.Looking.{ok_same, definitions_apart, definitions_read}
 
-module _ (manner : Manner) where
-  -- ---- errors
+-- ---- errors
 
-  pub never_ok : {A : Type 0} (failure : Failure) (p new : SessionProgress) (exchanges : List Exchange) (a : A) → Held (over (Err failure)) p exchanges (Ok a) new → ⊥
-  unfolding Held
-  never_ok failure p new exchanges a held = let no : Ok a ≡ Err failure = held.1 in absurd (cc)
+pub error_never : {A : Type 0} (failure : Failure) (p new : SessionProgress) (exchanges : List Exchange) (a : A) → Held (over (Err failure)) p exchanges (Ok a) new → ⊥
+unfolding Held
+error_never failure p new exchanges a held = let no : Ok a ≡ Err failure = held.1 in absurd (cc)
 
-  pub naming_never : {A : Type 0} (number : ℕ) (name : List ℕ) (p new : SessionProgress) (exchanges : List Exchange) (a : A) → Held (fails_naming number name) p exchanges (Ok a) new → ⊥
-  unfolding Held
-  naming_never {A = A} number name p new exchanges a held = by_enough held.0 held.1
-    where
-      by_enough : (enough : Bool) → Held {A = Result A Failure} (if enough then over (Err (naming number name)) else fails no_memory) p exchanges (Ok a) new → ⊥
-      by_enough true was = never_ok (naming number name) p new exchanges a was
-      by_enough false was = never_ok (plain _) p new exchanges a was
+pub naming_never : {A : Type 0} (number : ℕ) (name : List ℕ) (p new : SessionProgress) (exchanges : List Exchange) (a : A) → Held (fails_naming number name) p exchanges (Ok a) new → ⊥
+unfolding Held
+naming_never {A = A} number name p new exchanges a held = by_enough held.0 held.1
+  where
+    by_enough : (enough : Bool) → Held {A = Result A Failure} (if enough then over (Err (naming number name)) else fails no_memory) p exchanges (Ok a) new → ⊥
+    by_enough true was = error_never (naming number name) p new exchanges a was
+    by_enough false was = error_never (plain _) p new exchanges a was
 
-  -- ---- dialogs
+-- ---- reads
 
-  images_apart : (shapes : List TableTree) (level : Level) (of : Bound) (p new : SessionProgress) (exchanges : List Exchange) (images : List Rows)
-      → p.manner ≡ manner → Held (reads_images shapes level of) p exchanges (Ok images) new → said.Held manner (images_of shapes level of) exchanges (Ok images)
+pub at_level_reads : (level : Level) (shapes : List TableTree) (of : Bound) → Reads (reads_at level shapes of)
+unfolding reads_at
+at_level_reads level [] of = tt
+at_level_reads level (shape ∷ shapes) of = (tt, only_gives IsTouch IsFetch (images_of (shape ∷ shapes) level of) unless_stopped (images_say IsFetch (λ op is. is) (shape ∷ shapes) level of) by_came)
+  where
+    by_came : (came : Result (List Rows) Refusal) → Reads (unless_stopped came)
+    by_came (Ok rows) = tt
+    by_came (Err why) = tt
+
+pub images_read : (shapes : List TableTree) (of : Bound) → Reads (reads_images shapes of)
+unfolding reads_images
+images_read shapes of = λ p. at_level_reads p.settings.level shapes of
+
+pub at_level_apart : (level : Level) (shapes : List TableTree) (of : Bound) (p new : SessionProgress) (exchanges : List Exchange) (images : List Rows)
+    → Held (reads_at level shapes of) p exchanges (Ok images) new → AreRead p.settings.manner level shapes of exchanges images
+unfolding reads_at Held
+at_level_apart level [] of p new exchanges images held = (held.0, ok_same {E = Failure} images [] held.1)
+at_level_apart level (shape ∷ shapes) of p new exchanges images held =
+    let on = holds_apart (images_of (shape ∷ shapes) level of) unless_stopped p new exchanges (Ok images) held in by_came on.front on.back on.came (asked_all on.front (made touches p)) on.parts on.held on.rest
+  where
+    by_came : (front back : List Exchange) (came : Result (List Rows) Refusal) (mid : SessionProgress) → exchanges ≡ front ++ back → said.Held p.settings.manner (images_of (shape ∷ shapes) level of) front came → Held (unless_stopped came) mid back (Ok images) new
+        → said.Held p.settings.manner (images_of (shape ∷ shapes) level of) exchanges (Ok images)
+    by_came front back (Ok rows) mid parts was rest =
+        subst (λ (l : List Exchange). said.Held p.settings.manner (images_of (shape ∷ shapes) level of) l (Ok images)) (sym (parts ∙ ap (λ (l : List Exchange). front ++ l) rest.0 ∙ append-nil front))
+        (subst (λ (r : List Rows). said.Held p.settings.manner (images_of (shape ∷ shapes) level of) front (Ok r)) (sym (ok_same {E = Failure} images rows rest.1)) was)
+    by_came front back (Err why) mid parts was rest = absurd (let no : Ok images ≡ Err _ = rest.1 in cc)
+
+-- where there are tables they were read
+read_there : (manner : Manner) (level : Level) (shapes : List TableTree) (of : Bound) (exchanges : List Exchange) (images : List Rows) → (shapes ≡ [] → ⊥) → AreRead manner level shapes of exchanges images → said.Held manner (images_of shapes level of) exchanges (Ok images)
+read_there manner level [] of exchanges images some is = absurd (some refl)
+read_there manner level (shape ∷ shapes) of exchanges images some is = is
+
+some_shape : (name : List ℕ) (shapes : List TableTree) (shape : TableTree) → shape_of (rows_table name) shapes ≡ Some shape → shapes ≡ [] → ⊥
+some_shape name shapes shape is none = let no : None ≡ Some shape = sym (ap (λ (l : List TableTree). shape_of (rows_table name) l) none) ∙ is in absurd (cc)
+
+pub some_cons : (shape : TableTree) (shapes : List TableTree) → shape ∷ shapes ≡ [] → ⊥
+some_cons shape shapes is = let no : shape ∷ shapes ≡ [] = is in absurd (cc)
+
+module _ (around : Around) (p0 : SessionProgress) where
+  -- ---- one part behind another
+
+  -- behind a part that reads
+  pub bind_reads : {A B Goal : Type 0} (tree : Doing (Result A Failure)) (go : A → Doing (Result B Failure)) (p new : SessionProgress) (exchanges : List Exchange) (b : B) → Reads tree → Still p0 p → Held (tree >>= go) p exchanges (Ok b) new
+      → ((front back : List Exchange) (a : A) (mid : SessionProgress) → exchanges ≡ front ++ back → Held tree p front (Ok a) mid → Still p0 mid → Held (go a) mid back (Ok b) new → Goal) → Goal
+  bind_reads tree go p new exchanges b fetches still held on =
+      let was = bind_apart tree go p new exchanges b held in on was.0 was.1 was.2 was.3 was.4 was.5 (still_then p0 p was.3 still (reads_still p tree was.3 was.0 (Ok was.2) fetches was.5)) was.6
+
+  -- behind a result that is there at once
+  comes_on : {A B Goal : Type 0} (result : Result A Failure) (go : A → Doing (Result B Failure)) (p new : SessionProgress) (exchanges : List Exchange) (b : B) → Held (comes_to result >>= go) p exchanges (Ok b) new
+      → ((a : A) → result ≡ Ok a → Held (go a) p exchanges (Ok b) new → Goal) → Goal
+  comes_on {A = A} {B = B} result go p new exchanges b held on =
+      let was = bind_apart (comes_to result) go p new exchanges b held in
+      let came = comes_apart result p was.3 was.0 was.2 was.5 in
+      on was.2 came.1 (subst (λ (q : SessionProgress). Held (go was.2) q exchanges (Ok b) new) came.2 (subst (λ (l : List Exchange). Held (go was.2) was.3 l (Ok b) new) (sym (was.4 ∙ ap (λ (l : List Exchange). l ++ was.1) came.0)) was.6))
+
+  in_manner : (p : SessionProgress) → Still p0 p → p.settings.manner ≡ p0.settings.manner
+  in_manner p still = still_manner p0 p still
+
+  images_apart : (shapes : List TableTree) (of : Bound) (p new : SessionProgress) (exchanges : List Exchange) (images : List Rows)
+      → Still p0 p → Held (reads_images shapes of) p exchanges (Ok images) new → AreRead p0.settings.manner p0.settings.level shapes of exchanges images
   unfolding reads_images Held
-  images_apart shapes level of p new exchanges images is held =
-      let on = holds_apart (images_of shapes level of) unless_stopped manner p new exchanges (Ok images) is held in by_came on.front on.back on.came on.mid on.parts on.held on.rest
-    where
-      by_came : (front back : List Exchange) (came : Result (List Rows) Refusal) (mid : SessionProgress) → exchanges ≡ front ++ back → said.Held manner (images_of shapes level of) front came → Held (unless_stopped came) mid back (Ok images) new
-          → said.Held manner (images_of shapes level of) exchanges (Ok images)
-      by_came front back (Ok rows) mid parts was rest =
-          subst (λ (l : List Exchange). said.Held manner (images_of shapes level of) l (Ok images)) (sym (parts ∙ ap (λ (l : List Exchange). front ++ l) rest.0 ∙ append-nil front))
-          (subst (λ (r : List Rows). said.Held manner (images_of shapes level of) front (Ok r)) (sym (ok_same {E = Failure} images rows rest.1)) was)
-      by_came front back (Err why) mid parts was rest = absurd (let no : Ok images ≡ Err _ = rest.1 in cc)
+  images_apart shapes of p new exchanges images still held =
+      let read : AreRead p.settings.manner p.settings.level shapes of exchanges images = at_level_apart p.settings.level shapes of p new exchanges images held in
+      subst (λ (s : SessionProgress). AreRead s.settings.manner s.settings.level shapes of exchanges images) still read
 
-  applies_apart : (shapes : List TableTree) (planned : List Planned) (p new : SessionProgress) (exchanges : List Exchange) (put : Unit {0}) → p.manner ≡ manner → Held (applies shapes planned) p exchanges (Ok put) new → AreApplied manner shapes planned exchanges
-  unfolding applies Held
-  applies_apart shapes planned p new exchanges put is held =
-      let on = holds_apart (writes shapes planned) unless_broken manner p new exchanges (Ok put) is held in by_came on.front on.back on.came on.mid on.parts on.held on.rest
-    where
-      by_came : (front back : List Exchange) (came : Result Written Refusal) (mid : SessionProgress) → exchanges ≡ front ++ back → said.Held manner (writes shapes planned) front came → Held (unless_broken came) mid back (Ok put) new → AreApplied manner shapes planned exchanges
-      by_came front back (Ok (written.Done mark)) mid parts was rest =
-          subst (λ (l : List Exchange). AreApplied manner shapes planned l) (sym (parts ∙ ap (λ (l : List Exchange). front ++ l) rest.0 ∙ append-nil front)) (writes_apart manner shapes planned mark front was)
-      by_came front back (Ok (written.Refused number name)) mid parts was rest = absurd (let no : Ok put ≡ Err _ = rest.1 in cc)
-      by_came front back (Err why) mid parts was rest = absurd (let no : Ok put ≡ Err _ = rest.1 in cc)
+  -- ---- queries
 
-  -- ---- SELECT
-
-  answers_apart : (statement : Statement) (shapes : List TableTree) (query : BoundQuery) (p new : SessionProgress) (exchanges : List Exchange) (tokens : List Token)
-      → is_select statement ≡ true → p.manner ≡ manner → Held (answers shapes query) p exchanges (Ok tokens) new → IsAnswered manner statement shapes query [] tokens exchanges
-  unfolding answers
-  answers_apart statement shapes query p new exchanges tokens select is held =
-      let on = bind_apart (reads_images shapes ReadCommitted (bound.Query query)) (λ images. comes_to (answered query images)) p new exchanges tokens held in
-      let last = comes_apart (answered query on.2) on.3 new on.1 tokens on.6 in
+  pub answers_apart : (shapes : List TableTree) (query : BoundQuery) (p new : SessionProgress) (exchanges : List Exchange) (rows : Rows) → Still p0 p → Held (answers around shapes query) p exchanges (Ok rows) new → IsAnswered around p0 shapes query rows exchanges
+  unfolding answers Held
+  answers_apart shapes query p new exchanges rows still held =
+      bind_reads (reads_images shapes (bound.Query query)) _ p new exchanges rows (images_read shapes (bound.Query query)) still held (λ front back images mid parts read same rest.
+      let last = comes_apart (answer_in around mid query images) mid new back rows rest in
       record {
-        images = on.2;
-        select = select;
-        reads = subst (λ (l : List Exchange). said.Held manner (images_of shapes ReadCommitted (bound.Query query)) l (Ok on.2)) (sym (on.4 ∙ ap (λ (l : List Exchange). on.0 ++ l) last.0 ∙ append-nil on.0))
-            (images_apart shapes ReadCommitted (bound.Query query) p on.3 on.0 on.2 is on.5);
-        answers = last.1;
-        plans = refl;
-      }
-
-  -- ---- a write
-
-  written_of : (shapes : List TableTree) (write : BoundWrite) (definitions : List Definition) (images : List Rows) (planned : List Planned) (defined read applied : List Exchange) (p q r s t new : SessionProgress) (exchanges behind later none : List Exchange) (tokens : List Token) (put : Unit {0})
-      → p.manner ≡ manner → exchanges ≡ defined ++ behind → Held reads_definitions p defined (Ok definitions) q → q.manner ≡ manner → behind ≡ read ++ later → Held (reads_images shapes ReadCommitted (bound.Write write)) q read (Ok images) r → r.manner ≡ manner
-      → planned_over shapes write images ≡ Ok planned → s.manner ≡ manner → later ≡ applied ++ none → Held (with_room (applies (tables_of definitions) planned)) s applied (Ok put) t → Held (comes_to (Ok (tokens_by write planned))) t none (Ok tokens) new
-      → IsWritten manner shapes write planned tokens exchanges
-  written_of shapes write definitions images planned defined read applied p q r s t new exchanges behind later none tokens put is parts defines same more reads in_manner plans still all did end =
-      let last = comes_apart (Ok (tokens_by write planned)) t new none tokens end in
-      record {
-        definitions = definitions;
         images = images;
-        defined = defined;
-        read = read;
-        applied = applied;
-        parts = parts ∙ ap (λ (l : List Exchange). defined ++ l) (more ∙ ap (λ (l : List Exchange). read ++ l) (all ∙ ap (λ (l : List Exchange). applied ++ l) last.0 ∙ append-nil applied));
-        defines = definitions_apart manner p q defined definitions is defines;
-        reads = images_apart shapes ReadCommitted (bound.Write write) q r read images same reads;
-        plans = plans;
-        applies = applies_apart (tables_of definitions) planned s t applied put still (room_apart (applies (tables_of definitions) planned) s t applied put did);
-        tells = sym (ok_same {E = Failure} (tokens_by write planned) tokens last.1);
-      }
+        reads = subst (λ (l : List Exchange). AreRead p0.settings.manner p0.settings.level shapes (bound.Query query) l images) (sym (parts ∙ ap (λ (l : List Exchange). front ++ l) last.0 ∙ append-nil front)) (images_apart shapes (bound.Query query) p mid front images still read);
+        answers = subst (λ (s : SessionProgress). answer_in around s query images ≡ Ok rows) same last.1;
+      })
 
-  changes_apart : (shapes : List TableTree) (write : BoundWrite) (p new : SessionProgress) (exchanges : List Exchange) (tokens : List Token) → p.manner ≡ manner → Held (changes shapes write) p exchanges (Ok tokens) new
-      → (planned : List Planned) × IsWritten manner shapes write planned tokens exchanges
-  unfolding changes
-  changes_apart shapes write p new exchanges tokens is held =
-      bind_on manner reads_definitions _ p new exchanges tokens is held (λ defined behind definitions q parts defines same rest.
-      bind_on manner (reads_images shapes ReadCommitted (bound.Write write)) _ q new behind tokens same rest (λ read later images r more reads in_manner others.
-      comes_on manner (planned_over shapes write images) _ r new later tokens in_manner others (λ planned s plans still last.
-      bind_on manner (with_room (applies (tables_of definitions) planned)) (λ put. comes_to (Ok (tokens_by write planned))) s new later tokens still last (λ applied none put t all did always end.
-      (planned, written_of shapes write definitions images planned defined read applied p q r s t new exchanges behind later none tokens put is parts defines same more reads in_manner plans still all did end)))))
+  pub answers_read : (shapes : List TableTree) (query : BoundQuery) → Reads (answers around shapes query)
+  unfolding answers
+  answers_read shapes query = only_bind IsTouch IsFetch (reads_images shapes (bound.Query query)) _ (images_read shapes (bound.Query query)) (λ images p. only_comes IsTouch IsFetch (answer_in around p query images))
+
+  -- tokens that fit
+  pub bytes_apart : (effect came : Effect) (p new : SessionProgress) (exchanges : List Exchange) → Held (if_it_fits effect) p exchanges (Ok came) new → (exchanges ≡ []) × (effect ≡ came)
+  unfolding Held if_it_fits
+  bytes_apart effect came p new exchanges held = by_test (nat_lt p.bytes_left (size_of effect.tokens)) held
+    where
+      by_test : (test : Bool) → Held (if test then fails result_full else over (Ok effect)) p exchanges (Ok came) new → (exchanges ≡ []) × (effect ≡ came)
+      by_test true was = absurd (error_never (plain result_full) p new exchanges came was)
+      by_test false was = (was.0, sym (ok_same {E = Failure} came effect was.1))
+
+  selects_apart : (shapes : List TableTree) (query : BoundQuery) (p new : SessionProgress) (exchanges : List Exchange) (effect : Effect) → Still p0 p → Held (selects around shapes query) p exchanges (Ok effect) new → IsSelected around p0 shapes query [] effect exchanges
+  unfolding selects Held ◌then◌
+  selects_apart shapes query p new exchanges effect still held =
+      bind_reads (answers around shapes query) _ p new exchanges effect (answers_read shapes query) still held (λ front back rows mid parts answered same rest.
+      comes_on (result_of mid.settings.no_count query rows) if_it_fits mid new back effect rest (λ made results last.
+      let end = bytes_apart made effect mid new back last in
+      record {
+        rows = rows;
+        answered = subst (λ (l : List Exchange). IsAnswered around p0 shapes query rows l) (sym (parts ∙ ap (λ (l : List Exchange). front ++ l) end.0 ∙ append-nil front)) (answers_apart shapes query p mid front rows still answered);
+        results = subst (λ (s : SessionProgress). result_of s.settings.no_count query rows ≡ Ok effect) same (results ∙ ap Ok end.1);
+        plans = refl;
+      }))
+
+  -- nothing stood in the way
+  abbrev all_fine : List Assigned → List Assigned × Option Failure
+  all_fine sets = (sets, None)
+
+  -- what was assigned behind an error is none
+  sets_never : (sets : List Assigned) (failure : Failure) (p new : SessionProgress) (exchanges : List Exchange) (effect : Effect) → Held {A = Result Effect Failure} (assigns_all sets (over (Err failure))) p exchanges (Ok effect) new → ⊥
+  unfolding assigns_all Held
+  sets_never [] failure p new exchanges effect held = error_never failure p new exchanges effect held
+  sets_never (one ∷ sets) failure p new exchanges effect held = sets_never sets failure _ new exchanges effect held
+
+  rows_apart : (count : ℕ) (came : List Assigned × Option Failure) (p new : SessionProgress) (exchanges : List Exchange) (effect : Effect) → Held (assigns_rows count came) p exchanges (Ok effect) new
+      → (exchanges ≡ []) × (came ≡ (effect.sets, None)) × (effect.rows ≡ count) × (effect.tokens ≡ [])
+  unfolding Held
+  rows_apart count (sets, None) p new exchanges effect held =
+      let same : effect ≡ record { sets = sets; rows = count; tokens = [] } = ok_same {E = Failure} effect (record { sets = sets; rows = count; tokens = [] }) held.1 in
+      (held.0, ap (λ (e : Effect). all_fine e.sets) (sym same), ap (λ (e : Effect). e.rows) same, ap (λ (e : Effect). e.tokens) same)
+  rows_apart count (sets, Some failure) p new exchanges effect held = absurd (sets_never sets failure p new exchanges effect held)
+
+  into_apart : (shapes : List TableTree) (query : BoundQuery) (places : List ℕ) (p new : SessionProgress) (exchanges : List Exchange) (effect : Effect) → Still p0 p → Held (selects_into around shapes query places) p exchanges (Ok effect) new
+      → AreAssigned around p0 shapes query places [] effect exchanges
+  unfolding selects_into Held
+  into_apart shapes query places p new exchanges effect still held =
+      bind_reads (answers around shapes query) _ p new exchanges effect (answers_read shapes query) still held (λ front back rows mid parts answered same rest.
+      let end = rows_apart (length rows) (rows_assigned mid.vars places [] rows) mid new back effect (room_apart (assigns_rows (length rows) (rows_assigned mid.vars places [] rows)) mid new back effect rest) in
+      record {
+        rows = rows;
+        answered = subst (λ (l : List Exchange). IsAnswered around p0 shapes query rows l) (sym (parts ∙ ap (λ (l : List Exchange). front ++ l) end.0 ∙ append-nil front)) (answers_apart shapes query p mid front rows still answered);
+        assigns = subst (λ (s : SessionProgress). rows_assigned s.vars places [] rows ≡ (effect.sets, None)) same end.1;
+        counts = end.2;
+        silent = end.3;
+        plans = refl;
+      })
+
+  select_apart : (shapes : List TableTree) (of : Bound) (p new : SessionProgress) (exchanges : List Exchange) (effect : Effect) → Still p0 p → Held (select_bound around shapes of) p exchanges (Ok effect) new → IsSelect around p0 shapes of [] effect exchanges
+  select_apart shapes (bound.Query query) p new exchanges effect still held = selects_apart shapes query p new exchanges effect still held
+  select_apart shapes (bound.Assign query places) p new exchanges effect still held = into_apart shapes query places p new exchanges effect still held
+  select_apart shapes bound.Plain p new exchanges effect still held = absurd (error_never (plain not_built) p new exchanges effect held)
+  select_apart shapes (bound.Write write) p new exchanges effect still held = absurd (error_never (plain not_built) p new exchanges effect held)
+
+  -- ---- values
+
+  pub values_apart : (shapes : List TableTree) (of : Bound) (p new : SessionProgress) (exchanges : List Exchange) (rows : Rows) → Still p0 p → Held (values_bound around shapes of) p exchanges (Ok rows) new → AreValues around p0 shapes of rows exchanges
+  unfolding Held
+  values_apart shapes (bound.Query query) p new exchanges rows still held = answers_apart shapes query p new exchanges rows still held
+  values_apart shapes bound.Plain p new exchanges rows still held = (ok_same {E = Failure} rows [] held.1, held.0)
+  values_apart shapes (bound.Write write) p new exchanges rows still held = absurd (error_never (plain not_built) p new exchanges rows held)
+  values_apart shapes (bound.Assign query places) p new exchanges rows still held = absurd (error_never (plain not_built) p new exchanges rows held)
+
+  pub values_read : (shapes : List TableTree) (of : Bound) → Reads (values_bound around shapes of)
+  values_read shapes (bound.Query query) = answers_read shapes query
+  values_read shapes bound.Plain = tt
+  values_read shapes (bound.Write write) = tt
+  values_read shapes (bound.Assign query places) = tt
+
+  computes_apart : (form : Layer) (shapes : List TableTree) (of : Bound) (p new : SessionProgress) (exchanges : List Exchange) (effect : Effect) → Still p0 p → Held (computes around form shapes of) p exchanges (Ok effect) new
+      → IsComputed around p0 form shapes of [] effect exchanges
+  unfolding computes Held
+  computes_apart form shapes of p new exchanges effect still held =
+      bind_reads (values_bound around shapes of) _ p new exchanges effect (values_read shapes of) still held (λ front back rows mid parts values same rest.
+      let last = comes_apart (made_of form mid.vars (first_row rows)) mid new back effect rest in
+      record {
+        rows = rows;
+        values = subst (λ (l : List Exchange). AreValues around p0 shapes of rows l) (sym (parts ∙ ap (λ (l : List Exchange). front ++ l) last.0 ∙ append-nil front)) (values_apart shapes of p mid front rows still values);
+        makes = subst (λ (s : SessionProgress). made_of form s.vars (first_row rows) ≡ Ok effect) same last.1;
+        plans = refl;
+      })
+
+  -- ---- writes
+
+  applies_apart : (shapes : List TableTree) (planned : List Planned) (p new : SessionProgress) (exchanges : List Exchange) (put : Unit {0}) → Still p0 p → Held (applies shapes planned) p exchanges (Ok put) new → AreApplied p0.settings.manner shapes planned exchanges
+  unfolding applies Held
+  applies_apart shapes planned p new exchanges put still held =
+      let on = holds_apart (attempts shapes planned) (λ attempt. unless_broken attempt.came) p new exchanges (Ok put) held in
+      subst (λ (m : Manner). AreApplied m shapes planned exchanges) (in_manner p still) (by_came on.front on.back on.came on.came.came refl (asked_all on.front (made touches p)) on.parts on.held on.rest)
+    where
+      by_came : (front back : List Exchange) (attempt : Attempt) (came : Result Written Refusal) → attempt.came ≡ came → (mid : SessionProgress) → exchanges ≡ front ++ back → said.Held p.settings.manner (attempts shapes planned) front attempt → Held (unless_broken attempt.came) mid back (Ok put) new
+          → AreApplied p.settings.manner shapes planned exchanges
+      by_came front back attempt (Ok (written.Done mark)) is mid parts was rest =
+          let none : back ≡ [] = (subst (λ (c : Result Written Refusal). Held (unless_broken c) mid back (Ok put) new) is rest).0 in
+          subst (λ (l : List Exchange). AreApplied p.settings.manner shapes planned l) (sym (parts ∙ ap (λ (l : List Exchange). front ++ l) none ∙ append-nil front)) (applied_apart p.settings.manner shapes planned mark front attempt was is)
+      by_came front back attempt (Ok (written.Refused number name)) is mid parts was rest = absurd (let no : Ok put ≡ Err _ = (subst (λ (c : Result Written Refusal). Held (unless_broken c) mid back (Ok put) new) is rest).1 in cc)
+      by_came front back attempt (Err why) is mid parts was rest = absurd (let no : Ok put ≡ Err _ = (subst (λ (c : Result Written Refusal). Held (unless_broken c) mid back (Ok put) new) is rest).1 in cc)
+
+  -- all of a write but its end, where nothing is asked
+  pub written_of : (shapes : List TableTree) (write : BoundWrite) (definitions : List Definition) (images : List Rows) (planned : List Planned) (defined read applied : List Exchange) (p q r t : SessionProgress) (exchanges behind later none : List Exchange) (put : Unit {0})
+      → (shapes ≡ [] → ⊥) → Still p0 p → exchanges ≡ defined ++ behind → Held reads_definitions p defined (Ok definitions) q → Still p0 q → behind ≡ read ++ later → Held (reads_images shapes (bound.Write write)) q read (Ok images) r → Still p0 r
+      → planned_over around r shapes write images ≡ Ok planned → later ≡ applied ++ none → Held (with_room (applies (tables_of definitions) planned)) r applied (Ok put) t → none ≡ []
+      → IsWritten around p0 shapes write planned (told_by r.settings.no_count write planned) exchanges
+  written_of shapes write definitions images planned defined read applied p q r t exchanges behind later none put some still parts defines same more fetched so plans all did end = record {
+    definitions = definitions;
+    images = images;
+    defined = defined;
+    read = read;
+    applied = applied;
+    parts = parts ∙ ap (λ (l : List Exchange). defined ++ l) (more ∙ ap (λ (l : List Exchange). read ++ l) (all ∙ ap (λ (l : List Exchange). applied ++ l) end ∙ append-nil applied));
+    defines = definitions_apart p0.settings.manner p q defined definitions (in_manner p still) defines;
+    reads = read_there p0.settings.manner p0.settings.level shapes (bound.Write write) read images some (images_apart shapes (bound.Write write) q r read images same fetched);
+    plans = subst (λ (s : SessionProgress). planned_over around s shapes write images ≡ Ok planned) so plans;
+    applies = applies_apart (tables_of definitions) planned r t applied put so (room_apart (applies (tables_of definitions) planned) r t applied put did);
+    tells = ap (λ (s : SessionProgress). told_by s.settings.no_count write planned) so;
+  }
+
+  changes_apart : (shapes : List TableTree) (write : BoundWrite) (p new : SessionProgress) (exchanges : List Exchange) (effect : Effect) → (shapes ≡ [] → ⊥) → Still p0 p → Held (changes around shapes write) p exchanges (Ok effect) new
+      → (planned : List Planned) × IsWritten around p0 shapes write planned effect exchanges
+  unfolding changes Held ◌then◌
+  changes_apart shapes write p new exchanges effect some still held =
+      bind_reads reads_definitions _ p new exchanges effect definitions_read still held (λ defined behind definitions q parts defines same rest.
+      bind_reads (reads_images shapes (bound.Write write)) _ q new behind effect (images_read shapes (bound.Write write)) same rest (λ read later images r more reads so others.
+      comes_on (planned_over around r shapes write images) _ r new later effect others (λ planned plans last.
+      comes_on (Ok (told_by r.settings.no_count write planned)) _ r new later effect last (λ told tells work.
+      let on = bind_apart (with_room (applies (tables_of definitions) planned)) (λ put. if_it_fits told) r new later effect work in
+      let end = bytes_apart told effect on.3 new on.1 on.6 in (
+        planned,
+        subst (λ (e : Effect). IsWritten around p0 shapes write planned e exchanges) (ok_same {E = Failure} (told_by r.settings.no_count write planned) told tells ∙ end.1)
+            (written_of shapes write definitions images planned defined read on.0 p q r on.3 exchanges behind later on.1 on.2 some still parts defines same more reads so plans on.4 on.5 end.0),
+      )))))
+
+  change_apart : (shapes : List TableTree) (of : Bound) (p new : SessionProgress) (exchanges : List Exchange) (effect : Effect) → Still p0 p → Held (change_bound around shapes of) p exchanges (Ok effect) new → (planned : List Planned) × IsChange around p0 shapes of planned effect exchanges
+  change_apart [] of p new exchanges effect still held = absurd (error_never (plain not_built) p new exchanges effect held)
+  change_apart (shape ∷ shapes) (bound.Write write) p new exchanges effect still held = changes_apart (shape ∷ shapes) write p new exchanges effect (some_cons shape shapes) still held
+  change_apart (shape ∷ shapes) (bound.Query query) p new exchanges effect still held = absurd (error_never (plain not_built) p new exchanges effect held)
+  change_apart (shape ∷ shapes) (bound.Assign query places) p new exchanges effect still held = absurd (error_never (plain not_built) p new exchanges effect held)
+  change_apart (shape ∷ shapes) bound.Plain p new exchanges effect still held = absurd (error_never (plain not_built) p new exchanges effect held)
+
+  -- ---- DROP
+
+  drops_apart : (shapes : List TableTree) (shape : TableTree) (name : List ℕ) (p new : SessionProgress) (exchanges : List Exchange) (effect : Effect) → shape_of (rows_table name) shapes ≡ Some shape → Still p0 p → Held (drops around shapes shape name) p exchanges (Ok effect) new
+      → (planned : List Planned) × IsDropped around p0 shapes name planned effect exchanges
+  unfolding drops Held ◌then◌
+  drops_apart shapes shape name p new exchanges effect known still held =
+      bind_reads reads_definitions _ p new exchanges effect definitions_read still held (λ defined behind definitions q parts defines same rest.
+      comes_on (unless_referred name (tables_of definitions)) _ q new behind effect rest (λ alone free others.
+      bind_reads (with_room (reads_at Serializable shapes (bound.Write (whole name)))) _ q new behind effect (only_room IsTouch IsFetch (reads_at Serializable shapes (bound.Write (whole name))) (at_level_reads Serializable shapes (bound.Write (whole name)))) same others
+      (λ read later images r more reads so last.
+      comes_on (dropped around r shape name images) _ r new later effect last (λ planned plans work.
+      let on = bind_apart (applies [] planned) (λ put. over (Ok no_effect)) r new later effect work in (
+        planned,
+        record {
+          shape = shape;
+          definitions = definitions;
+          images = images;
+          defined = defined;
+          read = read;
+          applied = on.0;
+          parts = parts ∙ ap (λ (l : List Exchange). defined ++ l) (more ∙ ap (λ (l : List Exchange). read ++ l) (on.4 ∙ ap (λ (l : List Exchange). on.0 ++ l) on.6.0 ∙ append-nil on.0));
+          known = known;
+          defines = definitions_apart p0.settings.manner p q defined definitions (in_manner p still) defines;
+          free = free;
+          reads = subst (λ (m : Manner). said.Held m (images_of shapes Serializable (bound.Write (whole name))) read (Ok images)) (in_manner q same)
+              (read_there q.settings.manner Serializable shapes (bound.Write (whole name)) read images (some_shape name shapes shape known)
+              (at_level_apart Serializable shapes (bound.Write (whole name)) q r read images (room_apart (reads_at Serializable shapes (bound.Write (whole name))) q r read images reads)));
+          plans = subst (λ (s : SessionProgress). dropped around s shape name images ≡ Ok planned) so plans;
+          applies = applies_apart [] planned r on.3 on.0 on.2 so on.5;
+          tells = ok_same {E = Failure} effect no_effect on.6.1;
+        },
+      )))))
+
+  drops_in_apart : (found : Option TableTree) (shapes : List TableTree) (name : List ℕ) (p new : SessionProgress) (exchanges : List Exchange) (effect : Effect) → shape_of (rows_table name) shapes ≡ found → Still p0 p → Held (drops_in around found shapes name) p exchanges (Ok effect) new
+      → (planned : List Planned) × IsDropped around p0 shapes name planned effect exchanges
+  drops_in_apart None shapes name p new exchanges effect known still held = absurd (naming_never not_there name p new exchanges effect held)
+  drops_in_apart (Some shape) shapes name p new exchanges effect known still held = drops_apart shapes shape name p new exchanges effect known still held
+
+  drop_apart : (kind : DropKind) (shapes : List TableTree) (name : List ℕ) (p new : SessionProgress) (exchanges : List Exchange) (effect : Effect) → Still p0 p → Held (drops_kind around kind shapes name) p exchanges (Ok effect) new
+      → (planned : List Planned) × IsDrop around p0 kind shapes name planned effect exchanges
+  drop_apart drop.Table shapes name p new exchanges effect still held = drops_in_apart (shape_of (rows_table name) shapes) shapes name p new exchanges effect refl still held
+  drop_apart other shapes name p new exchanges effect still held = absurd (naming_never not_there name p new exchanges effect held)
+
+  -- ---- by its form
+
+  -- what makes values of another form succeeds at none
+  not_made : (form : Layer) (shapes : List TableTree) (of : Bound) (p new : SessionProgress) (exchanges : List Exchange) (effect : Effect) → ((vars : _) (values : _) → made_of form vars values ≡ Err (plain not_built)) → Still p0 p → Held (computes around form shapes of) p exchanges (Ok effect) new → ⊥
+  not_made form shapes of p new exchanges effect not still held =
+      let made = computes_apart form shapes of p new exchanges effect still held in
+      let no : Err (plain not_built) ≡ Ok effect = sym (not p0.vars (first_row made.rows)) ∙ made.makes in absurd (cc)
+
+  pub worked_apart : (form : Layer) (shapes : List TableTree) (of : Bound) (p new : SessionProgress) (exchanges : List Exchange) (effect : Effect) → Still p0 p → Held (works_bound around form shapes of) p exchanges (Ok effect) new
+      → (planned : List Planned) × IsWorked around p0 form shapes of planned effect exchanges
+  worked_apart (Form-F.Select select) shapes of p new exchanges effect still held = ([], select_apart shapes of p new exchanges effect still held)
+  worked_apart (Form-F.Insert table columns rows) shapes of p new exchanges effect still held = change_apart shapes of p new exchanges effect still held
+  worked_apart (Form-F.Update table sets filter) shapes of p new exchanges effect still held = change_apart shapes of p new exchanges effect still held
+  worked_apart (Form-F.Delete table filter) shapes of p new exchanges effect still held = change_apart shapes of p new exchanges effect still held
+  worked_apart (Form-F.Drop kind name) shapes of p new exchanges effect still held = drop_apart kind shapes name p new exchanges effect still held
+  worked_apart (Form-F.CreateTable table text) shapes of p new exchanges effect still held = absurd (not_made (Form-F.CreateTable table text) shapes of p new exchanges effect (λ vars values. refl) still held)
+  worked_apart form shapes of p new exchanges effect still held = ([], computes_apart form shapes of p new exchanges effect still held)
 
   -- ---- CREATE TABLE
 
@@ -145,160 +367,46 @@ module _ (manner : Manner) where
       by_reply reply can was = absurd can
 
   -- the insertion was done, and nothing more was asked
-  inserted_apart : (mark : ℕ) (name text : List ℕ) (p new : SessionProgress) (exchanges : List Exchange) (put : Unit {0}) → p.manner ≡ manner → Held (asks (created name text) (inserted mark name)) p exchanges (Ok put) new
-      → exchanges ≡ replied manner (created name text) replies.Done ∷ []
+  inserted_apart : (mark : ℕ) (name text : List ℕ) (p new : SessionProgress) (exchanges : List Exchange) (put : Unit {0}) → Held (asks (created name text) (inserted mark name)) p exchanges (Ok put) new
+      → exchanges ≡ replied p.settings.manner (created name text) replies.Done ∷ []
   unfolding Held
-  inserted_apart mark name text p new [] put is held = absurd held
-  inserted_apart mark name text p new (x ∷ later) put is held = by_reply x.reply refl held.2 held.3
+  inserted_apart mark name text p new [] put held = absurd held
+  inserted_apart mark name text p new (x ∷ later) put held = by_reply x.reply refl held.2 held.3
     where
-      by_reply : (reply : Reply) → x.reply ≡ reply → CanReply (created name text) reply → Held (inserted mark name reply) (asked (created name text) reply p) later (Ok put) new → x ∷ later ≡ replied manner (created name text) replies.Done ∷ []
-      by_reply replies.Done told can was = ap (λ (y : Exchange). y ∷ later) (is_replied x manner (created name text) replies.Done held.0 (held.1 ∙ is) told) ∙ ap (λ (l : List Exchange). replied manner (created name text) replies.Done ∷ l) was.0
+      by_reply : (reply : Reply) → x.reply ≡ reply → CanReply (created name text) reply → Held (inserted mark name reply) (asked (created name text) reply p) later (Ok put) new → x ∷ later ≡ replied p.settings.manner (created name text) replies.Done ∷ []
+      by_reply replies.Done told can was = ap (λ (y : Exchange). y ∷ later) (is_replied x p.settings.manner (created name text) replies.Done held.0 held.1 told) ∙ ap (λ (l : List Exchange). replied p.settings.manner (created name text) replies.Done ∷ l) was.0
       by_reply replies.Exists told can was = absurd (back_apart mark (if was.0 then naming object_present name else plain _) _ new later put was.1)
       by_reply replies.Memory told can was = absurd (back_apart mark _ _ new later put was)
       by_reply (replies.TimedOut holder lock wanted on) told can was = absurd (back_apart mark _ _ new later put was)
       by_reply (replies.Victim cycle) told can was = absurd (back_apart mark _ _ new later put was)
       by_reply reply told can was = absurd can
 
-  put_apart : (name text : List ℕ) (p new : SessionProgress) (exchanges : List Exchange) (put : Unit {0}) → p.manner ≡ manner → Held (asks ops.Mark (unless_refused (marked λ mark. asks (created name text) (inserted mark name)))) p exchanges (Ok put) new
-      → (mark : ℕ) × (exchanges ≡ replied manner ops.Mark (replies.Marked mark) ∷ replied manner (created name text) replies.Done ∷ [])
+  put_apart : (name text : List ℕ) (p new : SessionProgress) (exchanges : List Exchange) (put : Unit {0}) → Held (asks ops.Mark (unless_refused (marked λ mark. asks (created name text) (inserted mark name)))) p exchanges (Ok put) new
+      → (mark : ℕ) × (exchanges ≡ replied p.settings.manner ops.Mark (replies.Marked mark) ∷ replied p.settings.manner (created name text) replies.Done ∷ [])
   unfolding Held
-  put_apart name text p new [] put is held = absurd held
-  put_apart name text p new (x ∷ later) put is held = by_reply x.reply refl held.2 held.3
+  put_apart name text p new [] put held = absurd held
+  put_apart name text p new (x ∷ later) put held = by_reply x.reply refl held.2 held.3
     where
       by_reply : (reply : Reply) → x.reply ≡ reply → CanReply ops.Mark reply → Held (unless_refused (marked λ mark. asks (created name text) (inserted mark name)) reply) (asked ops.Mark reply p) later (Ok put) new
-          → (mark : ℕ) × (x ∷ later ≡ replied manner ops.Mark (replies.Marked mark) ∷ replied manner (created name text) replies.Done ∷ [])
+          → (mark : ℕ) × (x ∷ later ≡ replied p.settings.manner ops.Mark (replies.Marked mark) ∷ replied p.settings.manner (created name text) replies.Done ∷ [])
       by_reply (replies.Marked mark) told can was = (
         mark,
-        ap (λ (y : Exchange). y ∷ later) (is_replied x manner ops.Mark (replies.Marked mark) held.0 (held.1 ∙ is) told)
-            ∙ ap (λ (l : List Exchange). replied manner ops.Mark (replies.Marked mark) ∷ l) (inserted_apart mark name text (asked ops.Mark (replies.Marked mark) p) new later put is was),
+        ap (λ (y : Exchange). y ∷ later) (is_replied x p.settings.manner ops.Mark (replies.Marked mark) held.0 held.1 told)
+            ∙ ap (λ (l : List Exchange). replied p.settings.manner ops.Mark (replies.Marked mark) ∷ l) (inserted_apart mark name text (asked ops.Mark (replies.Marked mark) p) new later put was),
       )
       by_reply replies.Memory told can was = absurd (let no : Ok put ≡ Err _ = was.1 in cc)
       by_reply reply told can was = absurd can
 
-  creates_apart : (table : TableTree) (text : List ℕ) (p new : SessionProgress) (exchanges : List Exchange) (tokens : List Token) → is_objects table.name ≡ false → p.manner ≡ manner → Held (creates table.name text) p exchanges (Ok tokens) new
-      → IsCreated manner table text (definition_put table.name text ∷ []) tokens exchanges
+  pub creates_apart : (name text : List ℕ) (p new : SessionProgress) (exchanges : List Exchange) (effect : Effect) → is_objects name ≡ false → Still p0 p → Held (creates name text) p exchanges (Ok effect) new
+      → IsCreated around p0 name text (definition_put name text ∷ []) effect exchanges
   unfolding creates Held
-  creates_apart table text p new exchanges tokens another is held =
-      let on = bind_apart (with_room (asks ops.Mark (unless_refused (marked λ mark. asks (created table.name text) (inserted mark table.name))))) (λ put. over (Ok [])) p new exchanges tokens held in
-      let put = put_apart table.name text p on.3 on.0 on.2 is (room_apart (asks ops.Mark (unless_refused (marked λ mark. asks (created table.name text) (inserted mark table.name)))) p on.3 on.0 on.2 on.5) in
+  creates_apart name text p new exchanges effect another still held =
+      let on = bind_apart (with_room (asks ops.Mark (unless_refused (marked λ mark. asks (created name text) (inserted mark name))))) (λ put. over (Ok no_effect)) p new exchanges effect held in
+      let put = put_apart name text p on.3 on.0 on.2 (room_apart (asks ops.Mark (unless_refused (marked λ mark. asks (created name text) (inserted mark name)))) p on.3 on.0 on.2 on.5) in
       record {
         mark = put.0;
-        parts = on.4 ∙ ap (λ (l : List Exchange). on.0 ++ l) on.6.0 ∙ append-nil on.0 ∙ put.1;
+        parts = subst (λ (m : Manner). exchanges ≡ replied m ops.Mark (replies.Marked put.0) ∷ replied m (created name text) replies.Done ∷ []) (in_manner p still) (on.4 ∙ ap (λ (l : List Exchange). on.0 ++ l) on.6.0 ∙ append-nil on.0 ∙ put.1);
         another = another;
         plans = refl;
-        tells = ok_same {E = Failure} tokens [] on.6.1;
+        tells = ok_same {E = Failure} effect no_effect on.6.1;
       }
-
-  -- ---- DROP TABLE
-
-  dropped_of : (shapes : List TableTree) (shape : TableTree) (name : List ℕ) (definitions : List Definition) (images : List Rows) (planned : List Planned) (defined read applied : List Exchange) (p q f r s t new : SessionProgress) (exchanges behind later none : List Exchange) (tokens : List Token) (put : Unit {0})
-      → shape_of (rows_table name) shapes ≡ Some shape → p.manner ≡ manner → exchanges ≡ defined ++ behind → Held reads_definitions p defined (Ok definitions) q → unless_referred name (tables_of definitions) ≡ Ok tt → f.manner ≡ manner
-      → behind ≡ read ++ later → Held (with_room (reads_images shapes Serializable (bound.Write (whole name)))) f read (Ok images) r → dropped shape name images ≡ Ok planned → s.manner ≡ manner
-      → later ≡ applied ++ none → Held (applies [] planned) s applied (Ok put) t → Held {A = Result (List Token) Failure} (over (Ok [])) t none (Ok tokens) new
-      → IsDropped manner shapes name planned tokens exchanges
-  unfolding Held
-  dropped_of shapes shape name definitions images planned defined read applied p q f r s t new exchanges behind later none tokens put known is parts defines free same more reads plans still all did end = record {
-    shape = shape;
-    definitions = definitions;
-    images = images;
-    defined = defined;
-    read = read;
-    applied = applied;
-    parts = parts ∙ ap (λ (l : List Exchange). defined ++ l) (more ∙ ap (λ (l : List Exchange). read ++ l) (all ∙ ap (λ (l : List Exchange). applied ++ l) end.0 ∙ append-nil applied));
-    known = known;
-    defines = definitions_apart manner p q defined definitions is defines;
-    free = free;
-    reads = images_apart shapes Serializable (bound.Write (whole name)) f r read images same (room_apart (reads_images shapes Serializable (bound.Write (whole name))) f r read images reads);
-    plans = plans;
-    applies = applies_apart [] planned s t applied put still did;
-    tells = ok_same {E = Failure} tokens [] end.1;
-  }
-
-  drops_apart : (shapes : List TableTree) (shape : TableTree) (name : List ℕ) (p new : SessionProgress) (exchanges : List Exchange) (tokens : List Token) → shape_of (rows_table name) shapes ≡ Some shape → p.manner ≡ manner → Held (drops shapes shape name) p exchanges (Ok tokens) new
-      → (planned : List Planned) × IsDropped manner shapes name planned tokens exchanges
-  unfolding drops
-  drops_apart shapes shape name p new exchanges tokens known is held =
-      bind_on manner reads_definitions _ p new exchanges tokens is held (λ defined behind definitions q parts defines same rest.
-      comes_on manner (unless_referred name (tables_of definitions)) _ q new behind tokens same rest (λ alone f free in_manner others.
-      bind_on manner (with_room (reads_images shapes Serializable (bound.Write (whole name)))) _ f new behind tokens in_manner others (λ read later images r more reads so last.
-      comes_on manner (dropped shape name images) _ r new later tokens so last (λ planned s plans still work.
-      bind_on manner (applies [] planned) (λ put. over (Ok [])) s new later tokens still work (λ applied none put t all did always end.
-      (planned, dropped_of shapes shape name definitions images planned defined read applied p q f r s t new exchanges behind later none tokens put known is parts defines free in_manner more reads plans still all did end))))))
-
-  drops_in_apart : (found : Option TableTree) (shapes : List TableTree) (name : List ℕ) (p new : SessionProgress) (exchanges : List Exchange) (tokens : List Token) → shape_of (rows_table name) shapes ≡ found → p.manner ≡ manner → Held (drops_in found shapes name) p exchanges (Ok tokens) new
-      → (planned : List Planned) × IsDropped manner shapes name planned tokens exchanges
-  drops_in_apart None shapes name p new exchanges tokens known is held = absurd (naming_never not_there name p new exchanges tokens held)
-  drops_in_apart (Some shape) shapes name p new exchanges tokens known is held = drops_apart shapes shape name p new exchanges tokens known is held
-
-  -- ---- by what it is bound to
-
-  form_apart : (form : Layer) (shapes : List TableTree) (p new : SessionProgress) (exchanges : List Exchange) (tokens : List Token) → p.manner ≡ manner → Held (done_for form shapes) p exchanges (Ok tokens) new
-      → (planned : List Planned) × IsFormed manner form shapes planned tokens exchanges
-  form_apart (Form-F.CreateTable table text) shapes p new exchanges tokens is held = by_test (is_objects table.name) refl held
-    where
-      by_test : (test : Bool) → is_objects table.name ≡ test → Held (if test then fails_naming object_present table.name else creates table.name text) p exchanges (Ok tokens) new → (planned : List Planned) × IsCreated manner table text planned tokens exchanges
-      by_test true so was = absurd (naming_never object_present table.name p new exchanges tokens was)
-      by_test false so was = (definition_put table.name text ∷ [], creates_apart table text p new exchanges tokens so is was)
-  form_apart (Form-F.Drop kind name) shapes p new exchanges tokens is held = drops_in_apart (shape_of (rows_table name) shapes) shapes name p new exchanges tokens refl is held
-  form_apart form shapes p new exchanges tokens is held = absurd (never_ok (plain not_built) p new exchanges tokens held)
-
-  bound_apart : (statement : Statement) (shapes : List TableTree) (of : Bound) (p new : SessionProgress) (exchanges : List Exchange) (tokens : List Token) → p.manner ≡ manner → Held (done_by statement shapes of) p exchanges (Ok tokens) new
-      → (planned : List Planned) × IsWorked manner statement shapes of planned tokens exchanges
-  bound_apart statement shapes (bound.Query query) p new exchanges tokens is held = by_test (is_select statement) refl held
-    where
-      by_test : (test : Bool) → is_select statement ≡ test → Held (if test then answers shapes query else fails not_built) p exchanges (Ok tokens) new → (planned : List Planned) × IsAnswered manner statement shapes query planned tokens exchanges
-      by_test true so was = ([], answers_apart statement shapes query p new exchanges tokens so is was)
-      by_test false so was = absurd (never_ok (plain not_built) p new exchanges tokens was)
-  bound_apart statement shapes (bound.Write write) p new exchanges tokens is held = changes_apart shapes write p new exchanges tokens is held
-  bound_apart statement shapes bound.Plain p new exchanges tokens is held = form_apart (form_of statement) shapes p new exchanges tokens is held
-  bound_apart statement shapes (bound.Assign query places) p new exchanges tokens is held = absurd (never_ok (plain not_built) p new exchanges tokens held)
-
-  -- ---- the whole of a statement's work
-
-  -- names were looked up, and by what was found it was bound and did its work
-  pub record IsDone (statement : Statement) (tokens : List Token) (exchanges : List Exchange) : Type 0 where
-    pub planned : List Planned
-    pub definitions : List Definition
-    pub of : Bound
-    pub looked : List Exchange
-    pub worked : List Exchange
-    pub parts : exchanges ≡ looked ++ worked
-    pub looks : AreLookedUp manner [] (looked_up statement) looked definitions
-    pub binds : bound_over definitions statement ≡ Ok of
-    pub works : IsWorked manner statement (tables_of definitions) of planned tokens worked
-
-  done_apart : (statement : Statement) (p new : SessionProgress) (exchanges : List Exchange) (tokens : List Token) → p.manner ≡ manner → Held (done statement) p exchanges (Ok tokens) new → IsDone statement tokens exchanges
-  unfolding done over_definitions
-  done_apart statement p new exchanges tokens is held =
-      let a = bind_apart (looks_up [] (looked_up statement)) (over_definitions statement) p new exchanges tokens held in
-      let m = held_manner (looks_up [] (looked_up statement)) p a.3 a.0 (Ok a.2) a.5 ∙ is in
-      let b = bind_apart (comes_to (bound_over a.2 statement)) (λ of. with_room (done_by statement (tables_of a.2) of)) a.3 new a.1 tokens a.6 in
-      let bind = comes_apart (bound_over a.2 statement) a.3 b.3 b.0 b.2 b.5 in
-      let n = held_manner (comes_to (bound_over a.2 statement)) a.3 b.3 b.0 (Ok b.2) b.5 ∙ m in
-      let work = bound_apart statement (tables_of a.2) b.2 b.3 new b.1 tokens n (room_apart (done_by statement (tables_of a.2) b.2) b.3 new b.1 tokens b.6) in
-      record {
-        planned = work.0;
-        definitions = a.2;
-        of = b.2;
-        looked = a.0;
-        worked = b.1;
-        parts = a.4 ∙ ap (λ (l : List Exchange). a.0 ++ l) (b.4 ∙ ap (λ (l : List Exchange). l ++ b.1) bind.0);
-        looks = looks_apart manner (looked_up statement) [] p a.3 a.0 a.2 is a.5;
-        binds = bind.1;
-        works = work.1;
-      }
-
-  pub bytes_apart : (tokens more : List Token) (p new : SessionProgress) (exchanges : List Exchange) → Held (if_bytes_left tokens) p exchanges (Ok more) new → (exchanges ≡ []) × (tokens ≡ more)
-  unfolding Held
-  bytes_apart tokens more p new exchanges held = by_test (nat_lt p.bytes_left (size_of tokens)) held
-    where
-      by_test : (test : Bool) → Held (if test then fails result_full else over (Ok tokens)) p exchanges (Ok more) new → (exchanges ≡ []) × (tokens ≡ more)
-      by_test true was = absurd (never_ok (plain result_full) p new exchanges more was)
-      by_test false was = (was.0, sym (ok_same {E = Failure} more tokens was.1))
-
-  pub work_apart : (statement : Statement) (p new : SessionProgress) (exchanges : List Exchange) (tokens : List Token) → p.manner ≡ manner → Held (done statement >>= if_bytes_left) p exchanges (Ok tokens) new → IsDone statement tokens exchanges
-  work_apart statement p new exchanges tokens is held =
-      let on = bind_apart (done statement) if_bytes_left p new exchanges tokens held in
-      let last = bytes_apart on.2 tokens on.3 new on.1 on.6 in
-      subst (λ (l : List Exchange). IsDone statement tokens l) (sym (on.4 ∙ ap (λ (l : List Exchange). on.0 ++ l) last.0 ∙ append-nil on.0))
-      (subst (λ (t : List Token). IsDone statement t on.0) last.1 (done_apart statement p on.3 on.0 on.2 is on.5))

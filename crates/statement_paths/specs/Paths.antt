@@ -1,10 +1,13 @@
--- Own: what a statement that succeeded has asked, part by part, where no transaction was open: it began one; it looked its
--- names up; it read, and wrote what it planned on what was read; it ended the locks of the statement, and committed. The
--- meanings of statements are trees; here stands one way through them, so that each part can be read against a database.
-use Rattle.std.specs.Prelude.{◌≡◌, ◌≢◌, ◌⊎◌, ℕ, Bool, true, false, List, [], ◌∷◌, ◌++◌, Option, None, Some, Ok}
+-- Own: what the work of a statement that succeeded has asked within its transaction, part by part: it looked its names up; it read, and
+-- wrote what it planned on what was read. The meanings of statements are trees; here stands one way through them, so that each part can
+-- be read against a database. The session is given as it stood where the work began: its manner, its level, its variables and the values
+-- that expressions read of it.
+use Rattle.std.specs.Prelude.{◌≡◌, ◌≢◌, ◌⊎◌, ℕ, Bool, true, false, List, [], ◌∷◌, ◌++◌, length, Option, None, Some, Result, Ok}
 use Rattle.std.specs.List.{AllByRecursion}
 use Rattle.tsql_tree.specs.declared.definition.Definition.{Definition}
 use Rattle.tsql_tree.specs.declared.definition.TableTree.{TableTree}
+use Rattle.tsql_tree.specs.declared.statement.DropKind.{DropKind}
+use Rattle.tsql_tree.specs.declared.statement.DropKind.TheVariants as drop
 use Rattle.tsql_tree.specs.declared.statement.Form.{Form-F}
 use Rattle.tsql_tree.specs.declared.statement.Statement.{Statement}
 use Rattle.bound_tree.specs.declared.query.BoundQuery.{BoundQuery}
@@ -12,31 +15,36 @@ use Rattle.bound_tree.specs.declared.write.Bound.{Bound}
 use Rattle.bound_tree.specs.declared.write.Bound.TheVariants as bound
 use Rattle.bound_tree.specs.declared.write.BoundWrite.{BoundWrite}
 use Rattle.binder.specs.Names.{Layer, form_of, looked_up}
-use Rattle.catalog_rows.specs.Definitions.{IsDefinitionIn, is_objects, tables_of}
+use Rattle.catalog_rows.specs.Definitions.{IsDefinitionIn, is_objects, objects_name, object_key, row_of, tables_of}
+use Rattle.step_model.specs.declared.change.Deed.TheVariants.{Insert}
 use Rattle.step_model.specs.declared.change.Planned.{Planned}
 use Rattle.step_model.specs.declared.manner.Manner.{Manner}
 use Rattle.step_model.specs.declared.op.Op.{Op}
-use Rattle.step_model.specs.declared.op.Op.TheVariants.{Begin, Mark, Relax, Commit}
+use Rattle.step_model.specs.declared.op.Op.TheVariants as ops
 use Rattle.step_model.specs.declared.range.Start.{Start}
-use Rattle.step_model.specs.declared.range.Start.TheVariants.{First, Past}
+use Rattle.step_model.specs.declared.range.Start.TheVariants.{First}
 use Rattle.step_model.specs.declared.reply.Reply.{Reply}
-use Rattle.step_model.specs.declared.reply.Reply.TheVariants.{Began, Row, Gone, End, Done, Marked, Ended}
+use Rattle.step_model.specs.declared.reply.Reply.TheVariants.{Began, Row, Gone, End, Done, Marked, Ended, Memory}
 use Rattle.step_model.specs.Dialog.{Held}
 use Rattle.step_model.specs.Exchange.{Exchange, CanReply}
 use Rattle.step_model.specs.Ranges.{Rows}
 use Rattle.constraint_check.specs.Reads.{reads_for, rows_table, shape_of}
-use Rattle.dml_exec.specs.declared.refusal.Level.TheVariants.{ReadCommitted, Serializable}
+use Rattle.dml_exec.specs.declared.refusal.Level.{Level}
+use Rattle.dml_exec.specs.declared.refusal.Level.TheVariants.{Serializable}
 use Rattle.dml_exec.specs.declared.written.Written.TheVariants as written
-use Rattle.dml_exec.specs.Reading.{images_of}
+use Rattle.dml_exec.specs.Reading.{behind_gone, images_of}
 use Rattle.dml_exec.specs.Writing.{checks_all, writes, writes_all}
-use Rattle.tds_tokens.specs.declared.token.Token.{Token}
-use Rattle.batch_meaning.specs.declared.form.Form.TheVariants as forms
-use Rattle.batch_meaning.specs.declared.form.Served.{Served}
-use Rattle.batch_meaning.specs.Changing.{created, dropped, planned_over, tokens_by, unless_referred, whole}
-use Rattle.batch_meaning.specs.Meaning.{definition_fetch, is_table, objects_fetch, with_found}
-use Rattle.batch_meaning.specs.Selecting.{answered, bound_over}
-use Rattle.batch_meaning.specs.Statements.{is_select}
-use Rattle.batch_laws.specs.Committing.{definition_put}
+use Rattle.reading_laws.specs.Reads.{AskOnly, IsFetch}
+use Rattle.batch_meaning.specs.declared.failure.Failure.{Failure}
+use Rattle.batch_meaning.specs.Asking.{definition_fetch, is_table, objects_fetch, with_found}
+use Rattle.batch_meaning.specs.Changing.{created, dropped, planned_over, told_by, unless_referred, whole}
+use Rattle.batch_meaning.specs.Doing.{Doing}
+use Rattle.batch_meaning.specs.Failures.{plain}
+use Rattle.batch_meaning.specs.Progress.{SessionProgress}
+use Rattle.batch_meaning.specs.Raised.{Around}
+use Rattle.batch_meaning.specs.Selecting.{Effect, answer_in, bound_over, made_of, no_effect, result_full, result_of}
+use Rattle.batch_meaning.specs.Values.{first_row, rows_assigned}
+use Rattle.batch_meaning.specs.Working.{asks_any, creates_table, works}
 
 -- ---- exchanges
 
@@ -50,7 +58,7 @@ IsAsked manner op exchange = (exchange.op ≡ op) × (exchange.manner ≡ manner
 
 -- none of them is a commit
 abbrev pub NoneCommits : List Exchange → Type 0
-NoneCommits exchanges = AllByRecursion (λ exchange. exchange.op ≢ Commit) exchanges
+NoneCommits exchanges = AllByRecursion (λ exchange. exchange.op ≢ ops.Commit) exchanges
 
 -- ---- what is defined
 
@@ -75,8 +83,8 @@ AreLookedUp manner so_far (name ∷ names) exchanges definitions =
 
 -- what a fetch of `objects` adds to the definitions so far, by its reply; it goes on behind a key, and ends at the end
 abbrev pub AddsBy : (Start → List Definition → Type 0) → (List Definition → Type 0) → List Definition → Reply → Type 0
-AddsBy GoesOn Ends so_far (Row key row at) = (found : Option Definition) × IsDefinitionIn row found × GoesOn (Past key) (with_found so_far found)
-AddsBy GoesOn Ends so_far (Gone key at) = GoesOn (Past key) so_far
+AddsBy GoesOn Ends so_far (Row key row at) = (found : Option Definition) × IsDefinitionIn row found × GoesOn (behind_gone 1 key) (with_found so_far found)
+AddsBy GoesOn Ends so_far (Gone key at) = GoesOn (behind_gone 1 key) so_far
 AddsBy GoesOn Ends so_far (End at) = Ends so_far
 AddsBy GoesOn Ends so_far reply = ⊥
 
@@ -86,6 +94,13 @@ AreDefined manner start so_far [] all = ⊥
 AreDefined manner start so_far (exchange ∷ later) all = IsAsked manner (objects_fetch start) exchange
     × AddsBy (λ on more. AreDefined manner on more later all) (λ more. (later ≡ []) × (all ≡ more)) so_far exchange.reply
 
+-- ---- what is read
+
+-- Tables were read at a level for what is bound; where there are none, nothing was.
+abbrev pub AreRead : Manner → Level → List TableTree → Bound → List Exchange → List Rows → Type 0
+AreRead manner level [] of exchanges images = (exchanges ≡ []) × (images ≡ [])
+AreRead manner level (shape ∷ shapes) of exchanges images = Held manner (images_of (shape ∷ shapes) level of) exchanges (Ok images)
+
 -- ---- what is written
 
 -- Changes were made behind a mark, and their checks passed.
@@ -93,96 +108,209 @@ pub record AreApplied (manner : Manner) (shapes : List TableTree) (planned : Lis
   pub mark : ℕ
   pub put : List Exchange
   pub checked : List Exchange
-  pub parts : exchanges ≡ replied manner Mark (Marked mark) ∷ (put ++ checked)
+  pub parts : exchanges ≡ replied manner ops.Mark (Marked mark) ∷ (put ++ checked)
   pub puts : Held manner (writes_all shapes planned) put (Ok tt)
   pub checks : Held manner (checks_all shapes (reads_for planned shapes)) checked (Ok tt)
   pub whole : Held manner (writes shapes planned) exchanges (Ok (written.Done mark))
 
+-- a definition is put into `objects`
+abbrev pub definition_put : List ℕ → List ℕ → Planned
+definition_put name text = record { table = rows_table objects_name; key = object_key name; deed = Insert (row_of name text) }
+
 -- ---- what each statement does within its transaction
 
--- A SELECT reads its tables, and is answered.
-pub record IsAnswered (manner : Manner) (statement : Statement) (shapes : List TableTree) (query : BoundQuery) (planned : List Planned) (tokens : List Token) (exchanges : List Exchange) : Type 0 where
-  pub images : List Rows
-  pub select : is_select statement ≡ true
-  pub reads : Held manner (images_of shapes ReadCommitted (bound.Query query)) exchanges (Ok images)
-  pub answers : answered query images ≡ Ok tokens
-  pub plans : planned ≡ []
+module _ (around : Around) (p : SessionProgress) where
+  -- A query reads its tables, and is answered.
+  pub record IsAnswered (shapes : List TableTree) (query : BoundQuery) (rows : Rows) (exchanges : List Exchange) : Type 0 where
+    pub images : List Rows
+    pub reads : AreRead p.settings.manner p.settings.level shapes (bound.Query query) exchanges images
+    pub answers : answer_in around p query images ≡ Ok rows
 
--- A write reads all definitions, and its tables; it plans on these, and what it planned is put and checked.
-pub record IsWritten (manner : Manner) (shapes : List TableTree) (write : BoundWrite) (planned : List Planned) (tokens : List Token) (exchanges : List Exchange) : Type 0 where
-  pub definitions : List Definition
-  pub images : List Rows
-  pub defined : List Exchange
-  pub read : List Exchange
-  pub applied : List Exchange
-  pub parts : exchanges ≡ defined ++ (read ++ applied)
-  pub defines : AreDefined manner First [] defined definitions
-  pub reads : Held manner (images_of shapes ReadCommitted (bound.Write write)) read (Ok images)
-  pub plans : planned_over shapes write images ≡ Ok planned
-  pub applies : AreApplied manner (tables_of definitions) planned applied
-  pub tells : tokens ≡ tokens_by write planned
+  -- The answer of a SELECT is sent.
+  pub record IsSelected (shapes : List TableTree) (query : BoundQuery) (planned : List Planned) (effect : Effect) (exchanges : List Exchange) : Type 0 where
+    pub rows : Rows
+    pub answered : IsAnswered shapes query rows exchanges
+    pub results : result_of p.settings.no_count query rows ≡ Ok effect
+    pub plans : planned ≡ []
 
--- CREATE TABLE puts a definition, at whose key no row stands, behind a mark.
-pub record IsCreated (manner : Manner) (table : TableTree) (text : List ℕ) (planned : List Planned) (tokens : List Token) (exchanges : List Exchange) : Type 0 where
+  -- Or each of its rows assigns variables, in turn.
+  pub record AreAssigned (shapes : List TableTree) (query : BoundQuery) (places : List ℕ) (planned : List Planned) (effect : Effect) (exchanges : List Exchange) : Type 0 where
+    pub rows : Rows
+    pub answered : IsAnswered shapes query rows exchanges
+    pub assigns : rows_assigned p.vars places [] rows ≡ (effect.sets, None)
+    pub counts : effect.rows ≡ length rows
+    pub silent : effect.tokens ≡ []
+    pub plans : planned ≡ []
+
+  abbrev pub IsSelect : List TableTree → Bound → List Planned → Effect → List Exchange → Type 0
+  IsSelect shapes (bound.Query query) planned effect exchanges = IsSelected shapes query planned effect exchanges
+  IsSelect shapes (bound.Assign query places) planned effect exchanges = AreAssigned shapes query places planned effect exchanges
+  IsSelect shapes bound.Plain planned effect exchanges = ⊥
+  IsSelect shapes (bound.Write write) planned effect exchanges = ⊥
+
+  -- The values of expressions are the answer of a query; where there are none, nothing was read.
+  abbrev pub AreValues : List TableTree → Bound → Rows → List Exchange → Type 0
+  AreValues shapes (bound.Query query) rows exchanges = IsAnswered shapes query rows exchanges
+  AreValues shapes bound.Plain rows exchanges = (rows ≡ []) × (exchanges ≡ [])
+  AreValues shapes (bound.Write write) rows exchanges = ⊥
+  AreValues shapes (bound.Assign query places) rows exchanges = ⊥
+
+  -- DECLARE, SET and RETURN make something of them.
+  pub record IsComputed (form : Layer) (shapes : List TableTree) (of : Bound) (planned : List Planned) (effect : Effect) (exchanges : List Exchange) : Type 0 where
+    pub rows : Rows
+    pub values : AreValues shapes of rows exchanges
+    pub makes : made_of form p.vars (first_row rows) ≡ Ok effect
+    pub plans : planned ≡ []
+
+  -- A write reads all definitions, and its tables; it plans on these, and what it planned is put and checked.
+  pub record IsWritten (shapes : List TableTree) (write : BoundWrite) (planned : List Planned) (effect : Effect) (exchanges : List Exchange) : Type 0 where
+    pub definitions : List Definition
+    pub images : List Rows
+    pub defined : List Exchange
+    pub read : List Exchange
+    pub applied : List Exchange
+    pub parts : exchanges ≡ defined ++ (read ++ applied)
+    pub defines : AreDefined p.settings.manner First [] defined definitions
+    pub reads : Held p.settings.manner (images_of shapes p.settings.level (bound.Write write)) read (Ok images)
+    pub plans : planned_over around p shapes write images ≡ Ok planned
+    pub applies : AreApplied p.settings.manner (tables_of definitions) planned applied
+    pub tells : effect ≡ told_by p.settings.no_count write planned
+
+  abbrev pub IsChange : List TableTree → Bound → List Planned → Effect → List Exchange → Type 0
+  IsChange shapes (bound.Write write) planned effect exchanges = IsWritten shapes write planned effect exchanges
+  IsChange shapes (bound.Query query) planned effect exchanges = ⊥
+  IsChange shapes (bound.Assign query places) planned effect exchanges = ⊥
+  IsChange shapes bound.Plain planned effect exchanges = ⊥
+
+  -- DROP TABLE reads all definitions, of which no other refers to the table, and its rows; these are erased, and its definition.
+  pub record IsDropped (shapes : List TableTree) (name : List ℕ) (planned : List Planned) (effect : Effect) (exchanges : List Exchange) : Type 0 where
+    pub shape : TableTree
+    pub definitions : List Definition
+    pub images : List Rows
+    pub defined : List Exchange
+    pub read : List Exchange
+    pub applied : List Exchange
+    pub parts : exchanges ≡ defined ++ (read ++ applied)
+    pub known : shape_of (rows_table name) shapes ≡ Some shape
+    pub defines : AreDefined p.settings.manner First [] defined definitions
+    pub free : unless_referred name (tables_of definitions) ≡ Ok tt
+    pub reads : Held p.settings.manner (images_of shapes Serializable (bound.Write (whole name))) read (Ok images)
+    pub plans : dropped around p shape name images ≡ Ok planned
+    pub applies : AreApplied p.settings.manner [] planned applied
+    pub tells : effect ≡ no_effect
+
+  abbrev pub IsDrop : DropKind → List TableTree → List ℕ → List Planned → Effect → List Exchange → Type 0
+  IsDrop drop.Table shapes name planned effect exchanges = IsDropped shapes name planned effect exchanges
+  IsDrop other shapes name planned effect exchanges = ⊥
+
+  -- CREATE TABLE puts a definition, at whose key no row stands, behind a mark.
+  pub record IsCreated (name text : List ℕ) (planned : List Planned) (effect : Effect) (exchanges : List Exchange) : Type 0 where
+    pub mark : ℕ
+    pub parts : exchanges ≡ replied p.settings.manner ops.Mark (Marked mark) ∷ replied p.settings.manner (created name text) Done ∷ []
+    pub another : is_objects name ≡ false
+    pub plans : planned ≡ definition_put name text ∷ []
+    pub tells : effect ≡ no_effect
+
+  -- by its form, and what it is bound to
+  abbrev pub IsWorked : Layer → List TableTree → Bound → List Planned → Effect → List Exchange → Type 0
+  IsWorked (Form-F.Select select) shapes of planned effect exchanges = IsSelect shapes of planned effect exchanges
+  IsWorked (Form-F.Insert table columns rows) shapes of planned effect exchanges = IsChange shapes of planned effect exchanges
+  IsWorked (Form-F.Update table sets filter) shapes of planned effect exchanges = IsChange shapes of planned effect exchanges
+  IsWorked (Form-F.Delete table filter) shapes of planned effect exchanges = IsChange shapes of planned effect exchanges
+  IsWorked (Form-F.Drop kind name) shapes of planned effect exchanges = IsDrop kind shapes name planned effect exchanges
+  IsWorked (Form-F.CreateTable table text) shapes of planned effect exchanges = IsCreated table.name text planned effect exchanges
+  IsWorked form shapes of planned effect exchanges = IsComputed form shapes of planned effect exchanges
+
+  -- ---- the work of a statement
+
+  -- Names were looked up, over what was found it was bound, and by that it did its work.
+  pub record IsDone (statement : Statement) (planned : List Planned) (effect : Effect) (exchanges : List Exchange) : Type 0 where
+    pub definitions : List Definition
+    pub of : Bound
+    pub looked : List Exchange
+    pub worked : List Exchange
+    pub parts : exchanges ≡ looked ++ worked
+    pub looks : AreLookedUp p.settings.manner [] (looked_up statement) looked definitions
+    pub binds : bound_over definitions p.vars statement ≡ Ok of
+    pub works : IsWorked (form_of statement) (tables_of definitions) of planned effect worked
+
+-- ---- what failed
+
+-- a fetch or a write, which goes on
+abbrev pub IsForward : Op → Type 0
+IsForward (ops.Fetch table start stop hold part) = Unit {0}
+IsForward (ops.Insert table key row) = Unit {0}
+IsForward (ops.Replace table key row) = Unit {0}
+IsForward (ops.Erase table key) = Unit {0}
+IsForward op = ⊥
+
+-- Behind a mark something was asked, and taken back to it.
+pub record IsTakenBack (manner : Manner) (exchanges : List Exchange) : Type 0 where
   pub mark : ℕ
-  pub parts : exchanges ≡ replied manner Mark (Marked mark) ∷ replied manner (created table.name text) Done ∷ []
-  pub another : is_objects table.name ≡ false
-  pub plans : planned ≡ definition_put table.name text ∷ []
-  pub tells : tokens ≡ []
+  pub between : List Exchange
+  pub parts : exchanges ≡ replied manner ops.Mark (Marked mark) ∷ (between ++ replied manner (ops.BackTo mark) Done ∷ [])
+  pub forward : AskOnly IsForward between
 
--- DROP TABLE reads all definitions, of which no other refers to the table, and its rows; these are erased, and its
--- definition.
-pub record IsDropped (manner : Manner) (shapes : List TableTree) (name : List ℕ) (planned : List Planned) (tokens : List Token) (exchanges : List Exchange) : Type 0 where
-  pub shape : TableTree
-  pub definitions : List Definition
-  pub images : List Rows
-  pub defined : List Exchange
+-- nothing was asked that writes, or it was taken back; or memory was wanting for the mark
+abbrev pub IsUndone : Manner → List Exchange → Type 0
+IsUndone manner exchanges = (exchanges ≡ []) ⊎ ((exchanges ≡ replied manner ops.Mark Memory ∷ []) ⊎ IsTakenBack manner exchanges)
+
+-- It read, and what it wrote behind that is undone.
+pub record IsFailed (manner : Manner) (exchanges : List Exchange) : Type 0 where
   pub read : List Exchange
-  pub applied : List Exchange
-  pub parts : exchanges ≡ defined ++ (read ++ applied)
-  pub known : shape_of (rows_table name) shapes ≡ Some shape
-  pub defines : AreDefined manner First [] defined definitions
-  pub free : unless_referred name (tables_of definitions) ≡ Ok tt
-  pub reads : Held manner (images_of shapes Serializable (bound.Write (whole name))) read (Ok images)
-  pub plans : dropped shape name images ≡ Ok planned
-  pub applies : AreApplied manner [] planned applied
-  pub tells : tokens ≡ []
+  pub undone : List Exchange
+  pub parts : exchanges ≡ read ++ undone
+  pub reads : AskOnly IsFetch read
+  pub undoes : IsUndone manner undone
 
--- what is bound to nothing, by its form
-abbrev pub IsFormed : Manner → Layer → List TableTree → List Planned → List Token → List Exchange → Type 0
-IsFormed manner (Form-F.CreateTable table text) shapes planned tokens exchanges = IsCreated manner table text planned tokens exchanges
-IsFormed manner (Form-F.Drop kind name) shapes planned tokens exchanges = IsDropped manner shapes name planned tokens exchanges
-IsFormed manner form shapes planned tokens exchanges = ⊥
+-- Why work failed: what it wrote is undone; or it did all that it does so, and there was too little room to tell it, which is an error that
+-- ends its transaction.
+abbrev pub FailsBy : Failure → Manner → (List Planned → Effect → List Exchange → Type 0) → List Exchange → Type 0
+FailsBy failure manner Does exchanges = IsFailed manner exchanges ⊎ ((failure ≡ plain result_full) × (planned : List Planned) × (effect : Effect) × Does planned effect exchanges)
 
--- by what it is bound to
-abbrev pub IsWorked : Manner → Statement → List TableTree → Bound → List Planned → List Token → List Exchange → Type 0
-IsWorked manner statement shapes (bound.Query query) planned tokens exchanges = IsAnswered manner statement shapes query planned tokens exchanges
-IsWorked manner statement shapes (bound.Write write) planned tokens exchanges = IsWritten manner shapes write planned tokens exchanges
-IsWorked manner statement shapes bound.Plain planned tokens exchanges = IsFormed manner (form_of statement) shapes planned tokens exchanges
-IsWorked manner statement shapes (bound.Assign query places) planned tokens exchanges = ⊥
-
--- ---- the whole
+-- ---- the end of a statement
 
 -- the locks of the statement ended, where it had any
 abbrev pub IsRelaxed : Manner → List Exchange → Type 0
-IsRelaxed manner exchanges = (exchanges ≡ []) ⊎ (exchanges ≡ replied manner Relax Done ∷ [])
+IsRelaxed manner exchanges = (exchanges ≡ []) ⊎ (exchanges ≡ replied manner ops.Relax Done ∷ [])
 
--- A statement succeeded in a transaction of its own: its names were looked up, over what was found it was bound, and by
--- what it is bound to it did its work. The last exchange alone is a commit.
-pub record Path (manner : Manner) (statement : Statement) (planned : List Planned) (tokens : List Token) (exchanges : List Exchange) : Type 0 where
-  pub definitions : List Definition
-  pub of : Bound
-  pub looked : List Exchange
-  pub worked : List Exchange
-  pub relaxed : List Exchange
-  pub place : ℕ
-  pub parts : exchanges ≡ (replied manner Begin Began ∷ (looked ++ (worked ++ relaxed))) ++ replied manner Commit (Ended place) ∷ []
-  pub looks : AreLookedUp manner [] (looked_up statement) looked definitions
-  pub binds : bound_over definitions statement ≡ Ok of
-  pub works : IsWorked manner statement (tables_of definitions) of planned tokens worked
-  pub relaxes : IsRelaxed manner relaxed
-  pub alone : NoneCommits (replied manner Begin Began ∷ (looked ++ (worked ++ relaxed)))
+-- how a transaction of its own ends: it is committed where the statement succeeded, and else rolled back
+abbrev pub end_of : Bool → Op
+end_of true = ops.Commit
+end_of false = ops.Rollback
 
--- these exchanges are those of a statement that succeeded so
-abbrev pub HasPath : Manner → Served → List Exchange → Type 0
-HasPath manner served exchanges = (statement : Statement) × (planned : List Planned) × (tokens : List Token) × (served.form ≡ forms.Statement statement) × Path manner statement planned tokens exchanges
+-- What is asked around the work of a statement, by whether it asks anything, whether a transaction is open, and whether it succeeded: nothing;
+-- or the end of its locks, in the open transaction; or that, in one of its own, which is begun for it and ends with it.
+abbrev pub IsAround : Bool → Bool → Bool → Manner → List Exchange → List Exchange → Type 0
+IsAround false is_open succeeded manner worked exchanges = exchanges ≡ worked
+IsAround true true succeeded manner worked exchanges = (relaxed : List Exchange) × (exchanges ≡ worked ++ relaxed) × IsRelaxed manner relaxed
+IsAround true false succeeded manner worked exchanges =
+    (relaxed : List Exchange) × (place : ℕ) × (exchanges ≡ (replied manner ops.Begin Began ∷ (worked ++ relaxed)) ++ replied manner (end_of succeeded) (Ended place) ∷ []) × IsRelaxed manner relaxed
+
+-- ---- the whole of a statement that is done with its effect
+
+-- whether it asks anything: CREATE TABLE does, and others where the first name is looked up
+abbrev pub asks_for : Statement → Layer → Bool
+asks_for statement (Form-F.CreateTable table text) = true
+asks_for statement form = asks_any (looked_up statement)
+
+abbrev pub asks_of : Statement → Bool
+asks_of statement = asks_for statement (form_of statement)
+
+-- what it does
+abbrev pub work_for : Around → Statement → Layer → Doing (Result Effect Failure)
+work_for around statement (Form-F.CreateTable table text) = creates_table statement table.name text
+work_for around statement form = works around statement
+
+abbrev pub work_of : Around → Statement → Doing (Result Effect Failure)
+work_of around statement = work_for around statement (form_of statement)
+
+-- It succeeded.
+abbrev pub HasDone : Around → SessionProgress → Statement → List Planned → Effect → List Exchange → Type 0
+HasDone around p statement planned effect exchanges =
+    (worked : List Exchange) × IsDone around p statement planned effect worked × IsAround (asks_of statement) p.is_open true p.settings.manner worked exchanges
+
+-- It failed: nothing was asked; or no transaction could be begun; or its work failed.
+abbrev pub HasFailed : Around → SessionProgress → Statement → Failure → List Exchange → Type 0
+HasFailed around p statement failure exchanges = (exchanges ≡ []) ⊎ ((exchanges ≡ replied p.settings.manner ops.Begin Memory ∷ [])
+    ⊎ ((worked : List Exchange) × FailsBy failure p.settings.manner (IsDone around p statement) worked × IsAround (asks_of statement) p.is_open false p.settings.manner worked exchanges))

@@ -1,11 +1,13 @@
--- A text that reads by calm rules reads so wherever it stands: the same lexemes, with other places, in another text, stand
--- for the same.
-use Rattle.std.specs.Prelude.{◌≡◌, ℕ, zero, suc, true, List, [], ◌∷◌, ◌++◌, map, None, refl}
+-- A text that reads by the rules of a table and holds no variable reads so wherever it stands: the same lexemes, with other places, in
+-- another text, stand for the same. Where variables are judged and none is declared it holds none.
+use Rattle.std.specs.Prelude.{◌≡◌, ℕ, zero, suc, Bool, true, false, ◌||◌, List, [], ◌∷◌, ◌++◌, map, None, refl}
 use Rattle.std.proofs.Common.{ap, sym, ◌∙◌, subst}
 use Rattle.tsql_lexer.specs.declared.lexeme.Lexeme.{Lexeme}
 use Rattle.tsql_grammar.specs.declared.rule.Class.{Class}
 use Rattle.tsql_grammar.specs.declared.rule.Mark.{Mark}
+use Rattle.tsql_grammar.specs.declared.rule.Mark.TheVariants.{Enter, Leave, Uses, Declares}
 use Rattle.tsql_grammar.specs.declared.rule.Rule.{Rule}
+use Rattle.tsql_grammar.specs.declared.rule.Rule.TheVariants as r
 use Rattle.tsql_grammar.specs.Noted.{Noted, see, note}
 use Rattle.tsql_grammar.specs.PlainText.{plainly_admits, plain_language}
 use Rattle.tsql_grammar.specs.Productions.{Symbols, Production, Tree, productions}
@@ -16,9 +18,12 @@ use Rattle.grammar_laws.specs.Grammar.Symbol.{lexeme, rule, mark}
 use Rattle.grammar_laws.specs.BySymbols.{OfSymbols, Within}
 use Rattle.grammar_laws.specs.Alternatives.{IndexOf, at}
 use Rattle.grammar_laws.proofs.Booleans.{and_true}
-use Rattle.text_laws.proofs.Calm.{calm, own, calm_own, calm_mark, calm_symbols, calm_at, productions_same}
+use Rattle.text_laws.proofs.Calm.{calm, own, calm_own, calm_mark, calm_symbols, calm_at, not_so, productions_same}
+use Rattle.text_laws.proofs.RowAlone.{none_two, none_first, none_second}
+use Rattle.text_laws.proofs.Variables.{variable_class, is_variable, holds, holds_none, holds_parts, admitted}
+use Rattle.text_laws.proofs.Uses.{inner, inner_calm, inner_own, inner_tabled, no_variable, paired, paired_at, tabled}
 use Rattle.text_laws.proofs.Blind.{bare, bare_all, blind, blind_at}
-use Rattle.text_laws.proofs.Noting.{Goes, goes_see, goes_note, note_fault, Clear, clear_see, clear_note}
+use Rattle.text_laws.proofs.Noting.{Goes, goes_see, goes_note, note_fault, Clear, clear_see, clear_note, uses_fault}
 
 -- ---- the same lexemes
 
@@ -81,6 +86,47 @@ module _ (text : List ℕ) where
   pub clear_behind : (h : ℕ) (is : Symbols) (w : List Terminal) (vs : Trees Terminal Tree is) (s t : Noted) → calm_symbols is ≡ true → OfSymbols P (Within P h) is w vs s t → Clear s → Clear t
   clear_behind h = clear_each h (clear_within h)
 
+-- ---- where no variable is declared
+
+module _ (text : List ℕ) where
+  after_variable : (h : ℕ) (is : Symbols) (w : List Terminal) (vs : Trees Terminal Tree is) (s t : Noted) → paired true is ≡ true → OfSymbols (P text) (Within (P text) h) is w vs s t → Clear s → t.fault ≡ None → ⊥
+  after_variable h [] w vs s t ok d clear sound = not_so ok
+  after_variable h (lexeme a ∷ is) w vs s t ok d clear sound = not_so ok
+  after_variable h (rule q ∷ is) w vs s t ok d clear sound = not_so ok
+  after_variable h (mark Enter ∷ is) w vs s t ok d clear sound = not_so ok
+  after_variable h (mark Leave ∷ is) w vs s t ok d clear sound = not_so ok
+  after_variable h (mark Declares ∷ is) w vs s t ok d clear sound = not_so ok
+  after_variable h (mark Uses ∷ is) w vs s t ok d clear sound = uses_fault s clear (sound_before text h is w vs (note s Uses) t d sound)
+
+  abbrev RuleFree : ℕ → Type 0
+  RuleFree h = (q : Rule) (w : List Terminal) (v : Tree q) (s t : Noted) → tabled q ≡ true → Within (P text) h q w v s t → Clear s → t.fault ≡ None → holds w ≡ false
+
+  free_symbols : (h : ℕ) → RuleFree h → (is : Symbols) (w : List Terminal) (vs : Trees Terminal Tree is) (s t : Noted) → paired false is ≡ true → OfSymbols (P text) (Within (P text) h) is w vs s t
+      → Clear s → t.fault ≡ None → holds w ≡ false
+  free_symbols h f [] w vs s t ok d clear sound = subst (λ (z : List Terminal). holds z ≡ false) (sym d.0) refl
+  free_symbols h f (lexeme a ∷ is) w vs s t ok (u, e, k, d) clear sound = by (variable_class a) refl ok (λ ok. free_symbols h f is u vs.1 (see s vs.0) t ok d (clear_see s vs.0 clear) sound)
+    where
+      by : (b : Bool) → variable_class a ≡ b → paired b is ≡ true → (paired false is ≡ true → holds u ≡ false) → holds w ≡ false
+      by true is_one ok rest = absurd (after_variable h is u vs.1 (see s vs.0) t ok d (clear_see s vs.0 clear) sound)
+      by false is_one ok rest = subst (λ (z : List Terminal). holds z ≡ false) (sym e) (none_two (is_variable vs.0) (holds u) (admitted a (kind_of vs.0.spanned.lexeme) is_one k) (rest ok))
+  free_symbols h f (mark Enter ∷ is) w vs s t ok d clear sound = free_symbols h f is w vs (note s Enter) t ok d (clear_note s Enter refl clear) sound
+  free_symbols h f (mark Leave ∷ is) w vs s t ok d clear sound = free_symbols h f is w vs (note s Leave) t ok d (clear_note s Leave refl clear) sound
+  free_symbols h f (mark Uses ∷ is) w vs s t ok d clear sound = absurd (not_so ok)
+  free_symbols h f (mark Declares ∷ is) w vs s t ok d clear sound = absurd (not_so ok)
+  free_symbols h f (rule q ∷ is) w vs s t ok (u, v, m, e, o, d) clear sound =
+      let both = and_true (inner q) (paired false is) ok in
+      let first = f q u vs.0 s m (inner_tabled q both.0) o clear (sound_before text h is v vs.1 m t d sound) in
+      let clear1 = clear_within text h q u vs.0 s m (inner_own q both.0) o clear in
+      subst (λ (z : List Terminal). holds z ≡ false) (sym e) (holds_none u v first (free_symbols h f is v vs.1 m t both.1 d clear1 sound))
+
+  free_within : (h : ℕ) → RuleFree h
+  free_within zero q w v s t ok d clear sound = absurd d
+  free_within (suc h) q w v s t ok (p, vs, e, d) clear sound = free_symbols h (free_within h) (at (productions text q) p).symbols w vs s t (paired_at text q p ok) d clear sound
+
+  -- a table holds no variable there
+  pub clear_free : (h : ℕ) (w : List Terminal) (v : Tree r.Table) (s t : Noted) → Within (P text) h r.Table w v s t → Clear s → t.fault ≡ None → holds w ≡ false
+  clear_free h w v s t d clear sound = free_within h r.Table w v s t refl d clear sound
+
 -- ---- in another text
 
 module _ (text other : List ℕ) where
@@ -93,37 +139,45 @@ module _ (text other : List ℕ) where
     pub goes : Goes t last
 
   abbrev RuleAlike : ℕ → Type 0
-  RuleAlike h = (q : Rule) → calm q ≡ true → (w' w : List Terminal) → Same w' w → (v : Tree q) (s t s' : Noted) → Goes s s' → Within (P text) h q w v s t
+  RuleAlike h = (q : Rule) → inner q ≡ true → (w' w : List Terminal) → Same w' w → holds w ≡ false → (v : Tree q) (s t s' : Noted) → Goes s s' → Within (P text) h q w v s t
       → (t' : Noted) × Within (P other) h q w' v s' t' × Goes t t'
 
-  symbols_alike : (h : ℕ) → RuleAlike h → (is : Symbols) → calm_symbols is ≡ true → (w' w : List Terminal) → Same w' w → (vs : Trees Terminal Tree is) (s t s' : Noted) → Goes s s'
+  symbols_alike : (h : ℕ) → RuleAlike h → (is : Symbols) → paired false is ≡ true → (w' w : List Terminal) → Same w' w → holds w ≡ false → (vs : Trees Terminal Tree is) (s t s' : Noted) → Goes s s'
       → OfSymbols (P text) (Within (P text) h) is w vs s t → Alike h is w' vs t s'
-  symbols_alike h f [] ok w' w same vs s t s' g d = record {
+  symbols_alike h f [] ok w' w same none vs s t s' g d = record {
     values = tt;
     last = s';
     same = refl;
     reads = (same_none w' (same ∙ ap (map bare) d.0), refl);
     goes = subst (λ (z : Noted). Goes z s') (sym d.1) g;
   }
-  symbols_alike h f (lexeme c ∷ is) ok w' w same vs s t s' g (u, e, k, d) =
+  symbols_alike h f (lexeme a ∷ is) ok w' w same none vs s t s' g (u, e, k, d) =
+      let free : (is_variable vs.0 || holds u) ≡ false = subst (λ (z : List Terminal). holds z ≡ false) e none in
+      let other_class : variable_class a ≡ false = no_variable a (kind_of vs.0.spanned.lexeme) k (none_first (is_variable vs.0) (holds u) free) in
       let (l', u', is_one, here, more) = same_one w' vs.0 u (same ∙ ap (map bare) e) in
       let it = same_lexeme l' vs.0 here in
-      let rest = symbols_alike h f is ok u' u more vs.1 (see s vs.0) t (see s' l') (goes_see s s' vs.0 l' it g) d in
+      let rest = symbols_alike h f is (subst (λ (b : Bool). paired b is ≡ true) other_class ok) u' u more (none_second (is_variable vs.0) (holds u) free) vs.1 (see s vs.0) t (see s' l') (goes_see s s' vs.0 l' g) d in
       record {
         values = (l', rest.values);
         last = rest.last;
         same = λ i. (here i, rest.same i);
-        reads = (u', is_one, subst (λ (x : Lexeme). plainly_admits c (kind_of x) ≡ true) (sym it) k, rest.reads);
+        reads = (u', is_one, subst (λ (x : Lexeme). plainly_admits a (kind_of x) ≡ true) (sym it) k, rest.reads);
         goes = rest.goes;
       }
-  symbols_alike h f (mark m ∷ is) ok w' w same vs s t s' g d =
-      let rest = symbols_alike h f is (and_true (calm_mark m) (calm_symbols is) ok).1 w' w same vs (note s m) t (note s' m) (goes_note s s' m g) d in
+  symbols_alike h f (mark Enter ∷ is) ok w' w same none vs s t s' g d =
+      let rest = symbols_alike h f is ok w' w same none vs (note s Enter) t (note s' Enter) (goes_note s s' Enter refl g) d in
       record { values = rest.values; last = rest.last; same = rest.same; reads = rest.reads; goes = rest.goes }
-  symbols_alike h f (rule q ∷ is) ok w' w same vs s t s' g (u, v, m, e, o, d) =
-      let both = and_true (calm q) (calm_symbols is) ok in
+  symbols_alike h f (mark Leave ∷ is) ok w' w same none vs s t s' g d =
+      let rest = symbols_alike h f is ok w' w same none vs (note s Leave) t (note s' Leave) (goes_note s s' Leave refl g) d in
+      record { values = rest.values; last = rest.last; same = rest.same; reads = rest.reads; goes = rest.goes }
+  symbols_alike h f (mark Uses ∷ is) ok w' w same none vs s t s' g d = absurd (not_so ok)
+  symbols_alike h f (mark Declares ∷ is) ok w' w same none vs s t s' g d = absurd (not_so ok)
+  symbols_alike h f (rule q ∷ is) ok w' w same none vs s t s' g (u, v, m, e, o, d) =
+      let both = and_true (inner q) (paired false is) ok in
+      let free = holds_parts u v (subst (λ (z : List Terminal). holds z ≡ false) e none) in
       let (u', v', joined, first, second) = same_parts w' u v (same ∙ ap (map bare) e) in
-      let (t1, one, g1) = f q both.0 u' u first vs.0 s m s' g o in
-      let rest = symbols_alike h f is both.1 v' v second vs.1 m t t1 g1 d in
+      let (t1, one, g1) = f q both.0 u' u first free.0 vs.0 s m s' g o in
+      let rest = symbols_alike h f is both.1 v' v second free.1 vs.1 m t t1 g1 d in
       record {
         values = (vs.0, rest.values);
         last = rest.last;
@@ -137,13 +191,14 @@ module _ (text other : List ℕ) where
   Way h q ways w v s t = (p : IndexOf ways) × (vs : Trees Terminal Tree (at ways p).symbols) × (v ≡ (at ways p).build vs) × OfSymbols (P other) (Within (P other) h) (at ways p).symbols w vs s t
 
   rule_alike : (h : ℕ) → RuleAlike h
-  rule_alike zero q ok w' w same v s t s' g d = absurd d
-  rule_alike (suc h) q ok w' w same v s t s' g (p, vs, e, d) =
+  rule_alike zero q ok w' w same none v s t s' g d = absurd d
+  rule_alike (suc h) q ok w' w same none v s t s' g (p, vs, e, d) =
       let ways : List (Production q) = productions text q in
-      let a = symbols_alike h (rule_alike h) (at ways p).symbols (calm_at text q p (calm_own q ok)) w' w same vs s t s' g d in
-      let value : v ≡ (at ways p).build a.values = e ∙ blind_at q ways (blind text q ok) p vs ∙ ap (at ways p).build (sym a.same) ∙ sym (blind_at q ways (blind text q ok) p a.values) in
-      (a.last, subst (λ (ways : List (Production q)). Way h q ways w' v s' a.last) (productions_same text other q (calm_own q ok)) (p, a.values, value, a.reads), a.goes)
+      let blind_so = blind text q (inner_calm q ok) in
+      let a = symbols_alike h (rule_alike h) (at ways p).symbols (paired_at text q p (inner_tabled q ok)) w' w same none vs s t s' g d in
+      let value : v ≡ (at ways p).build a.values = e ∙ blind_at q ways blind_so p vs ∙ ap (at ways p).build (sym a.same) ∙ sym (blind_at q ways blind_so p a.values) in
+      (a.last, subst (λ (ways : List (Production q)). Way h q ways w' v s' a.last) (productions_same text other q (inner_own q ok)) (p, a.values, value, a.reads), a.goes)
 
-  pub alike : (h : ℕ) (is : Symbols) → calm_symbols is ≡ true → (w' w : List Terminal) → Same w' w → (vs : Trees Terminal Tree is) (s t s' : Noted) → Goes s s'
+  pub alike : (h : ℕ) (is : Symbols) → paired false is ≡ true → (w' w : List Terminal) → Same w' w → holds w ≡ false → (vs : Trees Terminal Tree is) (s t s' : Noted) → Goes s s'
       → OfSymbols (P text) (Within (P text) h) is w vs s t → Alike h is w' vs t s'
   alike h = symbols_alike h (rule_alike h)

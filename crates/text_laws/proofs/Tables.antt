@@ -1,5 +1,5 @@
 -- A table that is read anywhere in a text reads, alone, as the definition of that table.
-use Rattle.std.specs.Prelude.{◌≡◌, ℕ, zero, suc, true, List, [], ◌∷◌, ◌++◌, map, Option, Some, None, Ok, refl}
+use Rattle.std.specs.Prelude.{◌≡◌, ℕ, zero, suc, true, false, List, [], ◌∷◌, ◌++◌, map, Option, Some, None, Ok, refl}
 use Rattle.std.proofs.Common.{ap, sym, ◌∙◌, subst, arith}
 use Rattle.std.proofs.lemmas.List.{map-append}
 use Rattle.tsql_lexer.specs.declared.fault.Flaw.{Flaw}
@@ -27,20 +27,21 @@ use Rattle.text_laws.specs.Slices.{moved_by, end_behind}
 use Rattle.text_laws.proofs.Slices.{slice_lexes}
 use Rattle.text_laws.proofs.Calm.{Own, free}
 use Rattle.text_laws.proofs.Blind.{bare}
-use Rattle.text_laws.proofs.Noting.{Goes, Clear}
+use Rattle.text_laws.proofs.Variables.{holds}
+use Rattle.text_laws.proofs.Noting.{Goes}
 use Rattle.text_laws.proofs.Alike.{Same, P, alike}
 
 -- ---- a table in another text
 
 module _ (text other : List ℕ) where
   -- the same table, which ends elsewhere
-  pub table_alike : (h : ℕ) (w' w : List Terminal) → Same w' w → (v : Tree r.Table) (s t s' : Noted) → Goes s s' → Within (P text) h r.Table w v s t
+  pub table_alike : (h : ℕ) (w' w : List Terminal) → Same w' w → holds w ≡ false → (v : Tree r.Table) (s t s' : Noted) → Goes s s' → Within (P text) h r.Table w v s t
       → (n : ℕ) × (t' : Noted) × Within (P other) h r.Table w' (v.0, n) s' t' × Goes t t'
-  table_alike zero w' w same v s t s' g d = absurd d
-  table_alike (suc h) w' w same v s t s' g (Some p, vs, e, d) = absurd p
-  table_alike (suc h) w' w same v s t s' g (None, vs, e, d) =
+  table_alike zero w' w same none v s t s' g d = absurd d
+  table_alike (suc h) w' w same none v s t s' g (Some p, vs, e, d) = absurd p
+  table_alike (suc h) w' w same none v s t s' g (None, vs, e, d) =
       let one = at (productions text r.Table) None in
-      let a = alike text other h one.symbols refl w' w same vs s t s' g d in
+      let a = alike text other h one.symbols refl w' w same none vs s t s' g d in
       let value : v.0 ≡ (one.build a.values).0 = ap (λ (z : Tree r.Table). z.0) e ∙ ap (λ (z : Trees Terminal Tree one.symbols). (one.build z).0) (sym a.same) in
       ((one.build a.values).1, a.last, (None, a.values, (λ i. (value i, (one.build a.values).1)), a.reads), a.goes)
 
@@ -99,11 +100,11 @@ moved_same : (first : Spanned) (u : List Terminal) → Same (terminals (map (mov
 moved_same first [] = refl
 moved_same first (l ∷ u) = ap (λ (z : List Terminal). bare l ∷ z) (moved_same first u)
 
--- A text's lexemes are these: CREATE, a table, and others around them. What the text has from that CREATE to the table's end
+-- A text's lexemes are these: CREATE, a table that holds no variable, and others around them. What the text has from that CREATE to the table's end
 -- defines the table.
 pub table_kept : (text : List ℕ) (h : ℕ) (front u back : List Terminal) (create : Terminal) (table : Tree r.Table) (s t : Noted) → terminals (lexemes_of text) ≡ front ++ (create ∷ (u ++ back))
-    → is_create create → Within (P text) h r.Table u table (see s create) t → Clear s → t.fault ≡ None → DefinitionOf (slice text create.spanned.start table.1) (Ok (Table table.0))
-table_kept text h front u back create table s t whole k d clear sound =
+    → is_create create → Within (P text) h r.Table u table (see s create) t → holds u ≡ false → t.fault ≡ None → DefinitionOf (slice text create.spanned.start table.1) (Ok (Table table.0))
+table_kept text h front u back create table s t whole k d none sound =
     let first : Spanned = create.spanned in
     let places : lexemes_of text ≡ plain front ++ (first ∷ (plain u ++ plain back)) =
     sym (plain_terminals (lexemes_of text)) ∙ ap plain whole ∙ plain_append front (create ∷ (u ++ back)) ∙ ap (λ (z : List Spanned). plain front ++ (first ∷ z)) (plain_append u back) in
@@ -111,8 +112,8 @@ table_kept text h front u back create table s t whole k d clear sound =
     ap (λ (n : ℕ). lexing_of (slice text first.start n)) (sym (table_ends text h u table (see s create) t d first.end)) ∙ slice_lexes text (plain front) (plain u) (plain back) first places in
     let kept : List ℕ = slice text first.start table.1 in
     let create' : Terminal = record { spanned = moved_by first first; before_else = begins_else (map (moved_by first) (plain u)) } in
-    let g : Goes (see s create) (see (start true) create') = λ e. record { judges = sym clear.judges; last = refl; declared = sym clear.none; depth = omega arith; sound = refl } in
-    let (n, t', reads, goes) = table_alike text kept h (terminals (map (moved_by first) (plain u))) u (moved_same first u) table (see s create) t (see (start true) create') g d in
+    let g : Goes (see s create) (see (start true) create') = λ e. record { depth = omega arith; sound = refl } in
+    let (n, t', reads, goes) = table_alike text kept h (terminals (map (moved_by first) (plain u))) u (moved_same first u) none table (see s create) t (see (start true) create') g d in
     let all : ReadsPlain kept r.Definition (map (moved_by first) (first ∷ plain u)) (Table table.0) (start true) t' =
     defined kept h create' (terminals (map (moved_by first) (plain u))) (table.0, n) (start true) t' k reads in
     record {

@@ -1,5 +1,5 @@
 -- What `pipe` does, from what its connection did and what its port tells.
-use Rattle.std.proofs.Common.{◌≡◌, ℕ, suc, ◌+◌, ◌-◌, ◌≤◌, Bool, true, false, List, [], ◌∷◌, ◌++◌, map, length, filter, Option, None, Some, is_some, inl, inr, refl, sym, ap, subst, ◌∙◌, arith, length-append}
+use Rattle.std.proofs.Common.{◌≡◌, ℕ, suc, ◌+◌, ◌-◌, ◌≤◌, Bool, true, false, List, [], ◌∷◌, ◌++◌, map, length, take, filter, Option, None, Some, is_some, inl, inr, refl, sym, ap, subst, ◌∙◌, arith, length-append}
 use Rattle.std.specs.Prelude.{◌==◌, ◌⊎◌}
 use Rattle.std.specs.List.{All}
 use Rattle.std.proofs.lemmas.Bool.{eq-eqb}
@@ -12,7 +12,7 @@ use Rattle.tds_packets.specs.declared.fault.MessageFault.TheVariants as reading
 use Rattle.tds_packets.proofs.Joined.{message_length}
 use Rattle.step_model.specs.Exchange.{Exchange}
 use Rattle.step_model.specs.Port.{TellsAll}
-use Rattle.step_model.specs.Log.{Commit}
+use Rattle.step_model.specs.Log.{Commit, State}
 use Rattle.step_model.specs.Fits.{Fits, commits_of}
 use Rattle.step_model.specs.State.{is_open}
 use Rattle.step_model.specs.Runs.{Run, opening}
@@ -27,6 +27,8 @@ use Rattle.batch_meaning.specs.Meaning.{rolls_back_open}
 use Rattle.batch_meaning.specs.Progress.{SessionProgress, first_progress}
 use Rattle.session_server.specs.Response.{Response}
 use Rattle.session_server.specs.Talk.{walk_of, Request, AreRequests, talk_of}
+use Rattle.integrity_laws.specs.Sound.{Firm}
+use Rattle.integrity_laws.proofs.Whole.{firm_sound}
 use Rattle.connection_laws.proofs.Sound.{connection_sound}
 use Rattle.tsqld.specs.Program.{PipedOver, EndsWell, status_of, fresh_port}
 
@@ -123,6 +125,17 @@ piped config gave left sink_before sink_after before after end status new served
     let run = subst (λ (session : ℕ). Run opening (asked_by session means.exchanges) after.engine) one (means.past.led [] refl) in
     let fits = run_fits 1 means.exchanges after.engine run in
     let own = run_own 1 means.exchanges after.engine run in
+    let firm : (place : ℕ) → Firm (State (take place after.engine.log)) = λ place. (connection_sound 1 means.exchanges after.engine (record {
+      config = config;
+      taken = heard.taken;
+      messages = heard.messages;
+      rest = heard.rest;
+      requests = means.requests;
+      responses = heard.responses;
+      cause = heard.cause;
+      split = heard.split;
+      asked = means.asked;
+    }) run place).firm in
     record {
       end = end;
       status_is = is;
@@ -131,17 +144,8 @@ piped config gave left sink_before sink_after before after end status new served
       fits = fits;
       commits = logged means.exchanges after.engine.log fits own;
       own = own;
-      sound = λ place. (connection_sound 1 means.exchanges after.engine (record {
-        config = config;
-        taken = heard.taken;
-        messages = heard.messages;
-        rest = heard.rest;
-        requests = means.requests;
-        responses = heard.responses;
-        cause = heard.cause;
-        split = heard.split;
-        asked = means.asked;
-      }) run place).sound;
+      sound = λ place. firm_sound (State (take place after.engine.log)) (firm place);
+      firm = firm;
       idle = ap (λ (session : ℕ). is_open session after.engine) (sym one) ∙ closed;
       memory = wanted config sink_before sink_after heard.taken heard.rest means.requests means.exchanges heard.responses after.told end status heard.messages heard.cause is heard.end_is heard.split.joined means.asked means.past.told heard.caused heard.written;
     }

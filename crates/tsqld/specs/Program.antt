@@ -12,7 +12,7 @@ use Rattle.step_model.specs.Fits.{Fits, commits_of}
 use Rattle.step_model.specs.Log.{State}
 use Rattle.step_model.specs.State.{is_open}
 use Rattle.step_model.specs.Runs.{Run, opening}
-use Rattle.integrity_laws.specs.Sound.{Sound}
+use Rattle.integrity_laws.specs.Sound.{Sound, Firm}
 use Rattle.engine_core.specs.Solo.{Solo, asked_by, solo_past}
 use Rattle.steps_command.specs.Play.{Stage, first_manners}
 use Rattle.session_server.specs.declared.end.End.{End}
@@ -88,6 +88,8 @@ pub record PipedOver (config : Config) (gave : List ℕ → Type 0) (left sink_b
   pub own : All (λ commit. commit.session ≡ 1) port.engine.log
   -- every database that the first commits of the log leave is sound
   pub sound : (place : ℕ) → Sound (State (take place port.engine.log))
+  -- and has all that statements keep of it
+  pub firm : (place : ℕ) → Firm (State (take place port.engine.log))
   -- no transaction is left open
   pub idle : is_open 1 port.engine ≡ false
   -- memory was wanting only after a whole header was taken

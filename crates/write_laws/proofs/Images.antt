@@ -9,6 +9,8 @@ use Rattle.bound_tree.specs.declared.write.BoundWrite.TheVariants as write
 use Rattle.step_model.specs.declared.manner.Manner.{Manner}
 use Rattle.step_model.specs.declared.op.Op.{Op}
 use Rattle.step_model.specs.declared.op.Op.TheVariants.{Fetch}
+use Rattle.step_model.specs.declared.range.Start.{Start}
+use Rattle.step_model.specs.declared.range.Start.TheVariants.{Past}
 use Rattle.step_model.specs.declared.reply.Reply.{Reply}
 use Rattle.step_model.specs.declared.reply.Reply.TheVariants as replies
 use Rattle.step_model.specs.Dialog.{Dialog, over, asks, room, never, ◌then◌, Held}
@@ -19,8 +21,8 @@ use Rattle.constraint_check.specs.Reads.{shape_of}
 use Rattle.dml_exec.specs.declared.refusal.Level.{Level}
 use Rattle.dml_exec.specs.declared.refusal.Refusal.{Refusal}
 use Rattle.dml_exec.specs.declared.refusal.Refusal.TheVariants.{Memory}
-use Rattle.dml_exec.specs.Asking.{on_ok, ◌>>=◌, with_room}
-use Rattle.dml_exec.specs.Reading.{TableRead, fetches, fits, images_from, images_of, inner_reads, past, read_by, reads_on, reads_table, rows_from, rows_in, table_fetch}
+use Rattle.dml_exec.specs.Asking.{on_ok, ◌>>=◌, with_room, with_room_if}
+use Rattle.dml_exec.specs.Reading.{TableRead, behind_gone, fetches, fits, from, images_from, images_of, inner_reads, is_short, key_width, read_by, reads_on, reads_table, rows_from, rows_in, table_fetch}
 use Rattle.write_laws.specs.Laws.{HaveColumns, RowsRead}
 use Rattle.write_laws.proofs.Changes.{all_both}
 
@@ -72,6 +74,10 @@ comes_room : {A E : Type 0} (wanting : E) (dialog : Dialog (Result A E)) (P : A 
 comes_room wanting dialog P comes true = comes
 comes_room wanting dialog P comes false = tt
 
+comes_room_if : {A E : Type 0} (wants : Bool) (wanting : E) (dialog : Dialog (Result A E)) (P : A → Type 0) → Comes dialog (IfWell P) → Comes (with_room_if wants wanting dialog) (IfWell P)
+comes_room_if true wanting dialog P comes = comes_room wanting dialog P comes
+comes_room_if false wanting dialog P comes = comes
+
 -- ---- the rows of a table
 
 module _ (shape : TableTree) where
@@ -88,37 +94,37 @@ module _ (shape : TableTree) where
       by_test true fit = all_both (λ row. has_columns shape.columns row ≡ true) rows (row ∷ []) have ((and_parts (has_columns shape.columns row) (same_key (key_of shape row) key) fit).0, tt)
       by_test false fit = have
 
-  abbrev HaveSoFar : Rows × Option (List Value) → Type 0
+  abbrev HaveSoFar : Rows × Option Start → Type 0
   HaveSoFar so_far = Have so_far.0
 
-  reply_have : (so_far : Rows) → Have so_far → (reply : Reply) → Comes (read_by keeps so_far reply) (IfWell HaveSoFar)
-  reply_have so_far have (replies.Row key row at) = comes_room Memory (over (Ok (with_row keeps so_far key row, Some key))) HaveSoFar (row_kept so_far key row have)
-  reply_have so_far have (replies.Gone key at) = have
-  reply_have so_far have (replies.End at) = have
-  reply_have so_far have replies.Memory = tt
-  reply_have so_far have (replies.TimedOut holder held asked on) = tt
-  reply_have so_far have (replies.Victim cycle) = tt
-  reply_have so_far have reply = tt
+  reply_have : (width : ℕ) (so_far : Rows) → Have so_far → (reply : Reply) → Comes (read_by width keeps so_far reply) (IfWell HaveSoFar)
+  reply_have width so_far have (replies.Row key row at) = comes_room Memory (over (Ok (with_row keeps so_far key row, Some (Past key)))) HaveSoFar (row_kept so_far key row have)
+  reply_have width so_far have (replies.Gone key at) = comes_room_if (is_short width key) Memory (over (Ok (so_far, Some (behind_gone width key)))) HaveSoFar have
+  reply_have width so_far have (replies.End at) = have
+  reply_have width so_far have replies.Memory = tt
+  reply_have width so_far have (replies.TimedOut holder held asked on) = tt
+  reply_have width so_far have (replies.Victim cycle) = tt
+  reply_have width so_far have reply = tt
 
-  fetch_have : (fetch : Op) (so_far : Rows) → Have so_far → Comes (fetches keeps fetch so_far) (IfWell HaveSoFar)
-  fetch_have (Fetch table start stop hold part) so_far have = reply_have so_far have
-  fetch_have op so_far have = tt
+  fetch_have : (width : ℕ) (fetch : Op) (so_far : Rows) → Have so_far → Comes (fetches width keeps fetch so_far) (IfWell HaveSoFar)
+  fetch_have width (Fetch table start stop hold part) so_far have = reply_have width so_far have
+  fetch_have width op so_far have = tt
 
-  behind_have : (next : Rows → List Value → Dialog (Result Rows Refusal)) → ((more : Rows) (key : List Value) → Have more → Comes (next more key) (IfWell Have)) → (so_far : Rows × Option (List Value)) → HaveSoFar so_far → Comes (reads_on next so_far) (IfWell Have)
+  behind_have : (next : Rows → Start → Dialog (Result Rows Refusal)) → ((more : Rows) (start : Start) → Have more → Comes (next more start) (IfWell Have)) → (so_far : Rows × Option Start) → HaveSoFar so_far → Comes (reads_on next so_far) (IfWell Have)
   behind_have next goes (more, None) have = have
-  behind_have next goes (more, Some key) have = goes more key have
+  behind_have next goes (more, Some start) have = goes more start have
 
-  range_have : (left : ℕ) (fetch : Op) (so_far : Rows) → Have so_far → Comes (rows_from keeps left fetch so_far) (IfWell Have)
+  range_have : (width : ℕ) (left : ℕ) (fetch : Op) (so_far : Rows) → Have so_far → Comes (rows_from width keeps left fetch so_far) (IfWell Have)
   unfolding rows_from
-  range_have zero fetch so_far have = tt
-  range_have (suc left) fetch so_far have =
-      comes_on (fetches keeps fetch so_far) (reads_on (λ more key. rows_from keeps left (past fetch key) more)) HaveSoFar Have (fetch_have fetch so_far have)
-      (behind_have (λ more key. rows_from keeps left (past fetch key) more) (λ more key. range_have left (past fetch key) more))
+  range_have width zero fetch so_far have = tt
+  range_have width (suc left) fetch so_far have =
+      comes_on (fetches width keeps fetch so_far) (reads_on (λ more start. rows_from width keeps left (from start fetch) more)) HaveSoFar Have (fetch_have width fetch so_far have)
+      (behind_have (λ more start. rows_from width keeps left (from start fetch) more) (λ more start. range_have width left (from start fetch) more))
 
   module _ (shapes : List TableTree) (level : Level) (target : TableRead) (known : shape_of target.0 shapes ≡ Some shape) where
     table_have : Comes (reads_table shapes level target) (IfWell Have)
     unfolding reads_table rows_in
-    table_have = subst (λ (of : Option TableTree). Comes (rows_from (fits of) range_limit (table_fetch level target) []) (IfWell Have)) (sym known) (range_have range_limit (table_fetch level target) [] tt)
+    table_have = subst (λ (of : Option TableTree). Comes (rows_from (key_width of) (fits of) range_limit (table_fetch level target) []) (IfWell Have)) (sym known) (range_have (key_width (Some shape)) range_limit (table_fetch level target) [] tt)
 
     -- ---- the image of a target
 

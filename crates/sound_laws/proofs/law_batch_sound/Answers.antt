@@ -1,5 +1,12 @@
-use Rattle.sound_laws.proofs.Batches.{batch_sound}
+use Rattle.sound_laws.proofs.Meanings.{batch_sound, rollback_sound}
+use Rattle.sound_laws.proofs.Serving.{batch_agrees}
 use Rattle.sound_laws.proofs.law_batch_sound.Goals as goal
 
-pub returns : goal.returns
-returns c = batch_sound
+pub returns-clause-batch : goal.returns-clause-batch
+returns-clause-batch c = batch_sound
+
+pub returns-clause-rollback : goal.returns-clause-rollback
+returns-clause-rollback c = rollback_sound
+
+pub returns-clause-open : goal.returns-clause-open
+returns-clause-open c = batch_agrees

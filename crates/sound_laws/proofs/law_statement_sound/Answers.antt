@@ -1,4 +1,4 @@
-use Rattle.sound_laws.proofs.Statements.{statement_sound}
+use Rattle.sound_laws.proofs.Meanings.{statement_sound}
 use Rattle.sound_laws.proofs.law_statement_sound.Goals as goal
 
 pub returns : goal.returns

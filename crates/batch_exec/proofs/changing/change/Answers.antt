@@ -1,6 +1,7 @@
-use Rattle.batch_meaning.specs.Meaning.{changes}
-use Rattle.batch_meaning.proofs.Composed.{does_bind, does_fail}
-use Rattle.batch_exec.proofs.Selects.{does_on, does_result}
+use Rattle.batch_meaning.specs.Asking.{reads_images}
+use Rattle.batch_meaning.specs.Working.{changes}
+use Rattle.batch_meaning.proofs.Composed.{does_bind, does_fail, does_reads}
+use Rattle.batch_exec.proofs.Selects.{does_read, does_read_on, does_stepped}
 use Rattle.batch_exec.proofs.changing.change.Goals as goal
 
 pub returns-in_err-definitions-clause-does : goal.returns-in_err-definitions-clause-does
@@ -8,20 +9,25 @@ unfolding changes
 returns-in_err-definitions-clause-does g c = does_fail _ _ _ c.from_residual.ensures.0 c.from_residual.ensures.1 c.in_err-definitions.ensures.does
 
 pub returns-in_err-images-clause-does : goal.returns-in_err-images-clause-does
-unfolding changes
-returns-in_err-images-clause-does g c = does_bind _ _ c.in_ok-definitions.ensures.does (does_fail _ _ _ c.from_residual-in_err-images.ensures.0 c.from_residual-in_err-images.ensures.1 (rw c.requires.write at c.in_err-images.ensures.does))
+unfolding changes reads_images
+returns-in_err-images-clause-does g c = does_bind _ _ c.in_ok-definitions.ensures.does (does_fail _ _ _ c.from_residual-in_err-images.ensures.0 c.from_residual-in_err-images.ensures.1 (does_reads (rw (c.settings-level.ensures, c.requires.write) at c.in_err-images.ensures.does)))
 
 pub returns-in_err-planned-clause-does : goal.returns-in_err-planned-clause-does
-unfolding changes
-returns-in_err-planned-clause-does g c = does_bind _ _ c.in_ok-definitions.ensures.does (does_bind _ _ (rw c.requires.write at c.in_ok-images.ensures.does)
-    (does_fail _ _ _ c.from_residual-in_err-planned.ensures.0 c.from_residual-in_err-planned.ensures.1 (does_result _ _ (rw c.as_slice.ensures at c.in_err-planned.ensures))))
+unfolding changes reads_images
+returns-in_err-planned-clause-does g c = does_bind _ _ c.in_ok-definitions.ensures.does (does_bind _ _ (does_reads (rw (c.settings-level.ensures, c.requires.write) at c.in_ok-images.ensures.does))
+    (does_fail _ _ _ c.from_residual-in_err-planned.ensures.0 c.from_residual-in_err-planned.ensures.1 (does_read _ _ (rw c.as_slice.ensures at c.in_err-planned.ensures))))
+
+pub returns-in_err-effect-clause-does : goal.returns-in_err-effect-clause-does
+unfolding changes reads_images
+returns-in_err-effect-clause-does g c = does_bind _ _ c.in_ok-definitions.ensures.does (does_bind _ _ (does_reads (rw (c.settings-level.ensures, c.requires.write) at c.in_ok-images.ensures.does)) (does_read_on _ _ (rw c.as_slice.ensures at c.in_ok-planned.ensures)
+    (does_fail _ _ _ c.from_residual-in_err-effect.ensures.0 c.from_residual-in_err-effect.ensures.1 (does_read _ _ (rw (c.settings.ensures, c.as_slice-2.ensures) at c.in_err-effect.ensures.came)))))
 
 pub returns-in_err-put-clause-does : goal.returns-in_err-put-clause-does
-unfolding changes
-returns-in_err-put-clause-does g c = does_bind _ _ c.in_ok-definitions.ensures.does (does_bind _ _ (rw c.requires.write at c.in_ok-images.ensures.does) (does_on _ _ (rw c.as_slice.ensures at c.in_ok-planned.ensures)
-    (does_fail _ _ _ c.from_residual-in_err-put.ensures.0 c.from_residual-in_err-put.ensures.1 (rw c.as_slice-2.ensures at c.in_err-put.ensures.does))))
+unfolding changes reads_images
+returns-in_err-put-clause-does g c = does_bind _ _ c.in_ok-definitions.ensures.does (does_bind _ _ (does_reads (rw (c.settings-level.ensures, c.requires.write) at c.in_ok-images.ensures.does)) (does_read_on _ _ (rw c.as_slice.ensures at c.in_ok-planned.ensures) (does_read_on _ _ (rw (c.settings.ensures, c.as_slice-2.ensures) at c.in_ok-effect.ensures.came)
+    (does_fail _ _ _ c.from_residual-in_err-put.ensures.0 c.from_residual-in_err-put.ensures.1 (rw c.as_slice-3.ensures at c.in_err-put.ensures.does)))))
 
 pub returns-clause-does : goal.returns-clause-does
-unfolding changes
-returns-clause-does g c = does_bind _ _ c.in_ok-definitions.ensures.does (does_bind _ _ (rw c.requires.write at c.in_ok-images.ensures.does) (does_on _ _ (rw c.as_slice.ensures at c.in_ok-planned.ensures)
-    (does_bind _ _ (rw c.as_slice-2.ensures at c.in_ok-put.ensures.does) (does_result _ _ (rw c.as_slice-3.ensures at c.told.ensures)))))
+unfolding changes reads_images
+returns-clause-does g c = does_bind _ _ c.in_ok-definitions.ensures.does (does_bind _ _ (does_reads (rw (c.settings-level.ensures, c.requires.write) at c.in_ok-images.ensures.does)) (does_read_on _ _ (rw c.as_slice.ensures at c.in_ok-planned.ensures) (does_read_on _ _ (rw (c.settings.ensures, c.as_slice-2.ensures) at c.in_ok-effect.ensures.came)
+    (does_bind _ _ (rw c.as_slice-3.ensures at c.in_ok-put.ensures.does) (does_stepped c.if_it_fits.ensures.came)))))

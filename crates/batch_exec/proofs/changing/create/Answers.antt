@@ -1,5 +1,5 @@
 use Rattle.std.proofs.Common.{Ok, ap}
-use Rattle.batch_meaning.specs.Meaning.{creates}
+use Rattle.batch_meaning.specs.Working.{creates}
 use Rattle.batch_meaning.proofs.Composed.{does_bind, does_fail}
 use Rattle.batch_exec.proofs.Selects.{does_made}
 use Rattle.batch_exec.proofs.changing.create.Goals as goal
@@ -10,4 +10,4 @@ returns-in_err-put_definition-clause-does g c = does_fail _ _ _ c.from_residual.
 
 pub returns-clause-does : goal.returns-clause-does
 unfolding creates
-returns-clause-does g c = does_bind _ _ c.in_ok-put_definition.ensures.does (does_made (ap Ok c.no_tokens.ensures))
+returns-clause-does g c = does_bind _ _ c.in_ok-put_definition.ensures.does (does_made (ap Ok c.none.ensures))

@@ -1,21 +1,10 @@
-use Rattle.std.proofs.Common.{◌≡◌, to_z, of_z, refl, Err, ap, rules}
-use Rattle.std.specs.Int.{w32}
-use Rattle.batch_meaning.specs.Meaning.{applies}
-use Rattle.batch_meaning.proofs.Holding.{does_holds}
-use Rattle.batch_exec.proofs.Selects.{does_made}
-use Rattle.batch_meaning.proofs.Composed.{does_over}
+use Rattle.std.proofs.Common.{ap}
+use Rattle.batch_meaning.specs.Progress.{SessionProgress}
+use Rattle.batch_exec.proofs.Holding.{does_applies, ready_applied, ready_touched}
 use Rattle.batch_exec.proofs.dialogs.apply.Goals as goal
 
-pub returns-in-Ok-Done-clause-does : goal.returns-in-Ok-Done-clause-does
-unfolding applies
-returns-in-Ok-Done-clause-does g c = does_holds _ _ c.touch.ensures (rw (c.manner.ensures, c.in-Ok-Done.is) at c.apply_write.ensures.asks) (rw c.in-Ok-Done.field-0-is (does_over refl))
+pub returns-clause-does : goal.returns-clause-does
+returns-clause-does g c = does_applies _ _ c.touch.ensures (rw c.settings.ensures at c.attempt_write-attempt.ensures.asks) c.unless_broken.ensures (rw c.taken_back.ensures at c.cut_to.ensures)
 
-pub returns-in-Ok-Refused-clause-does : goal.returns-in-Ok-Refused-clause-does
-unfolding applies
-returns-in-Ok-Refused-clause-does g c =
-    let same : to_z w32 (of_z w32 c.in-Ok-Refused.number) ≡ c.in-Ok-Refused.number = search rules in
-    does_holds _ _ c.touch.ensures (rw (c.manner.ensures, c.in-Ok-Refused.is) at c.apply_write.ensures.asks) (rw c.in-Ok-Refused.field-0-is (rw same (does_over refl)))
-
-pub returns-in-Err-clause-does : goal.returns-in-Err-clause-does
-unfolding applies
-returns-in-Err-clause-does g c = does_holds _ _ c.touch.ensures (rw (c.manner.ensures, c.in-Err.is) at c.apply_write.ensures.asks) (does_made (ap Err c.stopped.ensures))
+pub returns-clause-ready : goal.returns-clause-ready
+returns-clause-ready g c = ready_applied _ _ (ready_touched c.touch.ensures c.requires.ready) (ap (λ (p : SessionProgress). p.touched) c.touch.ensures) (rw c.settings.ensures at c.attempt_write-attempt.ensures.asks) (rw c.taken_back.ensures at c.cut_to.ensures)

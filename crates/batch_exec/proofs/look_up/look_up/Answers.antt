@@ -7,7 +7,7 @@ use Rattle.step_model.specs.declared.op.Op.TheVariants.{Fetch}
 use Rattle.step_model.specs.declared.range.Start.TheVariants.{At}
 use Rattle.step_model.specs.declared.range.Stop.TheVariants.{Within}
 use Rattle.batch_meaning.specs.Doing.{Did, asks}
-use Rattle.batch_meaning.specs.Meaning.{unless_refused, known, look_up}
+use Rattle.batch_meaning.specs.Asking.{unless_refused, known, look_up}
 use Rattle.batch_meaning.proofs.Composed.{does_over, does_room, does_yes, does_no}
 use Rattle.batch_exec.proofs.Selects.{does_made}
 use Rattle.batch_exec.proofs.look_up.look_up.Goals as goal

@@ -21,5 +21,5 @@ pub loop-left-preserved : goal.loop-left-preserved
 loop-left-preserved g c = record {
   ready = c.in_ok-key.ensures.ready;
   begun = c.in_ok-key.ensures.begun;
-  reading = rw c.past-fetch.ensures (reading_next c.loop-left.left c.loop-left-test.true c.loop-left.invariant.reading (rw c.in-Some.is at c.in_ok-key.ensures.does));
+  reading = rw c.behind-fetch.ensures (reading_next c.loop-left.left c.loop-left-test.true c.loop-left.invariant.reading (rw c.in-Some.is at c.in_ok-key.ensures.does));
 }

@@ -1,5 +1,5 @@
 use Rattle.std.proofs.Common.{true, false, Err, ap}
-use Rattle.batch_meaning.specs.Meaning.{reads_definitions}
+use Rattle.batch_meaning.specs.Asking.{reads_definitions}
 use Rattle.batch_meaning.proofs.Composed.{does_room}
 use Rattle.batch_exec.proofs.Selects.{does_made}
 use Rattle.batch_exec.proofs.objects.read_definitions.Goals as goal

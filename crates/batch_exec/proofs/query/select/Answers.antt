@@ -1,16 +1,24 @@
-use Rattle.batch_meaning.specs.Meaning.{answers}
+use Rattle.batch_meaning.specs.Working.{selects}
 use Rattle.batch_meaning.proofs.Composed.{does_bind, does_fail}
+use Rattle.batch_exec.proofs.Assigning.{none_assigned}
 use Rattle.batch_exec.proofs.Fitting.{answer_fits}
-use Rattle.batch_exec.proofs.Selects.{does_result}
+use Rattle.batch_exec.proofs.Selects.{does_read, does_read_on, does_stepped}
 use Rattle.batch_exec.proofs.query.select.Goals as goal
 
-pub returns-in_err-images-clause-does : goal.returns-in_err-images-clause-does
-unfolding answers
-returns-in_err-images-clause-does g c = does_fail _ _ _ c.from_residual.ensures.0 c.from_residual.ensures.1 (rw c.requires.query at c.in_err-images.ensures.does)
+pub result_of-requires : goal.result_of-requires
+result_of-requires g c = record { fit = answer_fits c.settings.result.no_count c.args.around.now c.answer.new.session c.args.session.now.vars c.args.shapes.now c.args.statement.now c.args.of.now c.args.query.now c.in_ok-rows.rows.items c.requires.bound c.in_ok-rows.ensures.vars c.requires.select c.requires.query c.in_ok-rows.ensures.answered }
+
+pub returns-in_err-rows-clause-does : goal.returns-in_err-rows-clause-does
+unfolding selects
+returns-in_err-rows-clause-does g c = does_fail _ _ _ c.from_residual.ensures.0 c.from_residual.ensures.1 c.in_err-rows.ensures.does
+
+pub returns-in_err-effect-clause-does : goal.returns-in_err-effect-clause-does
+unfolding selects
+returns-in_err-effect-clause-does g c = does_bind _ _ c.in_ok-rows.ensures.does (does_fail _ _ _ c.from_residual-in_err-effect.ensures.0 c.from_residual-in_err-effect.ensures.1 (does_read _ _ (rw c.settings.ensures at c.in_err-effect.ensures.came)))
 
 pub returns-clause-does : goal.returns-clause-does
-unfolding answers
-returns-clause-does g c = does_bind _ _ (rw c.requires.query at c.in_ok-images.ensures.does) (does_result _ _ (rw c.as_slice.ensures at c.answer.ensures))
+unfolding selects
+returns-clause-does g c = does_bind _ _ c.in_ok-rows.ensures.does (does_read_on _ _ (rw c.settings.ensures at c.in_ok-effect.ensures.came) (does_stepped c.if_it_fits.ensures.came))
 
-pub answer-requires : goal.answer-requires
-answer-requires g c = record { fits = rw c.as_slice.ensures (answer_fits c.args.shapes.now c.args.statement.now c.args.of.now c.args.query.now _ c.requires.bound c.requires.select c.requires.query c.in_ok-images.ensures.fit) }
+pub returns-clause-fits : goal.returns-clause-fits
+returns-clause-fits g c = none_assigned _ _ _ c.in_ok-effect.ensures.none c.if_it_fits.ensures.same

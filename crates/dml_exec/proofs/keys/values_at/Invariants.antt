@@ -1,4 +1,4 @@
-use Rattle.std.proofs.Common.{◌≡◌, ◌++◌, drop, length, ◌+◌}
+use Rattle.std.proofs.Common.{◌≡◌, ◌++◌, drop, length}
 use Rattle.catalog_rows.specs.Rows.{values_at}
 use Rattle.dml_exec.proofs.keys.values_at.Given as goal
 

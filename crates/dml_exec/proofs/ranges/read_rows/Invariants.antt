@@ -3,7 +3,7 @@ use Rattle.step_model.specs.Dialog.{Leads}
 use Rattle.step_model.specs.Ranges.{range_limit}
 use Rattle.dml_exec.specs.Asking.{MayWork}
 use Rattle.std.specs.Option.{option_map}
-use Rattle.dml_exec.specs.Reading.{IsFetch, fits, rows_from}
+use Rattle.dml_exec.specs.Reading.{IsFetch, fits, key_width, rows_from}
 use Rattle.dml_exec.proofs.ranges.read_rows.Given as goal
 
 -- what is left of the range leads to the whole
@@ -13,8 +13,8 @@ invariant-loop-left g l = record {
   fetch : IsFetch l.fetch;
   standing : (g.P.Port.past l.port).standing ≡ (g.P.Port.past l.initial.port).standing;
   leads : Leads (g.P.Port.past l.initial.port) (g.P.Port.past l.port) l.manner
-      (rows_from (fits (option_map (λ of. of.now) l.fn.shape)) range_limit l.fn.fetch [])
-      (rows_from (fits (option_map (λ of. of.now) l.fn.shape)) l.left l.fetch l.rows.items);
+      (rows_from (key_width (option_map (λ of. of.now) l.fn.shape)) (fits (option_map (λ of. of.now) l.fn.shape)) range_limit l.fn.fetch [])
+      (rows_from (key_width (option_map (λ of. of.now) l.fn.shape)) (fits (option_map (λ of. of.now) l.fn.shape)) l.left l.fetch l.rows.items);
 }
 
 abbrev pub decreases-loop-left : goal.decreases-loop-left

@@ -1,12 +1,8 @@
 use Rattle.std.proofs.Common.{refl}
-use Rattle.dml_exec.specs.Writing.{writes}
-use Rattle.dml_exec.proofs.Held.{asks_one, asks_over, asks_then}
+use Rattle.dml_exec.specs.Writing.{attempts, writes}
+use Rattle.dml_exec.proofs.Held.{asks_over, asks_then}
 use Rattle.dml_exec.proofs.writing.apply_write.Goals as goal
 
-pub returns-in-Marked-clause-asks : goal.returns-in-Marked-clause-asks
+pub returns-clause-asks : goal.returns-clause-asks
 unfolding writes
-returns-in-Marked-clause-asks g c = asks_one tt _ _ c.in-Marked.ensures.past c.in-Marked.ensures.reply (asks_then _ _ c.work-came.ensures.asks c.end.ensures.asks)
-
-pub returns-in-Memory-clause-asks : goal.returns-in-Memory-clause-asks
-unfolding writes
-returns-in-Memory-clause-asks g c = asks_one tt _ _ c.in-Memory.ensures.past c.in-Memory.ensures.reply (asks_over refl)
+returns-clause-asks g c = asks_then (attempts c.args.shapes.now c.args.changes.now) _ c.attempt_write.ensures.asks (asks_over refl)

@@ -1,0 +1,166 @@
+-- The statements on transactions: what is open when they ask.
+use Rattle.std.proofs.Common.{◌≡◌, ℕ, ℤ, pos, Bool, true, false, if◌then◌else◌, nat_eq, inl, inr, List, [], ◌∷◌, Option, None, Some, Result, Ok, Err, refl, sym, ap, ◌∙◌, subst}
+use Rattle.std.specs.Prelude.{nat_le, nat_lt, IfOk, IsTrue}
+use Rattle.std.specs.List.{list_any}
+use Rattle.std.proofs.lemmas.List.Elements.{All-head, All-tail}
+use Rattle.value_types.specs.declared.memory.Memory.{Memory}
+use Rattle.value_types.specs.Units.{same_units}
+use Rattle.tsql_tree.specs.declared.statement.Statement.{Statement}
+use Rattle.bound_tree.specs.declared.write.Bound.{Bound}
+use Rattle.step_model.specs.Port.{PortPast}
+use Rattle.txn_rules.specs.declared.savepoints.Savepoint.{Savepoint}
+use Rattle.txn_rules.specs.declared.state.BackKind.{BackKind}
+use Rattle.txn_rules.specs.declared.state.BackKind.TheVariants.{Mark, Whole}
+use Rattle.txn_rules.specs.declared.state.TxnState.{TxnState}
+use Rattle.txn_rules.specs.Savepoints.{mark_behind, mark_of}
+use Rattle.txn_rules.specs.State.{back_to, count_limit, is_called, is_closed, rollback_answer}
+use Rattle.tds_tokens.specs.declared.token.Token.{Token}
+use Rattle.batch_meaning.specs.declared.failure.Failure.{Failure}
+use Rattle.batch_meaning.specs.Failures.{plain}
+use Rattle.batch_meaning.specs.Selecting.{Effect, bound_over, no_effect, result_full}
+use Rattle.batch_meaning.specs.Settings.{outside_profile}
+use Rattle.batch_meaning.specs.Progress.{SessionProgress, AreLive, Ready, opens, size_of}
+use Rattle.batch_meaning.specs.Doing.{Doing, over, reads, makes, Held, Did}
+use Rattle.batch_meaning.specs.Asking.{◌>>=◌, fails, if_bytes_left, on_ok, with_room}
+use Rattle.batch_meaning.specs.Transactions.{begins_outermost, begins_over, bound_first, fails_of, goes_back, next_serial, nothing_open, rolls_back_to, rolls_back_whole}
+use Rattle.batch_meaning.proofs.Composed.{does_over, does_reads, does_room, does_then}
+use Rattle.batch_exec.specs.Selected.{BoundSo, IsAffordable, IsBoundFirst, IsNumbered, IsOrMemory}
+
+-- ---- what is open
+
+module _ {past : PortPast} (p : SessionProgress) (ready : Ready p past) where
+  -- a ROLLBACK to a name that is not refused
+  pub named_open : (name : List ℕ) (kind : BackKind) → rollback_answer name p.txn ≡ Ok kind → p.is_open ≡ true
+  named_open name kind is = by_closed (is_closed p.txn) refl
+    where
+      by_closed : (closed : Bool) → is_closed p.txn ≡ closed → p.is_open ≡ true
+      by_closed true shut = absurd (let no : rollback_answer name p.txn ≡ Err (pos 3903) = rw shut refl in cc)
+      by_closed false shut = ready.counted shut
+
+-- the mark of a savepoint is live
+found_live : (name : List ℕ) (marks : List ℕ) (mark : ℕ) (so_far : Option ℕ) (saves : List Savepoint)
+    → ((m : ℕ) → so_far ≡ Some m → IsTrue (list_any (λ live. nat_eq live m) marks)) → AreLive saves marks → mark_behind so_far name saves ≡ Some mark → IsTrue (list_any (λ live. nat_eq live mark) marks)
+found_live name marks mark so_far [] known live is = known mark is
+found_live name marks mark so_far (savepoint ∷ saves) known live is =
+    found_live name marks mark (if same_units savepoint.name name then Some savepoint.mark else so_far) saves (by_name (same_units savepoint.name name)) (All-tail (λ (s : Savepoint). IsTrue (list_any (λ live. nat_eq live s.mark) marks)) savepoint saves live) is
+  where
+    by_name : (same : Bool) (m : ℕ) → (if same then Some savepoint.mark else so_far) ≡ Some m → IsTrue (list_any (λ live. nat_eq live m) marks)
+    by_name true m is = subst (λ (n : ℕ). IsTrue (list_any (λ live. nat_eq live n) marks)) (let same : savepoint.mark ≡ m = cc in same) (All-head (λ (s : Savepoint). IsTrue (list_any (λ live. nat_eq live s.mark) marks)) savepoint saves live)
+    by_name false m is = known m is
+
+-- ---- bound first
+
+pub bound_on : {past after : PortPast} (statement : Statement) (go : SessionProgress → Doing (Result Effect Failure)) {p new : SessionProgress} {result : Result Effect Failure}
+    → IsBoundFirst p statement (Ok tt) → Did past after (with_room (reads go)) p (Ok result) new → Did past after (bound_first statement go) p (Ok result) new
+bound_on {past = past} {after = after} statement go {p = p} {new = new} {result = result} is did = by_bound (bound_over [] p.vars statement) refl is
+  where
+    by_bound : (bound : Result Bound Failure) → bound_over [] p.vars statement ≡ bound → BoundSo bound (Ok tt) → Did past after ((reads λ q. with_room (over (bound_over [] q.vars statement))) >>= (λ of. with_room (reads go))) p (Ok result) new
+    by_bound (Ok of) same so = does_then (reads λ q. with_room (over (bound_over [] q.vars statement))) (on_ok (λ of. with_room (reads go))) {a = Ok of} (does_reads (does_room true (rw same (does_over refl)))) did
+    by_bound (Err failure) same (inl never) = absurd cc
+    by_bound (Err failure) same (inr never) = absurd cc
+
+pub bound_not : {past : PortPast} (statement : Statement) (go : SessionProgress → Doing (Result Effect Failure)) {p : SessionProgress} {failure : Failure}
+    → IsBoundFirst p statement (Err failure) → Did past past (bound_first statement go) p (Ok (Err failure)) p
+bound_not {past = past} statement go {p = p} {failure = failure} is = by_bound (bound_over [] p.vars statement) refl is
+  where
+    tree : Doing (Result Effect Failure)
+    tree = (reads λ q. with_room (over (bound_over [] q.vars statement))) >>= (λ of. with_room (reads go))
+
+    wanting : failure ≡ plain 701 → Did past past tree p (Ok (Err failure)) p
+    wanting none = subst (λ (f : Failure). Did past past tree p (Ok (Err f)) p) (sym none) (does_then (reads λ q. with_room (over (bound_over [] q.vars statement))) (on_ok (λ of. with_room (reads go))) {a = Err (plain 701)} (does_reads (does_room false (does_over refl))) (does_over refl))
+
+    by_bound : (bound : Result Bound Failure) → bound_over [] p.vars statement ≡ bound → BoundSo bound (Err failure) → Did past past tree p (Ok (Err failure)) p
+    by_bound (Ok of) same (inl never) = absurd cc
+    by_bound (Ok of) same (inr none) = wanting (let is : failure ≡ plain 701 = cc in is)
+    by_bound (Err why) same (inl so) = let is : why ≡ failure = cc in subst (λ (f : Failure). Did past past tree p (Ok (Err f)) p) is (does_then (reads λ q. with_room (over (bound_over [] q.vars statement))) (on_ok (λ of. with_room (reads go))) {a = Err why} (does_reads (does_room true (rw same (does_over refl)))) (does_over refl))
+    by_bound (Err why) same (inr none) = wanting (let is : failure ≡ plain 701 = cc in is)
+
+-- ---- room
+
+-- another thing is done where there is room
+pub does_roomed : {before after : PortPast} {A : Type 0} (tree other : Doing (Result A Failure)) {p new : SessionProgress} {result : Result A Failure}
+    → ((r : Result A Failure) → Did before after tree p (Ok r) new → Did before after other p (Ok r) new) → Did before after (with_room tree) p (Ok result) new → Did before after (with_room other) p (Ok result) new
+unfolding Held
+does_roomed {before = before} {after = after} tree other {p = p} {new = new} {result = result} goes did = by_room did.came.0 did.came.1
+  where
+    by_room : (enough : Bool) → Held (if enough then tree else fails 701) p did.exchanges result new → Did before after (with_room other) p (Ok result) new
+    by_room true held = does_room true (goes result (record { exchanges = did.exchanges; past = did.past; came = held }))
+    by_room false held = does_room false (record { exchanges = did.exchanges; past = did.past; came = held })
+
+-- ---- what a statement is bound to first
+
+pub bound_so : (meant : Result Bound Failure) (of : Bound) → IsOrMemory meant (Ok of) → BoundSo meant (Ok tt)
+bound_so (Ok meant) of is = inl refl
+bound_so (Err why) of (inl same) = absurd cc
+bound_so (Err why) of (inr none) = absurd cc
+
+pub unbound_so : (meant : Result Bound Failure) (failure : Failure) → IsOrMemory meant (Err failure) → BoundSo meant (Err failure)
+unbound_so (Ok meant) failure (inl same) = absurd cc
+unbound_so (Ok meant) failure (inr none) = inr (let is : failure ≡ plain 701 = cc in ap Err is)
+unbound_so (Err why) failure (inl same) = inl (let is : failure ≡ why = cc in ap Err is)
+unbound_so (Err why) failure (inr none) = inr (let is : failure ≡ plain 701 = cc in ap Err is)
+
+-- ---- what comes behind the binding
+
+-- it goes on so, by how far the session has come
+pub does_go : {before after : PortPast} {A : Type 0} (tree : Doing (Result A Failure)) (go : SessionProgress → Doing (Result A Failure)) {p new : SessionProgress} {result : Result A Failure} → go p ≡ tree
+    → Did before after (with_room tree) p (Ok result) new → Did before after (with_room (reads go)) p (Ok result) new
+does_go {before = before} {after = after} {A = A} tree go {p = p} {new = new} same did = does_roomed tree (reads go) (λ r was. does_reads (subst (λ (t : Doing (Result A Failure)). Did before after t p (Ok r) new) (sym same) was)) did
+
+-- tokens that the batch may still send, and what is sent then
+pub does_afforded : {past after : PortPast} {A : Type 0} (tokens : List Token) (made : Result (List Token) Memory) (next : Doing (Result A Failure)) {sent : List Token} {p new : SessionProgress} {result : Result (Result A Failure) Memory}
+    → IfOk made (λ these. these ≡ tokens) → IsAffordable p made (Ok sent) → (sent ≡ tokens → Did past after next p result new) → Did past after (if_bytes_left tokens next) p result new
+does_afforded {past = past} {after = after} {A = A} tokens (Ok these) next {sent = sent} {p = p} {new = new} {result = result} are is go =
+    does_reads (by_test (nat_lt p.bytes_left (size_of tokens)) (subst (λ (t : List Token). Ok sent ≡ (if nat_lt p.bytes_left (size_of t) then Err (plain result_full) else Ok t)) are is))
+  where
+    by_test : (full : Bool) → Ok sent ≡ (if full then Err (plain result_full) else Ok tokens) → Did past after (if full then fails {A = A} result_full else next) p result new
+    by_test true full = absurd cc
+    by_test false same = go (let so : sent ≡ tokens = cc in so)
+does_afforded tokens (Err memory) next are is go = absurd cc
+
+-- ---- BEGIN TRANSACTION
+
+pub begins_closed : (name : Option (List ℕ)) (p : SessionProgress) → p.is_open ≡ false → begins_over name p ≡ begins_outermost name (next_serial p.txn)
+begins_closed name p shut = rw shut refl
+
+pub begins_most : (name : Option (List ℕ)) (p : SessionProgress) → p.is_open ≡ true → nat_le count_limit p.txn.count ≡ true → begins_over name p ≡ fails outside_profile
+begins_most name p begun most = rw (begun, most) refl
+
+pub begins_inner : (name : Option (List ℕ)) (p : SessionProgress) → p.is_open ≡ true → nat_le count_limit p.txn.count ≡ false → begins_over name p ≡ makes (opens name) (over (Ok no_effect))
+begins_inner name p begun most = rw (begun, most) refl
+
+-- ---- ROLLBACK
+
+pub rolls_named : (given : Option (List ℕ)) (name : List ℕ) (p : SessionProgress) → given ≡ Some name → rolls_back_to given p.txn ≡ goes_back name p.txn (rollback_answer name p.txn)
+rolls_named given name p is = rw is refl
+
+pub rolls_closed : (given : Option (List ℕ)) (p : SessionProgress) → given ≡ None → is_closed p.txn ≡ true → rolls_back_to given p.txn ≡ fails nothing_open
+rolls_closed given p is shut = rw (is, shut) refl
+
+pub rolls_open : (given : Option (List ℕ)) (p : SessionProgress) → given ≡ None → is_closed p.txn ≡ false → rolls_back_to given p.txn ≡ rolls_back_whole p.txn
+rolls_open given p is shut = rw (is, shut) refl
+
+-- a mark to which a name goes back is live
+pub named_live : (name : List ℕ) (txn : TxnState) (marks : List ℕ) (mark : ℕ) → AreLive txn.saves marks → rollback_answer name txn ≡ Ok (Mark mark) → IsTrue (list_any (λ live. nat_eq live mark) marks)
+named_live name txn marks mark live is = by_closed (is_closed txn) is
+  where
+    by_doom : (doomed : Bool) (m : ℕ) → mark_of name txn.saves ≡ Some m → (if doomed then Err (pos 3931) else Ok (Mark m)) ≡ Ok (Mark mark) → IsTrue (list_any (λ live. nat_eq live mark) marks)
+    by_doom true m found same = absurd cc
+    by_doom false m found same = found_live name marks mark None txn.saves (λ n none. absurd cc) live (let so : m ≡ mark = cc in found ∙ ap Some so)
+
+    by_name : (called : Bool) → (if called then Ok Whole else Err (pos 6401)) ≡ Ok (Mark mark) → IsTrue (list_any (λ live. nat_eq live mark) marks)
+    by_name true same = absurd cc
+    by_name false same = absurd cc
+
+    by_found : (found : Option ℕ) → mark_of name txn.saves ≡ found → back_to name txn found ≡ Ok (Mark mark) → IsTrue (list_any (λ live. nat_eq live mark) marks)
+    by_found None none same = by_name (is_called name txn.name) same
+    by_found (Some m) found same = by_doom txn.doomed m found same
+
+    by_closed : (closed : Bool) → (if closed then Err (pos 3903) else back_to name txn (mark_of name txn.saves)) ≡ Ok (Mark mark) → IsTrue (list_any (λ live. nat_eq live mark) marks)
+    by_closed true same = absurd cc
+    by_closed false same = by_found (mark_of name txn.saves) refl same
+
+-- an error that names the transaction or savepoint, or memory was wanting for it
+pub does_numbered : {past : PortPast} {A : Type 0} (number : ℤ) (name : List ℕ) (failure : Failure) {p : SessionProgress} → IsNumbered number name failure → Did past past (fails_of {A = A} number name) p (Ok (Err failure)) p
+does_numbered {past = past} {A = A} number name failure {p = p} (inl same) = subst (λ (f : Failure). Did past past (fails_of {A = A} number name) p (Ok (Err f)) p) (sym same) (does_room true (does_over refl))
+does_numbered {past = past} {A = A} number name failure {p = p} (inr none) = subst (λ (f : Failure). Did past past (fails_of {A = A} number name) p (Ok (Err f)) p) (sym none) (does_room false (does_over refl))

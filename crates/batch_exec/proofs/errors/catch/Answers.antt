@@ -1,0 +1,15 @@
+use Rattle.std.proofs.Common.{refl}
+use Rattle.batch_exec.proofs.Selects.{stepped_makes, stepped_over}
+use Rattle.batch_exec.proofs.errors.catch.Goals as goal
+
+pub returns-in-Doom-clause-came : goal.returns-in-Doom-clause-came
+returns-in-Doom-clause-came c = rw c.in-Doom.is (stepped_makes c.doom.ensures (stepped_over refl))
+
+pub returns-in-Statement-clause-came : goal.returns-in-Statement-clause-came
+returns-in-Statement-clause-came c = rw c.in-Statement.is (stepped_over refl)
+
+pub returns-in-Batch-clause-came : goal.returns-in-Batch-clause-came
+returns-in-Batch-clause-came c = rw c.in-Batch.is (stepped_over refl)
+
+pub returns-in-BatchAndTransaction-clause-came : goal.returns-in-BatchAndTransaction-clause-came
+returns-in-BatchAndTransaction-clause-came c = rw c.in-BatchAndTransaction.is (stepped_over refl)

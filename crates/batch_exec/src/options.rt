@@ -1,0 +1,111 @@
+//! What SET makes of the settings of a session.
+
+ghost use Rattle.std.specs.Prelude.{◌≡◌, IfOk};
+ghost use Rattle.step_model.specs.Exchange.{IsPriority};
+ghost use Rattle.batch_meaning.specs.Settings.{at_level, outside_profile, priority_of, set_option, with_priority, with_timeout};
+ghost use Rattle.batch_meaning.specs.Failures.{plain};
+
+use crate::numbers::OUTSIDE_PROFILE;
+use batch_meaning::{Failure, Settings};
+use dml_exec::Level;
+use step_model::{Manner, Patience};
+use tsql_tree::{IsolationLevel, PriorityWord, SessionOption};
+
+/// The settings behind SET of an option.
+pub(crate) fn set_option(option: SessionOption, settings: Settings) -> Result<Settings, Failure>
+    requires { IsPriority settings.manner.priority }
+    ensures set { result ≡ set_option option settings }
+    ensures priority { IfOk result (λ set. IsPriority set.manner.priority) }
+{
+    match option {
+        SessionOption::XactAbort(xact_abort) => Ok(Settings {
+            xact_abort,
+            ..settings
+        }),
+        SessionOption::NoCount(no_count) => Ok(Settings {
+            no_count,
+            ..settings
+        }),
+        SessionOption::ImplicitTransactions(true) => Err(not_known()),
+        SessionOption::ImplicitTransactions(false) => Ok(settings),
+        SessionOption::Fixed(_, true) => Ok(settings),
+        SessionOption::Fixed(_, false) => Err(not_known()),
+        SessionOption::Isolation(level) => at_level(level, settings),
+        SessionOption::LockTimeout(number) => with_timeout(number, settings),
+        SessionOption::TextSize(_) => Ok(settings),
+        SessionOption::DeadlockPriority(word) => with_priority(priority_of(word), settings),
+    }
+}
+
+/// The option or its argument is outside the profile.
+fn not_known() -> Failure
+    ensures { result ≡ plain outside_profile }
+{
+    Failure::plain(OUTSIDE_PROFILE)
+}
+
+fn at_level(level: IsolationLevel, settings: Settings) -> Result<Settings, Failure>
+    ensures { result ≡ at_level level settings }
+{
+    match level {
+        IsolationLevel::ReadCommitted => Ok(Settings {
+            level: Level::ReadCommitted,
+            ..settings
+        }),
+        IsolationLevel::Serializable => Ok(Settings {
+            level: Level::Serializable,
+            ..settings
+        }),
+        _ => Err(not_known()),
+    }
+}
+
+fn with_timeout(number: i64, settings: Settings) -> Result<Settings, Failure>
+    ensures { result ≡ with_timeout number settings }
+{
+    match number {
+        0 => Ok(with_patience(Patience::Refuse, settings)),
+        -1 => Ok(with_patience(Patience::Forever, settings)),
+        _ => Err(not_known()),
+    }
+}
+
+fn with_patience(patience: Patience, settings: Settings) -> Settings
+    ensures { result ≡ record settings { manner = record settings.manner { patience = patience } } }
+{
+    Settings {
+        manner: Manner {
+            patience,
+            priority: settings.manner.priority,
+        },
+        ..settings
+    }
+}
+
+fn with_priority(number: i64, settings: Settings) -> Result<Settings, Failure>
+    ensures set { result ≡ with_priority number settings }
+    ensures priority { IfOk result (λ set. IsPriority set.manner.priority) }
+{
+    if -10 <= number && number <= 10 {
+        Ok(Settings {
+            manner: Manner {
+                patience: settings.manner.patience,
+                priority: number as i8,
+            },
+            ..settings
+        })
+    } else {
+        Err(not_known())
+    }
+}
+
+fn priority_of(word: PriorityWord) -> i64
+    ensures { result ≡ priority_of word }
+{
+    match word {
+        PriorityWord::Low => -5,
+        PriorityWord::Normal => 0,
+        PriorityWord::High => 5,
+        PriorityWord::Number(number) => number,
+    }
+}

@@ -1,0 +1,292 @@
+-- How a statement ends, and what it has sent.
+use Rattle.std.proofs.Common.{◌≡◌, ◌⊎◌, inl, inr, ℕ, ℤ, pos, Bool, true, false, if◌then◌else◌, List, [], ◌∷◌, ◌++◌, Result, Ok, Err, refl, sym, ap, ◌∙◌, subst, append_assoc, append-nil}
+use Rattle.std.specs.Prelude.{◌&&◌, nat_lt}
+use Rattle.tsql_tree.specs.declared.statement.Statement.{Statement}
+use Rattle.binder.specs.Names.{Layer, form_of}
+use Rattle.error_table.specs.Table as table
+use Rattle.error_table.specs.declared.action.Action.{Action}
+use Rattle.error_table.specs.declared.action.Action.TheVariants as act
+use Rattle.step_model.specs.declared.change.Planned.{Planned}
+use Rattle.step_model.specs.declared.op.Op.TheVariants as ops
+use Rattle.step_model.specs.declared.reply.Reply.{Reply}
+use Rattle.step_model.specs.declared.reply.Reply.TheVariants as replies
+use Rattle.step_model.specs.Exchange.{CanReply, Exchange}
+use Rattle.step_model.specs.Fits.{commits_from}
+use Rattle.step_model.specs.Own.{Progress as Stand, progress_from}
+use Rattle.tds_tokens.specs.declared.token.Token.{Token}
+use Rattle.batch_meaning.specs.declared.exit.Exit.{Exit}
+use Rattle.batch_meaning.specs.declared.exit.Exit.TheVariants.{End}
+use Rattle.batch_meaning.specs.declared.failure.Failure.{Failure}
+use Rattle.batch_meaning.specs.declared.raised.Raised.{Raised}
+use Rattle.batch_meaning.specs.Asking.{assigns_all, where_ended}
+use Rattle.batch_meaning.specs.Doing.{Doing, over, makes, asks, ◌then◌, Held}
+use Rattle.batch_meaning.specs.Failures.{plain}
+use Rattle.batch_meaning.specs.Meaning.{caught_as, concluded, concludes, counted, does, ended_by, fails_for, leaves_rows, line_of, or_full, raises, rolls_back_told, sends_some, strikes, succeeds, told_as, told_tokens}
+use Rattle.batch_meaning.specs.Progress.{SessionProgress, assigns, sends, tells_error, tells_rows, made, asked, size_of}
+use Rattle.batch_meaning.specs.Raised.{Around, action_in, error_token, is_caught_in, raised_at}
+use Rattle.batch_meaning.specs.Selecting.{Effect, result_full}
+use Rattle.batch_meaning.specs.Tokens.{command_of, transaction_rolled_back}
+use Rattle.batch_meaning.specs.Values.{Assigned}
+use Rattle.statement_paths.specs.Paths.{replied, HasDone, work_of}
+use Rattle.statement_paths.proofs.Apart.{held_apart}
+use Rattle.statement_paths.proofs.Dialogs.{is_replied}
+use Rattle.statement_paths.proofs.Owned.{nothing_more}
+use Rattle.statement_paths.proofs.Statements.{work_comes}
+use Rattle.statement_paths.proofs.Works.{Worked}
+use Rattle.reading_laws.proofs.Parts.{from_both}
+use Rattle.batch_laws.specs.Committing.{exit_for, Agrees, Ends, Leaves, Strikes, StrikesAs, StrikesBy}
+use Rattle.batch_laws.specs.Laws.{StatementEnds}
+use Rattle.batch_laws.proofs.Idle.{work_serial}
+use Rattle.batch_laws.proofs.Leaving.{commits_both}
+use Rattle.batch_laws.proofs.Statements.{err_leaves, ok_leaves}
+
+-- ---- an error strikes
+
+-- what is open behind it: what was, or an open transaction was rolled back
+abbrev pub StaysOpen : SessionProgress → List Exchange → SessionProgress → Type 0
+StaysOpen p exchanges new = ((exchanges ≡ []) × (new.is_open ≡ p.is_open)) ⊎ (((place : ℕ) × (exchanges ≡ replied p.settings.manner ops.Rollback (replies.Ended place) ∷ [])) × (p.is_open ≡ true) × (new.is_open ≡ false))
+
+-- an error struck so
+pub record Struck (around : Around) (p : SessionProgress) (statement : Statement) (raised : Raised) (exit : Exit) (exchanges : List Exchange) (new : SessionProgress) : Type 0 where
+  pub tokens : List Token
+  pub sent : new.tokens ≡ p.tokens ++ tokens
+  pub strikes : StrikesAs around p statement raised exit tokens exchanges
+  pub stays : StaysOpen p exchanges new
+
+-- by whether it is caught, what it ends and whether a transaction is open
+record StruckBy (p : SessionProgress) (caught : Bool) (action : Action) (is_open : Bool) (command : ℕ) (raised : Raised) (exit : Exit) (exchanges : List Exchange) (new : SessionProgress) : Type 0 where
+  tokens : List Token
+  sent : new.tokens ≡ p.tokens ++ tokens
+  strikes : StrikesBy p.settings.manner caught action is_open p.txn.serial command raised exit tokens exchanges
+  stays : StaysOpen p exchanges new
+
+module _ (p new : SessionProgress) (exchanges : List Exchange) (exit : Exit) (command : ℕ) (raised : Raised) where
+  abbrev struck : SessionProgress
+  struck = made (tells_error raised.number) p
+
+  caught_held : (action : Action) (is_open : Bool) → Held (caught_as action raised) struck exchanges exit new → StruckBy p true action is_open command raised exit exchanges new
+  unfolding Held
+  caught_held act.Statement is_open held = record { tokens = []; sent = ap (λ (q : SessionProgress). q.tokens) held.2 ∙ sym (append-nil p.tokens); strikes = (held.1, refl, held.0); stays = inl (held.0, ap (λ (q : SessionProgress). q.is_open) held.2) }
+  caught_held act.Doom is_open held = record { tokens = []; sent = ap (λ (q : SessionProgress). q.tokens) held.2 ∙ sym (append-nil p.tokens); strikes = (held.1, refl, held.0); stays = inl (held.0, ap (λ (q : SessionProgress). q.is_open) held.2) }
+  caught_held act.Batch is_open held = record { tokens = []; sent = ap (λ (q : SessionProgress). q.tokens) held.2 ∙ sym (append-nil p.tokens); strikes = (held.1, refl, held.0); stays = inl (held.0, ap (λ (q : SessionProgress). q.is_open) held.2) }
+  caught_held act.BatchAndTransaction is_open held = record { tokens = []; sent = ap (λ (q : SessionProgress). q.tokens) held.2 ∙ sym (append-nil p.tokens); strikes = (held.1, refl, held.0); stays = inl (held.0, ap (λ (q : SessionProgress). q.is_open) held.2) }
+
+  -- an open transaction is rolled back
+  abbrev told : SessionProgress
+  told = made (sends (error_token raised ∷ [])) struck
+
+  rolled_held : p.is_open ≡ true → Held (asks ops.Rollback (λ reply. where_ended (makes (sends (transaction_rolled_back told.txn.serial ∷ [])) nothing_more) reply then λ done. over End)) told exchanges exit new
+      → StruckBy p false act.BatchAndTransaction true command raised exit exchanges new
+  unfolding ◌then◌ Held
+  rolled_held opened held = by_list exchanges refl held
+    where
+      by_list : (xs : List Exchange) → exchanges ≡ xs → Held (asks ops.Rollback (λ reply. where_ended (makes (sends (transaction_rolled_back told.txn.serial ∷ [])) nothing_more) reply then λ done. over End)) told xs exit new → StruckBy p false act.BatchAndTransaction true command raised exit exchanges new
+      by_list [] is was = absurd was
+      by_list (x ∷ later) is was = by_reply x.reply refl was.2 was.3
+        where
+          by_reply : (reply : Reply) → x.reply ≡ reply → CanReply ops.Rollback reply → Held (where_ended (makes (sends (transaction_rolled_back told.txn.serial ∷ [])) nothing_more) reply then λ done. over End) (asked ops.Rollback reply told) later exit new
+              → StruckBy p false act.BatchAndTransaction true command raised exit exchanges new
+          by_reply (replies.Ended place) was_told can so =
+              let whole : exchanges ≡ replied p.settings.manner ops.Rollback (replies.Ended place) ∷ [] =
+              is ∙ ap (λ (y : Exchange). y ∷ later) (is_replied x p.settings.manner ops.Rollback (replies.Ended place) was.0 was.1 was_told) ∙ ap (λ (l : List Exchange). replied p.settings.manner ops.Rollback (replies.Ended place) ∷ l) so.0 in
+              record {
+                tokens = error_token raised ∷ transaction_rolled_back told.txn.serial ∷ [];
+                sent = ap (λ (q : SessionProgress). q.tokens) so.2 ∙ append_assoc p.tokens (error_token raised ∷ []) (transaction_rolled_back told.txn.serial ∷ []);
+                strikes = (so.1, (place, whole), refl);
+                stays = inr ((place, whole), opened, ap (λ (q : SessionProgress). q.is_open) so.2);
+              }
+          by_reply reply was_told can so = absurd can
+
+  told_held : (action : Action) → Held (told_as action command raised) struck exchanges exit new → StruckBy p false action p.is_open command raised exit exchanges new
+  unfolding ended_by rolls_back_told ◌then◌ Held
+  told_held act.Statement held = record { tokens = told_tokens act.Statement command raised; sent = ap (λ (q : SessionProgress). q.tokens) held.2; strikes = (held.1, refl, held.0); stays = inl (held.0, ap (λ (q : SessionProgress). q.is_open) held.2) }
+  told_held act.Doom held = record { tokens = told_tokens act.Doom command raised; sent = ap (λ (q : SessionProgress). q.tokens) held.2; strikes = (held.1, refl, held.0); stays = inl (held.0, ap (λ (q : SessionProgress). q.is_open) held.2) }
+  told_held act.Batch held = record { tokens = told_tokens act.Batch command raised; sent = ap (λ (q : SessionProgress). q.tokens) held.2; strikes = (held.1, refl, held.0); stays = inl (held.0, ap (λ (q : SessionProgress). q.is_open) held.2) }
+  told_held act.BatchAndTransaction held = by_open p.is_open refl held
+    where
+      by_open : (is_open : Bool) → p.is_open ≡ is_open → Held ((if is_open then asks ops.Rollback (where_ended (makes (sends (transaction_rolled_back told.txn.serial ∷ [])) nothing_more)) else nothing_more) then λ done. over End) told exchanges exit new
+          → StruckBy p false act.BatchAndTransaction is_open command raised exit exchanges new
+      by_open true is was = rolled_held is was
+      by_open false is was = record { tokens = error_token raised ∷ []; sent = ap (λ (q : SessionProgress). q.tokens) was.2; strikes = (was.1, refl, was.0); stays = inl (was.0, ap (λ (q : SessionProgress). q.is_open) was.2) }
+
+  strikes_held : (around : Around) (xact_abort : Bool) → Held (strikes around xact_abort command raised) p exchanges exit new → StruckBy p (is_caught_in around raised) (action_in around xact_abort raised) p.is_open command raised exit exchanges new
+  unfolding Held
+  strikes_held around xact_abort held = by_caught (is_caught_in around raised) held
+    where
+      by_caught : (caught : Bool) → Held (if caught then caught_as (action_in around xact_abort raised) raised else told_as (action_in around xact_abort raised) command raised) struck exchanges exit new
+          → StruckBy p caught (action_in around xact_abort raised) p.is_open command raised exit exchanges new
+      by_caught true was = caught_held (action_in around xact_abort raised) p.is_open was
+      by_caught false was = told_held (action_in around xact_abort raised) was
+
+-- where it is raised, at most the variables and counts of its session have changed
+abbrev pub Nearly : SessionProgress → SessionProgress → Type 0
+Nearly p q = q ≡ record p { vars = q.vars; touched = q.touched; txn = q.txn; row_count = q.row_count }
+
+abbrev pub full_or : Around → SessionProgress → Statement → Raised → Raised
+full_or around p statement raised = or_full around p (command_of (form_of statement)) (line_of statement) raised
+
+pub raises_held : (around : Around) (statement : Statement) (raised : Raised) (p q new : SessionProgress) (exchanges : List Exchange) (exit : Exit) → Nearly p q → q.txn.serial ≡ p.txn.serial → Held (raises around statement raised) q exchanges exit new
+    → Struck around p statement (full_or around p statement raised) exit exchanges new
+unfolding raises Held
+raises_held around statement raised p q new exchanges exit nearly serial held =
+    let was = strikes_held q new exchanges exit (command_of (form_of statement)) (full_or around q statement raised) around q.settings.xact_abort held in
+    record {
+      tokens = was.tokens;
+      sent = was.sent ∙ ap (λ (s : SessionProgress). s.tokens ++ was.tokens) nearly;
+      strikes = subst (λ (n : ℕ). StrikesBy p.settings.manner (is_caught_in around (full_or around p statement raised)) (action_in around p.settings.xact_abort (full_or around p statement raised)) p.is_open n (command_of (form_of statement)) (full_or around p statement raised) exit was.tokens exchanges) serial
+          (subst (λ (s : SessionProgress). StrikesAs around s statement (full_or around s statement raised) exit was.tokens exchanges) nearly was.strikes);
+      stays = subst (λ (s : SessionProgress). StaysOpen s exchanges new) nearly was.stays;
+    }
+
+counted_held : (form : Layer) (rows : ℕ) (next : Doing Exit) (p new : SessionProgress) (exchanges : List Exchange) (exit : Exit) → Held (counted form rows next) p exchanges exit new → (q : SessionProgress) × (q ≡ record p { row_count = q.row_count }) × Held next q exchanges exit new
+unfolding Held
+counted_held form rows next p new exchanges exit held = by_test (leaves_rows form) held
+  where
+    by_test : (test : Bool) → Held (if test then next else makes (tells_rows rows) next) p exchanges exit new → (q : SessionProgress) × (q ≡ record p { row_count = q.row_count }) × Held next q exchanges exit new
+    by_test true was = (p, refl, was)
+    by_test false was = (made (tells_rows rows) p, refl, was)
+
+pub fails_held : (around : Around) (statement : Statement) (failure : Failure) (p q new : SessionProgress) (exchanges : List Exchange) (exit : Exit) → Worked p q → q.txn.serial ≡ p.txn.serial → Held (fails_for around statement failure) q exchanges exit new
+    → Struck around p statement (full_or around p statement (raised_at (line_of statement) failure)) exit exchanges new
+unfolding fails_for
+fails_held around statement failure p q new exchanges exit worked serial held =
+    let on = counted_held (form_of statement) 0 (raises around statement (raised_at (line_of statement) failure)) q new exchanges exit held in
+    raises_held around statement (raised_at (line_of statement) failure) p on.0 new exchanges exit (near on.0 on.1) (ap (λ (s : SessionProgress). s.txn.serial) on.1 ∙ serial) on.2
+  where
+    near : (r : SessionProgress) → r ≡ record q { row_count = r.row_count } → Nearly p r
+    near r is = is ∙ ap (λ (s : SessionProgress). record s { row_count = r.row_count }) worked ∙ ap (λ (s : SessionProgress). record p { vars = s.vars; touched = s.touched; txn = s.txn; row_count = r.row_count }) (sym is)
+
+-- ---- it succeeded
+
+sets_held : (sets : List Assigned) (next : Doing Exit) (p new : SessionProgress) (exchanges : List Exchange) (exit : Exit) → Held (assigns_all sets next) p exchanges exit new
+    → (q : SessionProgress) × (q ≡ record p { vars = q.vars }) × Held next q exchanges exit new
+unfolding assigns_all Held
+sets_held [] next p new exchanges exit held = (p, refl, held)
+sets_held (one ∷ sets) next p new exchanges exit held =
+    let on = sets_held sets next (made (assigns one.0 one.1) p) new exchanges exit held in (on.0, on.1, on.2)
+
+sends_held : (tokens : List Token) (exit came : Exit) (p new : SessionProgress) (exchanges : List Exchange) → Held (sends_some tokens (over exit)) p exchanges came new → (exchanges ≡ []) × (came ≡ exit) × (new.tokens ≡ p.tokens ++ tokens) × (new.is_open ≡ p.is_open)
+unfolding Held
+sends_held [] exit came p new exchanges held = (held.0, held.1, ap (λ (q : SessionProgress). q.tokens) held.2 ∙ sym (append-nil p.tokens), ap (λ (q : SessionProgress). q.is_open) held.2)
+sends_held (token ∷ tokens) exit came p new exchanges held = (held.0, held.1, ap (λ (q : SessionProgress). q.tokens) held.2, ap (λ (q : SessionProgress). q.is_open) held.2)
+
+pub succeeds_held : (statement : Statement) (effect : Effect) (exit came : Exit) (p new : SessionProgress) (exchanges : List Exchange) → Held (succeeds statement effect (over exit)) p exchanges came new
+    → (exchanges ≡ []) × (came ≡ exit) × (new.tokens ≡ p.tokens ++ effect.tokens) × (new.is_open ≡ p.is_open)
+unfolding succeeds Held
+succeeds_held statement effect exit came p new exchanges held =
+    let sets = sets_held effect.sets _ p new exchanges came held in
+    let count = counted_held (form_of statement) effect.rows _ sets.0 new exchanges came sets.2 in
+    let sent = sends_held effect.tokens exit came (made (tells_error (pos 0)) count.0) new exchanges count.2 in (
+      sent.0,
+      sent.1,
+      sent.2 ∙ ap (λ (s : SessionProgress). s.tokens ++ effect.tokens) count.1 ∙ ap (λ (s : SessionProgress). s.tokens ++ effect.tokens) sets.1,
+      sent.3 ∙ ap (λ (s : SessionProgress). s.is_open) count.1 ∙ ap (λ (s : SessionProgress). s.is_open) sets.1,
+    )
+
+-- ---- an error that can't be told ends its transaction
+
+full_caught : (around : Around) (line : ℤ) → is_caught_in around (raised_at line (plain result_full)) ≡ false
+unfolding table.row_of table.error_lines
+full_caught around line = by_tries around.tries
+  where
+    by_tries : (tries : Bool) → tries && false ≡ false
+    by_tries true = refl
+    by_tries false = refl
+
+full_action : (around : Around) (xact_abort : Bool) (line : ℤ) → action_in around xact_abort (raised_at line (plain result_full)) ≡ act.BatchAndTransaction
+unfolding table.row_of table.error_lines
+full_action around true line = refl
+full_action around false line = refl
+
+-- however much the batch may still send
+full_same : (around : Around) (p : SessionProgress) (statement : Statement) → full_or around p statement (raised_at (line_of statement) (plain result_full)) ≡ raised_at (line_of statement) (plain result_full)
+full_same around p statement = by_tests (is_caught_in around raised) (nat_lt p.bytes_left (size_of (told_tokens (action_in around p.settings.xact_abort raised) (command_of (form_of statement)) raised)))
+  where
+    raised : Raised
+    raised = raised_at (line_of statement) (plain result_full)
+
+    by_tests : (caught full : Bool) → (if caught then raised else if full then raised else raised) ≡ raised
+    by_tests true full = refl
+    by_tests false true = refl
+    by_tests false false = refl
+
+-- so where a transaction is open, it asks something
+full_ends : (around : Around) (p : SessionProgress) (statement : Statement) (exit : Exit) (tokens : List Token) (exchanges : List Exchange) → p.is_open ≡ true → Strikes around p statement (raised_at (line_of statement) (plain result_full)) exit tokens exchanges
+    → exchanges ≡ [] → ⊥
+full_ends around p statement exit tokens exchanges opened strikes none =
+    let line : ℤ = line_of statement in
+    let told : StrikesAs around p statement (raised_at line (plain result_full)) exit tokens exchanges = subst (λ (r : Raised). StrikesAs around p statement r exit tokens exchanges) (full_same around p statement) strikes in
+    let by_caught : StrikesBy p.settings.manner false (action_in around p.settings.xact_abort (raised_at line (plain result_full))) p.is_open p.txn.serial (command_of (form_of statement)) (raised_at line (plain result_full)) exit tokens exchanges =
+    subst (λ (b : Bool). StrikesBy p.settings.manner b (action_in around p.settings.xact_abort (raised_at line (plain result_full))) p.is_open p.txn.serial (command_of (form_of statement)) (raised_at line (plain result_full)) exit tokens exchanges) (full_caught around line) told in
+    let by_action : StrikesBy p.settings.manner false act.BatchAndTransaction p.is_open p.txn.serial (command_of (form_of statement)) (raised_at line (plain result_full)) exit tokens exchanges =
+    subst (λ (a : Action). StrikesBy p.settings.manner false a p.is_open p.txn.serial (command_of (form_of statement)) (raised_at line (plain result_full)) exit tokens exchanges) (full_action around p.settings.xact_abort line) by_caught in
+    let by_open : StrikesBy p.settings.manner false act.BatchAndTransaction true p.txn.serial (command_of (form_of statement)) (raised_at line (plain result_full)) exit tokens exchanges =
+    subst (λ (b : Bool). StrikesBy p.settings.manner false act.BatchAndTransaction b p.txn.serial (command_of (form_of statement)) (raised_at line (plain result_full)) exit tokens exchanges) opened by_action in
+    let no : [] ≡ _ ∷ [] = sym none ∙ by_open.1.1 in absurd (cc)
+
+-- ---- a statement
+
+-- behind its work
+module _ (around : Around) (statement : Statement) (old new : SessionProgress) (exchanges : List Exchange) (exit : Exit) (before : Stand) (agrees : Agrees old.is_open before) where
+  abbrev pub Ended : Type 0
+  Ended = (tokens : List Token) × (planned : List Planned) × (new.tokens ≡ old.tokens ++ tokens) × Ends around old statement exit tokens planned exchanges × Leaves old.is_open new.is_open before exchanges planned
+
+  -- a transaction that was open is rolled back
+  rolled_leaves : (is_open : Bool) → is_open ≡ true → (front : List Exchange) (place : ℕ) → exchanges ≡ front ++ replied old.settings.manner ops.Rollback (replies.Ended place) ∷ [] → commits_from before front ≡ [] → new.is_open ≡ false
+      → Leaves is_open new.is_open before exchanges []
+  rolled_leaves false opened front place parts commits shut = absurd (let same : false ≡ true = opened in cc)
+  rolled_leaves true opened front place parts commits shut =
+      let last : Exchange = replied old.settings.manner ops.Rollback (replies.Ended place) in
+      subst (λ (b : Bool). Leaves true b before exchanges []) (sym shut) (
+        ap (progress_from before) parts ∙ from_both before front (last ∷ []),
+        ap (commits_from before) parts ∙ commits_both before front (last ∷ []) ∙ ap (λ (l : List _). l ++ commits_from (progress_from before front) (last ∷ [])) commits,
+      )
+
+  -- what an open transaction commits
+  open_commits : (is_open : Bool) (front : List Exchange) (planned : List Planned) → is_open ≡ true → Leaves is_open is_open before front planned → commits_from before front ≡ []
+  open_commits true front planned opened leaves = leaves.2
+  open_commits false front planned opened leaves = absurd (let same : false ≡ true = opened in cc)
+
+  pub fail_leaves : (failure : Failure) (front back : List Exchange) (tokens : List Token) → exchanges ≡ front ++ back → Leaves old.is_open old.is_open before front [] ⊎ ((failure ≡ plain result_full) × (old.is_open ≡ true) × ((planned : List Planned) × Leaves true true before front planned))
+      → Strikes around old statement (raised_at (line_of statement) failure) exit tokens back → StaysOpen old back new → Leaves old.is_open new.is_open before exchanges []
+  fail_leaves failure front back tokens parts (inl leaves) strikes (inl stays) =
+      let whole : exchanges ≡ front = parts ∙ ap (λ (l : List Exchange). front ++ l) stays.0 ∙ append-nil front in
+      subst (λ (b : Bool). Leaves old.is_open b before exchanges []) (sym stays.1) (subst (λ (l : List Exchange). Leaves old.is_open old.is_open before l []) (sym whole) leaves)
+  fail_leaves failure front back tokens parts (inr full) strikes (inl stays) =
+      absurd (full_ends around old statement exit tokens back full.1 (subst (λ (f : Failure). Strikes around old statement (raised_at (line_of statement) f) exit tokens back) full.0 strikes) stays.0)
+  fail_leaves failure front back tokens parts (inl leaves) strikes (inr rolled) =
+      rolled_leaves old.is_open rolled.1 front rolled.0.0 (parts ∙ ap (λ (l : List Exchange). front ++ l) rolled.0.1) (open_commits old.is_open front [] rolled.1 leaves) rolled.2
+  fail_leaves failure front back tokens parts (inr full) strikes (inr rolled) =
+      rolled_leaves old.is_open rolled.1 front rolled.0.0 (parts ∙ ap (λ (l : List Exchange). front ++ l) rolled.0.1) full.2.1.2 rolled.2
+
+  by_came : (front back : List Exchange) (mid : SessionProgress) (came : Result Effect Failure) → exchanges ≡ front ++ back → Held (work_of around statement) old front came mid → Worked old mid
+      → Held (concluded around statement (λ effect. succeeds statement effect (over (exit_for (form_of statement)))) came) mid back exit new → Ended
+  by_came front back mid (Ok effect) parts held worked rest =
+      let end = succeeds_held statement effect (exit_for (form_of statement)) exit mid new back rest in
+      let done = ok_leaves around statement old mid front before agrees effect held in
+      let whole : exchanges ≡ front = parts ∙ ap (λ (l : List Exchange). front ++ l) end.0 ∙ append-nil front in
+      let still : new.is_open ≡ old.is_open = end.3 ∙ ap (λ (q : SessionProgress). q.is_open) worked in (
+        effect.tokens,
+        done.0,
+        end.2 ∙ ap (λ (q : SessionProgress). q.tokens ++ effect.tokens) worked,
+        inl (end.1, (effect, subst (λ (l : List Exchange). HasDone around old statement done.0 effect l) (sym whole) done.1, refl)),
+        subst (λ (b : Bool). Leaves old.is_open b before exchanges done.0) (sym still) (subst (λ (l : List Exchange). Leaves old.is_open old.is_open before l done.0) (sym whole) done.2),
+      )
+  by_came front back mid (Err failure) parts held worked rest =
+      let struck = fails_held around statement failure old mid new back exit worked (work_serial around statement old mid front (Err failure) held) rest in
+      let failed = err_leaves around statement old mid front before agrees failure held in (
+        struck.tokens,
+        [],
+        struck.sent,
+        inr (refl, (failure, front, back, parts, failed.0, struck.strikes)),
+        fail_leaves failure front back struck.tokens parts failed.1 struck.strikes struck.stays,
+      )
+
+  pub does_held : Held (does around statement (exit_for (form_of statement)) (work_of around statement)) old exchanges exit new → Ended
+  unfolding does concludes
+  does_held held =
+      let on = held_apart (work_of around statement) (concluded around statement (λ effect. succeeds statement effect (over (exit_for (form_of statement))))) old new exchanges exit held in
+      by_came on.front on.back on.mid on.came on.parts on.held (work_comes around statement old on.came on.mid on.front on.held).1 on.rest
+
+pub statement_ends : StatementEnds
+statement_ends around statement old new exchanges exit before agrees held = does_held around statement old new exchanges exit before agrees held

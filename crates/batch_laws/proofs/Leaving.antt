@@ -1,0 +1,278 @@
+-- What exchanges leave of a transaction, part by part: what it has written, and what they commit.
+use Rattle.std.proofs.Common.{◌≡◌, ◌⊎◌, inl, inr, ℕ, Bool, true, false, List, [], ◌∷◌, ◌++◌, Option, Ok, refl, sym, ap, ◌∙◌, subst, append_assoc, append-nil}
+use Rattle.tsql_tree.specs.declared.definition.Definition.{Definition}
+use Rattle.tsql_tree.specs.declared.definition.TableTree.{TableTree}
+use Rattle.tsql_tree.specs.declared.statement.DropKind.{DropKind}
+use Rattle.tsql_tree.specs.declared.statement.DropKind.TheVariants as drop
+use Rattle.tsql_tree.specs.declared.statement.Form.{Form-F}
+use Rattle.tsql_tree.specs.declared.statement.Statement.{Statement}
+use Rattle.bound_tree.specs.declared.query.BoundQuery.{BoundQuery}
+use Rattle.bound_tree.specs.declared.write.Bound.{Bound}
+use Rattle.bound_tree.specs.declared.write.Bound.TheVariants as bound
+use Rattle.binder.specs.Names.{Layer, form_of, looked_up}
+use Rattle.catalog_rows.specs.Definitions.{is_objects, tables_of}
+use Rattle.step_model.specs.declared.change.Planned.{Planned}
+use Rattle.step_model.specs.declared.manner.Manner.{Manner}
+use Rattle.step_model.specs.declared.op.Op.{Op}
+use Rattle.step_model.specs.declared.op.Op.TheVariants as ops
+use Rattle.step_model.specs.declared.range.Start.{Start}
+use Rattle.step_model.specs.declared.range.Start.TheVariants.{First}
+use Rattle.step_model.specs.declared.reply.Reply.{Reply}
+use Rattle.step_model.specs.declared.reply.Reply.TheVariants as replies
+use Rattle.step_model.specs.Dialog as said
+use Rattle.step_model.specs.Dialog.{Dialog, IsQuiet}
+use Rattle.step_model.specs.Exchange.{CanReply, Exchange}
+use Rattle.step_model.specs.Fits.{commits_from, committed_by}
+use Rattle.step_model.specs.Own.{Progress as Stand, own_at, progress_after, progress_from}
+use Rattle.step_model.specs.Ranges.{Rows}
+use Rattle.dml_exec.specs.declared.refusal.Level.{Level}
+use Rattle.dml_exec.specs.declared.refusal.Level.TheVariants.{Serializable}
+use Rattle.dml_exec.specs.declared.written.Written.TheVariants as written
+use Rattle.dml_exec.specs.Reading.{behind_gone, images_of}
+use Rattle.dml_exec.specs.Writing.{writes}
+use Rattle.reading_laws.specs.Reads.{AskOnly, IsFetch}
+use Rattle.reading_laws.proofs.Parts.{from_both}
+use Rattle.reading_laws.proofs.Writes.{whole_adds}
+use Rattle.batch_meaning.specs.Asking.{is_table, with_found}
+use Rattle.batch_meaning.specs.Changing.{whole}
+use Rattle.batch_meaning.specs.Progress.{SessionProgress}
+use Rattle.batch_meaning.specs.Raised.{Around}
+use Rattle.batch_meaning.specs.Selecting.{Effect}
+use Rattle.statement_paths.specs.Paths.{definition_put, replied, AddsBy, AreApplied, AreDefined, AreLookedUp, AreRead, AreValues, IsAnswered, IsChange, IsCreated, IsDone, IsDrop, IsFailed, IsForward, IsLookedUp, IsRelaxed, IsSelect, IsTakenBack, IsUndone, IsWorked}
+use Rattle.statement_paths.proofs.Only.{says_held, says_quiet}
+use Rattle.statement_paths.proofs.Asking.{images_say}
+use Rattle.batch_laws.proofs.Writes.{own_last}
+
+-- ---- commits
+
+pub commits_both : (stand : Stand) (front back : List Exchange) → commits_from stand (front ++ back) ≡ commits_from stand front ++ commits_from (progress_from stand front) back
+commits_both stand [] back = refl
+commits_both stand (x ∷ front) back =
+    ap (λ (l : List _). committed_by x.op x.reply stand ++ l) (commits_both (progress_after stand x.op x.reply) front back)
+    ∙ sym (append_assoc (committed_by x.op x.reply stand) (commits_from (progress_after stand x.op x.reply) front) (commits_from (progress_from (progress_after stand x.op x.reply) front) back))
+
+-- ---- what is written
+
+-- these changes were written, and nothing was begun, ended or committed
+pub record Wrote (stand : Stand) (exchanges : List Exchange) (more : List Planned) : Type 0 where
+  pub is_open : (progress_from stand exchanges).is_open ≡ stand.is_open
+  pub own : (progress_from stand exchanges).own ≡ stand.own ++ more
+  pub commits : commits_from stand exchanges ≡ []
+
+pub wrote_none : (stand : Stand) → Wrote stand [] []
+wrote_none stand = record { is_open = refl; own = sym (append-nil stand.own); commits = refl }
+
+pub wrote_both : (stand : Stand) (exchanges front back : List Exchange) (first second : List Planned) → exchanges ≡ front ++ back → Wrote stand front first → Wrote (progress_from stand front) back second → Wrote stand exchanges (first ++ second)
+wrote_both stand exchanges front back first second parts one two =
+    let at : progress_from stand exchanges ≡ progress_from (progress_from stand front) back = ap (progress_from stand) parts ∙ from_both stand front back in
+    record {
+      is_open = ap (λ (s : Stand). s.is_open) at ∙ two.is_open ∙ one.is_open;
+      own = ap (λ (s : Stand). s.own) at ∙ two.own ∙ ap (λ (l : List Planned). l ++ second) one.own ∙ append_assoc stand.own first second;
+      commits = ap (commits_from stand) parts ∙ commits_both stand front back ∙ ap (λ (l : List _). l ++ commits_from (progress_from stand front) back) one.commits ∙ two.commits;
+    }
+
+-- ---- fetches
+
+fetch_after : (op : Op) (reply : Reply) (stand : Stand) → IsFetch op → CanReply op reply → progress_after stand op reply ≡ record stand { own = stand.own ++ [] }
+fetch_after (ops.Fetch table start stop hold part) (replies.Ended place) stand fetch can = absurd can
+fetch_after (ops.Fetch table start stop hold part) reply stand fetch can = refl
+fetch_after op reply stand fetch can = absurd fetch
+
+fetch_commits : (op : Op) (reply : Reply) (stand : Stand) → IsFetch op → committed_by op reply stand ≡ []
+fetch_commits (ops.Fetch table start stop hold part) reply stand fetch = refl
+fetch_commits op reply stand fetch = absurd fetch
+
+pub fetch_stand : (exchanges : List Exchange) (stand : Stand) → AskOnly IsFetch exchanges → (progress_from stand exchanges ≡ stand) × (commits_from stand exchanges ≡ [])
+fetch_stand [] stand fetches = (refl, refl)
+fetch_stand (x ∷ later) stand fetches =
+    let same : progress_after stand x.op x.reply ≡ stand = fetch_after x.op x.reply stand fetches.0.0 fetches.0.1 ∙ ap (λ (l : List Planned). record stand { own = l }) (append-nil stand.own) in
+    let rest = fetch_stand later stand fetches.1 in (
+      ap (λ (s : Stand). progress_from s later) same ∙ rest.0,
+      ap (λ (l : List _). l ++ commits_from (progress_after stand x.op x.reply) later) (fetch_commits x.op x.reply stand fetches.0.0) ∙ ap (λ (s : Stand). commits_from s later) same ∙ rest.1,
+    )
+
+pub wrote_fetches : (stand : Stand) (exchanges : List Exchange) → AskOnly IsFetch exchanges → Wrote stand exchanges []
+wrote_fetches stand exchanges fetches =
+    let is = fetch_stand exchanges stand fetches in
+    record { is_open = ap (λ (s : Stand). s.is_open) is.0; own = ap (λ (s : Stand). s.own) is.0 ∙ sym (append-nil stand.own); commits = is.1 }
+
+-- ---- quiet exchanges
+
+quiet_after : (op : Op) (reply : Reply) (stand : Stand) → IsQuiet op → CanReply op reply → ((progress_after stand op reply).is_open ≡ stand.is_open) × (committed_by op reply stand ≡ [])
+quiet_after ops.Begin reply stand quiet can = absurd quiet
+quiet_after ops.Relax reply stand quiet can = absurd quiet
+quiet_after ops.Commit reply stand quiet can = absurd quiet
+quiet_after ops.Rollback reply stand quiet can = absurd quiet
+quiet_after (ops.Fetch table start stop hold part) (replies.Ended place) stand quiet can = absurd can
+quiet_after (ops.Insert table key row) (replies.Ended place) stand quiet can = absurd can
+quiet_after (ops.Replace table key row) (replies.Ended place) stand quiet can = absurd can
+quiet_after (ops.Erase table key) (replies.Ended place) stand quiet can = absurd can
+quiet_after ops.Mark (replies.Ended place) stand quiet can = absurd can
+quiet_after (ops.BackTo mark) (replies.Ended place) stand quiet can = absurd can
+quiet_after op reply stand quiet can = (refl, refl)
+
+quiet_stand : (exchanges : List Exchange) (stand : Stand) → AskOnly IsQuiet exchanges → ((progress_from stand exchanges).is_open ≡ stand.is_open) × (commits_from stand exchanges ≡ [])
+quiet_stand [] stand quiet = (refl, refl)
+quiet_stand (x ∷ later) stand quiet =
+    let first = quiet_after x.op x.reply stand quiet.0.0 quiet.0.1 in
+    let rest = quiet_stand later (progress_after stand x.op x.reply) quiet.1 in
+    (rest.0 ∙ first.0, ap (λ (l : List _). l ++ commits_from (progress_after stand x.op x.reply) later) first.1 ∙ rest.1)
+
+wrote_quiet : (stand : Stand) (exchanges : List Exchange) (more : List Planned) → AskOnly IsQuiet exchanges → (progress_from stand exchanges).own ≡ stand.own ++ more → Wrote stand exchanges more
+wrote_quiet stand exchanges more quiet own = let is = quiet_stand exchanges stand quiet in record { is_open = is.0; own = own; commits = is.1 }
+
+-- ---- the parts of work
+
+wrote_images : (stand : Stand) (manner : Manner) (shapes : List TableTree) (level : Level) (of : Bound) (exchanges : List Exchange) (images : List Rows) → said.Held manner (images_of shapes level of) exchanges (Ok images) → Wrote stand exchanges []
+wrote_images stand manner shapes level of exchanges images held = wrote_fetches stand exchanges (says_held IsFetch manner (images_of shapes level of) exchanges (Ok images) (images_say IsFetch (λ op is. is) shapes level of) held)
+
+wrote_read : (stand : Stand) (manner : Manner) (level : Level) (shapes : List TableTree) (of : Bound) (exchanges : List Exchange) (images : List Rows) → AreRead manner level shapes of exchanges images → Wrote stand exchanges []
+wrote_read stand manner level [] of exchanges images is = subst (λ (l : List Exchange). Wrote stand l []) (sym is.0) (wrote_none stand)
+wrote_read stand manner level (shape ∷ shapes) of exchanges images is = wrote_images stand manner (shape ∷ shapes) level of exchanges images is
+
+looked_fetch : (manner : Manner) (is_own : Bool) (name : List ℕ) (exchanges : List Exchange) (found : Option Definition) → IsLookedUp manner is_own name exchanges found → AskOnly IsFetch exchanges
+looked_fetch manner true name exchanges found is = subst (AskOnly IsFetch) (sym is.0) tt
+looked_fetch manner false name exchanges found is =
+    subst (AskOnly IsFetch) (sym is.1) ((subst IsFetch (sym is.2.0) tt, subst (λ (o : Op). CanReply o is.0.reply) (sym is.2.0) is.2.2), tt)
+
+ask_both : (P : Op → Type 0) (exchanges front back : List Exchange) → exchanges ≡ front ++ back → AskOnly P front → AskOnly P back → AskOnly P exchanges
+ask_both P exchanges front back parts one two = subst (AskOnly P) (sym parts) (both front one)
+  where
+    both : (front : List Exchange) → AskOnly P front → AskOnly P (front ++ back)
+    both [] one = two
+    both (x ∷ front) one = (one.0, both front one.1)
+
+pub looks_fetch : (manner : Manner) (names : List (List ℕ)) (so_far : List Definition) (exchanges : List Exchange) (definitions : List Definition) → AreLookedUp manner so_far names exchanges definitions → AskOnly IsFetch exchanges
+looks_fetch manner [] so_far exchanges definitions is = subst (AskOnly IsFetch) (sym is.0) tt
+looks_fetch manner (name ∷ names) so_far exchanges definitions is = ask_both IsFetch exchanges is.1 is.2 is.3 (looked_fetch manner (is_objects name) name is.1 is.0 is.4) (by_more (λ more. looks_fetch manner names (with_found so_far is.0) is.2 definitions more) is.5)
+  where
+    by_more : (AreLookedUp manner (with_found so_far is.0) names is.2 definitions → AskOnly IsFetch is.2) → ((is_table is.0 ≡ true) × AreLookedUp manner (with_found so_far is.0) names is.2 definitions) ⊎ ((is_table is.0 ≡ false) × (is.2 ≡ []) × (definitions ≡ so_far)) → AskOnly IsFetch is.2
+    by_more on (inl more) = on more.1
+    by_more on (inr last) = subst (AskOnly IsFetch) (sym last.1) tt
+
+pub defined_fetch : (manner : Manner) (exchanges : List Exchange) (start : Start) (so_far all : List Definition) → AreDefined manner start so_far exchanges all → AskOnly IsFetch exchanges
+defined_fetch manner [] start so_far all is = absurd is
+defined_fetch manner (x ∷ later) start so_far all is =
+    ((subst IsFetch (sym is.0.0) tt, subst (λ (o : Op). CanReply o x.reply) (sym is.0.0) is.0.2), by_reply x.reply (λ on more here. defined_fetch manner later on more all here) is.1)
+  where
+    by_reply : (reply : Reply) → ((on : Start) (more : List Definition) → AreDefined manner on more later all → AskOnly IsFetch later) → AddsBy (λ on more. AreDefined manner on more later all) (λ more. (later ≡ []) × (all ≡ more)) so_far reply → AskOnly IsFetch later
+    by_reply (replies.Row key row at) goes adds = goes (behind_gone 1 key) (with_found so_far adds.0) adds.2
+    by_reply (replies.Gone key at) goes adds = goes (behind_gone 1 key) so_far adds
+    by_reply (replies.End at) goes adds = subst (AskOnly IsFetch) (sym adds.0) tt
+    by_reply reply goes adds = absurd adds
+
+wrote_applied : (stand : Stand) (manner : Manner) (shapes : List TableTree) (planned : List Planned) (exchanges : List Exchange) → AreApplied manner shapes planned exchanges → Wrote stand exchanges planned
+wrote_applied stand manner shapes planned exchanges applied =
+    wrote_quiet stand exchanges planned (says_held IsQuiet manner (writes shapes planned) exchanges (Ok (written.Done applied.mark)) (says_quiet IsQuiet (writes shapes planned) (λ op quiet. quiet)) applied.whole)
+    (whole_adds manner shapes planned applied.mark exchanges applied.whole stand)
+
+wrote_parts : (stand : Stand) (exchanges defined read applied : List Exchange) (planned : List Planned) → exchanges ≡ defined ++ (read ++ applied) → AskOnly IsFetch defined → ((s : Stand) → Wrote s read []) → ((s : Stand) → Wrote s applied planned) → Wrote stand exchanges planned
+wrote_parts stand exchanges defined read applied planned parts fetches reads applies =
+    wrote_both stand exchanges defined (read ++ applied) [] planned parts (wrote_fetches stand defined fetches)
+    (wrote_both (progress_from stand defined) (read ++ applied) read applied [] planned refl (reads (progress_from stand defined)) (applies (progress_from (progress_from stand defined) read)))
+
+module _ (stand : Stand) (around : Around) (p : SessionProgress) where
+  wrote_answered : (shapes : List TableTree) (query : BoundQuery) (rows : Rows) (exchanges : List Exchange) → IsAnswered around p shapes query rows exchanges → Wrote stand exchanges []
+  wrote_answered shapes query rows exchanges a = wrote_read stand p.settings.manner p.settings.level shapes (bound.Query query) exchanges a.images a.reads
+
+  nothing_planned : (exchanges : List Exchange) (planned : List Planned) → planned ≡ [] → Wrote stand exchanges [] → Wrote stand exchanges planned
+  nothing_planned exchanges planned none wrote = subst (Wrote stand exchanges) (sym none) wrote
+
+  wrote_select : (shapes : List TableTree) (of : Bound) (planned : List Planned) (effect : Effect) (exchanges : List Exchange) → IsSelect around p shapes of planned effect exchanges → Wrote stand exchanges planned
+  wrote_select shapes (bound.Query query) planned effect exchanges s = nothing_planned exchanges planned s.plans (wrote_answered shapes query s.rows exchanges s.answered)
+  wrote_select shapes (bound.Assign query places) planned effect exchanges s = nothing_planned exchanges planned s.plans (wrote_answered shapes query s.rows exchanges s.answered)
+  wrote_select shapes bound.Plain planned effect exchanges is = absurd is
+  wrote_select shapes (bound.Write write) planned effect exchanges is = absurd is
+
+  wrote_values : (shapes : List TableTree) (of : Bound) (rows : Rows) (exchanges : List Exchange) → AreValues around p shapes of rows exchanges → Wrote stand exchanges []
+  wrote_values shapes (bound.Query query) rows exchanges a = wrote_answered shapes query rows exchanges a
+  wrote_values shapes bound.Plain rows exchanges is = subst (λ (l : List Exchange). Wrote stand l []) (sym is.1) (wrote_none stand)
+  wrote_values shapes (bound.Write write) rows exchanges is = absurd is
+  wrote_values shapes (bound.Assign query places) rows exchanges is = absurd is
+
+  wrote_change : (shapes : List TableTree) (of : Bound) (planned : List Planned) (effect : Effect) (exchanges : List Exchange) → IsChange around p shapes of planned effect exchanges → Wrote stand exchanges planned
+  wrote_change shapes (bound.Write write) planned effect exchanges w =
+      wrote_parts stand exchanges w.defined w.read w.applied planned w.parts (defined_fetch p.settings.manner w.defined First [] w.definitions w.defines)
+      (λ s. wrote_images s p.settings.manner shapes p.settings.level (bound.Write write) w.read w.images w.reads) (λ s. wrote_applied s p.settings.manner (tables_of w.definitions) planned w.applied w.applies)
+  wrote_change shapes (bound.Query query) planned effect exchanges is = absurd is
+  wrote_change shapes (bound.Assign query places) planned effect exchanges is = absurd is
+  wrote_change shapes bound.Plain planned effect exchanges is = absurd is
+
+  wrote_drop : (kind : DropKind) (shapes : List TableTree) (name : List ℕ) (planned : List Planned) (effect : Effect) (exchanges : List Exchange) → IsDrop around p kind shapes name planned effect exchanges → Wrote stand exchanges planned
+  wrote_drop drop.Table shapes name planned effect exchanges d =
+      wrote_parts stand exchanges d.defined d.read d.applied planned d.parts (defined_fetch p.settings.manner d.defined First [] d.definitions d.defines)
+      (λ s. wrote_images s p.settings.manner shapes Serializable (bound.Write (whole name)) d.read d.images d.reads) (λ s. wrote_applied s p.settings.manner [] planned d.applied d.applies)
+  wrote_drop other shapes name planned effect exchanges is = absurd is
+
+  wrote_created : (name text : List ℕ) (planned : List Planned) (effect : Effect) (exchanges : List Exchange) → IsCreated around p name text planned effect exchanges → Wrote stand exchanges planned
+  wrote_created name text planned effect exchanges c =
+      subst (Wrote stand exchanges) (sym c.plans) (subst (λ (l : List Exchange). Wrote stand l (definition_put name text ∷ [])) (sym c.parts) (record { is_open = refl; own = refl; commits = refl }))
+
+  wrote_worked : (form : Layer) (shapes : List TableTree) (of : Bound) (planned : List Planned) (effect : Effect) (exchanges : List Exchange) → IsWorked around p form shapes of planned effect exchanges → Wrote stand exchanges planned
+  wrote_worked (Form-F.Select select) shapes of planned effect exchanges is = wrote_select shapes of planned effect exchanges is
+  wrote_worked (Form-F.Insert table columns rows) shapes of planned effect exchanges is = wrote_change shapes of planned effect exchanges is
+  wrote_worked (Form-F.Update table sets filter) shapes of planned effect exchanges is = wrote_change shapes of planned effect exchanges is
+  wrote_worked (Form-F.Delete table filter) shapes of planned effect exchanges is = wrote_change shapes of planned effect exchanges is
+  wrote_worked (Form-F.Drop kind name) shapes of planned effect exchanges is = wrote_drop kind shapes name planned effect exchanges is
+  wrote_worked (Form-F.CreateTable table text) shapes of planned effect exchanges is = wrote_created table.name text planned effect exchanges is
+  wrote_worked form shapes of planned effect exchanges c = nothing_planned exchanges planned c.plans (wrote_values shapes of c.rows exchanges c.values)
+
+-- work that was done has written what it planned
+pub wrote_done : (stand : Stand) (around : Around) (p : SessionProgress) (statement : Statement) (planned : List Planned) (effect : Effect) (exchanges : List Exchange) → IsDone around p statement planned effect exchanges → Wrote stand exchanges planned
+wrote_done stand around p statement planned effect exchanges d =
+    wrote_both stand exchanges d.looked d.worked [] planned d.parts (wrote_fetches stand d.looked (looks_fetch p.settings.manner (looked_up statement) [] d.looked d.definitions d.looks))
+    (wrote_worked (progress_from stand d.looked) around p (form_of statement) (tables_of d.definitions) d.of planned effect d.worked d.works)
+
+-- ---- what failed
+
+forward_marks : (exchanges : List Exchange) (stand : Stand) → AskOnly IsForward exchanges → (progress_from stand exchanges).marks ≡ stand.marks
+forward_marks [] stand forward = refl
+forward_marks (x ∷ later) stand forward = forward_marks later (progress_after stand x.op x.reply) forward.1 ∙ one x.op x.reply forward.0.0 forward.0.1
+  where
+    one : (op : Op) (reply : Reply) → IsForward op → CanReply op reply → (progress_after stand op reply).marks ≡ stand.marks
+    one (ops.Fetch table start stop hold part) (replies.Ended place) is can = absurd can
+    one (ops.Insert table key row) (replies.Ended place) is can = absurd can
+    one (ops.Replace table key row) (replies.Ended place) is can = absurd can
+    one (ops.Erase table key) (replies.Ended place) is can = absurd can
+    one ops.Begin reply is can = absurd is
+    one ops.Mark reply is can = absurd is
+    one (ops.BackTo mark) reply is can = absurd is
+    one ops.Relax reply is can = absurd is
+    one ops.Commit reply is can = absurd is
+    one ops.Rollback reply is can = absurd is
+    one op reply is can = refl
+
+forward_quiet : (exchanges : List Exchange) → AskOnly IsForward exchanges → AskOnly IsQuiet exchanges
+forward_quiet [] forward = tt
+forward_quiet (x ∷ later) forward = ((one x.op forward.0.0, forward.0.1), forward_quiet later forward.1)
+  where
+    one : (op : Op) → IsForward op → IsQuiet op
+    one (ops.Fetch table start stop hold part) is = tt
+    one (ops.Insert table key row) is = tt
+    one (ops.Replace table key row) is = tt
+    one (ops.Erase table key) is = tt
+    one op is = absurd is
+
+wrote_back : (stand : Stand) (manner : Manner) (exchanges : List Exchange) → IsTakenBack manner exchanges → Wrote stand exchanges []
+wrote_back stand manner exchanges t =
+    let marked : Stand = record stand { marks = stand.marks ++ record { mark = t.mark; own = stand.own } ∷ [] } in
+    let went : Stand = progress_from marked t.between in
+    let quiet = quiet_stand t.between marked (forward_quiet t.between t.forward) in
+    let back : Exchange = replied manner (ops.BackTo t.mark) replies.Done in
+    subst (λ (l : List Exchange). Wrote stand l []) (sym t.parts) (record {
+      is_open = ap (λ (s : Stand). s.is_open) (from_both marked t.between (back ∷ [])) ∙ quiet.0;
+      own = ap (λ (s : Stand). s.own) (from_both marked t.between (back ∷ [])) ∙ ap (own_at t.mark) (forward_marks t.between marked t.forward) ∙ own_last t.mark stand.own stand.marks ∙ sym (append-nil stand.own);
+      commits = commits_both marked t.between (back ∷ []) ∙ ap (λ (l : List _). l ++ commits_from went (back ∷ [])) quiet.1;
+    })
+
+wrote_undone : (stand : Stand) (manner : Manner) (exchanges : List Exchange) → IsUndone manner exchanges → Wrote stand exchanges []
+wrote_undone stand manner exchanges (inl none) = subst (λ (l : List Exchange). Wrote stand l []) (sym none) (wrote_none stand)
+wrote_undone stand manner exchanges (inr (inl refused)) = subst (λ (l : List Exchange). Wrote stand l []) (sym refused) (record { is_open = refl; own = refl; commits = refl })
+wrote_undone stand manner exchanges (inr (inr taken)) = wrote_back stand manner exchanges taken
+
+pub wrote_failed : (stand : Stand) (manner : Manner) (exchanges : List Exchange) → IsFailed manner exchanges → Wrote stand exchanges []
+wrote_failed stand manner exchanges f = wrote_both stand exchanges f.read f.undone [] [] f.parts (wrote_fetches stand f.read f.reads) (wrote_undone (progress_from stand f.read) manner f.undone f.undoes)
+
+pub wrote_relaxed : (stand : Stand) (manner : Manner) (exchanges : List Exchange) → IsRelaxed manner exchanges → Wrote stand exchanges []
+wrote_relaxed stand manner exchanges (inl none) = subst (λ (l : List Exchange). Wrote stand l []) (sym none) (wrote_none stand)
+wrote_relaxed stand manner exchanges (inr is) = subst (λ (l : List Exchange). Wrote stand l []) (sym is) (record { is_open = refl; own = refl; commits = refl })

@@ -1,0 +1,95 @@
+-- Transact-SQL reference, "BEGIN TRANSACTION", "COMMIT TRANSACTION", "ROLLBACK TRANSACTION" and "SAVE TRANSACTION": what such a statement asks, and what it
+-- tells. Each of them names nothing that is looked up; its own names are bound first.
+use Rattle.std.specs.Prelude.{ℕ, ℤ, ◌+◌, min, not, Bool, true, false, nat_le, if◌then◌else◌, List, [], ◌∷◌, Option, None, Some, Result, Ok, Err}
+use Rattle.tsql_tree.specs.declared.statement.Statement.{Statement}
+use Rattle.step_model.specs.declared.op.Op.TheVariants as ops
+use Rattle.txn_rules.specs.declared.state.BackKind.{BackKind}
+use Rattle.txn_rules.specs.declared.state.BackKind.TheVariants.{Mark, Whole}
+use Rattle.txn_rules.specs.declared.state.TxnState.{TxnState}
+use Rattle.txn_rules.specs.State.{commit_answer, count_limit, is_closed, rollback_answer, save_refusal, serial_limit}
+use Rattle.batch_meaning.specs.declared.failure.Failure.{Failure}
+use Rattle.batch_meaning.specs.Settings.{outside_profile}
+use Rattle.batch_meaning.specs.Tokens.{transaction_begun, transaction_committed, transaction_rolled_back}
+use Rattle.batch_meaning.specs.Progress.{SessionProgress, closes_one, opens, saves}
+use Rattle.batch_meaning.specs.Doing.{Doing, over, reads, makes, asks, ◌then◌}
+use Rattle.batch_meaning.specs.Selecting.{Effect, bound_over, no_effect, sending}
+use Rattle.batch_meaning.specs.Asking.{◌>>=◌, comes_to, fails, if_bytes_left, marked, unless_refused, where_begun, where_done, where_ended, with_room}
+
+-- ---- the numbers of its errors
+
+-- there is nothing to roll back
+abbrev pub nothing_open : ℕ
+nothing_open = 3903
+
+-- an error of this number
+abbrev pub fails_with : {A : Type 0} → ℤ → Doing (Result A Failure)
+fails_with number = over (Err (record { number = number; name = None }))
+
+-- the serial number of the next transaction
+abbrev pub next_serial : TxnState → ℕ
+next_serial txn = min (txn.serial + 1) serial_limit
+
+-- ---- BEGIN TRANSACTION
+
+-- the outermost is begun at the port; an inner one is counted alone
+unfoldable pub begins_outermost : Option (List ℕ) → ℕ → Doing (Result Effect Failure)
+begins_outermost name serial = if_bytes_left (transaction_begun serial ∷ [])
+    (with_room (asks ops.Begin (unless_refused (where_begun (makes (opens name) (over (Ok (sending (transaction_begun serial ∷ [])))))))))
+
+abbrev pub begins_over : Option (List ℕ) → SessionProgress → Doing (Result Effect Failure)
+begins_over name p = if not p.is_open then begins_outermost name (next_serial p.txn)
+    else if nat_le count_limit p.txn.count then fails outside_profile
+    else makes (opens name) (over (Ok no_effect))
+
+-- ---- COMMIT
+
+abbrev pub commits_by : TxnState → Result Bool ℤ → Doing (Result Effect Failure)
+commits_by txn (Err number) = fails_with number
+commits_by txn (Ok false) = makes closes_one (over (Ok no_effect))
+commits_by txn (Ok true) = if_bytes_left (transaction_committed txn.serial ∷ [])
+    (asks ops.Commit (where_ended (over (Ok (sending (transaction_committed txn.serial ∷ []))))))
+
+-- ---- ROLLBACK
+
+unfoldable pub rolls_back_whole : TxnState → Doing (Result Effect Failure)
+rolls_back_whole txn = if_bytes_left (transaction_rolled_back txn.serial ∷ [])
+    (asks ops.Rollback (where_ended (over (Ok (sending (transaction_rolled_back txn.serial ∷ []))))))
+
+-- an error that names the transaction or savepoint
+abbrev pub fails_of : {A : Type 0} → ℤ → List ℕ → Doing (Result A Failure)
+fails_of number name = with_room (over (Err (record { number = number; name = Some name })))
+
+abbrev pub goes_back : List ℕ → TxnState → Result BackKind ℤ → Doing (Result Effect Failure)
+goes_back name txn (Err number) = fails_of number name
+goes_back name txn (Ok Whole) = rolls_back_whole txn
+goes_back name txn (Ok (Mark mark)) = asks (ops.BackTo mark) (where_done (over (Ok no_effect)))
+
+abbrev pub rolls_back_to : Option (List ℕ) → TxnState → Doing (Result Effect Failure)
+rolls_back_to None txn = if is_closed txn then fails nothing_open else rolls_back_whole txn
+rolls_back_to (Some name) txn = goes_back name txn (rollback_answer name txn)
+
+-- ---- SAVE TRANSACTION
+
+abbrev pub saves_unless : List ℕ → Option ℤ → Doing (Result Effect Failure)
+saves_unless name (Some number) = fails_with number
+saves_unless name None = with_room (asks ops.Mark (unless_refused (marked λ mark. with_room (makes (saves name mark) (over (Ok no_effect))))))
+
+-- ---- statements
+
+-- bound, and then by how far the session has come
+abbrev pub bound_first : Statement → (SessionProgress → Doing (Result Effect Failure)) → Doing (Result Effect Failure)
+bound_first statement go = do
+  of ← (reads λ p. comes_to (bound_over [] p.vars statement))
+  with_room (reads go)
+
+unfoldable pub begins_transaction : Statement → Option (List ℕ) → Doing (Result Effect Failure)
+begins_transaction statement name = bound_first statement (begins_over name)
+
+unfoldable pub commits_transaction : Statement → Doing (Result Effect Failure)
+commits_transaction statement = bound_first statement λ p. commits_by p.txn (commit_answer p.txn)
+
+unfoldable pub rolls_back_transaction : Statement → Option (List ℕ) → Doing (Result Effect Failure)
+rolls_back_transaction statement name = bound_first statement λ p. rolls_back_to name p.txn
+
+unfoldable pub saves_transaction : Statement → List ℕ → Doing (Result Effect Failure)
+saves_transaction statement name = bound_first statement λ p. saves_unless name (save_refusal p.txn)

@@ -1,0 +1,260 @@
+-- Where changes are asked, and checked, or taken back, what stands goes on.
+use Rattle.std.proofs.Common.{◌≡◌, ◌≢◌, ℕ, Bool, true, false, if◌then◌else◌, List, [], ◌∷◌, ◌++◌, length, map, take, Some, Result, Ok, Err, refl, sym, ap, subst, ◌∙◌, append-nil, append_assoc}
+use Rattle.std.specs.List.{AllByRecursion}
+use Rattle.value_types.specs.declared.table_name.TableName.{TableName}
+use Rattle.value_types.specs.declared.value.Value.{Value}
+use Rattle.tsql_tree.specs.declared.definition.TableTree.{TableTree}
+use Rattle.step_model.specs.declared.change.Deed.{Deed}
+use Rattle.step_model.specs.declared.change.Deed.TheVariants as deed
+use Rattle.step_model.specs.declared.change.Planned.{Planned}
+use Rattle.step_model.specs.declared.manner.Manner.{Manner}
+use Rattle.step_model.specs.declared.op.Op.{Op}
+use Rattle.step_model.specs.declared.op.Op.TheVariants as ops
+use Rattle.step_model.specs.declared.reply.Reply.{Reply}
+use Rattle.step_model.specs.declared.reply.Reply.TheVariants as replies
+use Rattle.step_model.specs.Database.{Database, With}
+use Rattle.step_model.specs.Dialog.{Dialog, Held as Said, IsQuiet, asks, never, over, room, tries, ◌then◌}
+use Rattle.step_model.specs.Exchange.{CanReply, Exchange, MayCome}
+use Rattle.step_model.specs.Fits.{NoneEnds, is_ended, place_of, place_or}
+use Rattle.step_model.specs.Log.{Commit as Logged, State}
+use Rattle.step_model.specs.Own.{Progress, change_of, progress_after, progress_of, standing_at}
+use Rattle.constraint_check.specs.Laws.{Passes, behind}
+use Rattle.constraint_check.specs.Reads.{reads_for}
+use Rattle.dml_exec.specs.declared.refusal.Refusal.{Refusal}
+use Rattle.dml_exec.specs.declared.written.Attempt.{Attempt}
+use Rattle.dml_exec.specs.declared.written.Written.{Written}
+use Rattle.dml_exec.specs.declared.written.Written.TheVariants as written
+use Rattle.dml_exec.specs.Asking.{with_room}
+use Rattle.dml_exec.specs.Writing.{asks_deed, attempts, checks_all, done_by, ends, marked, no_room, outcome, present, told, where_done, works, writes, writes_all, writes_one}
+use Rattle.reading_laws.specs.Reads.{AskOnly, HaveParents, HoldsIt, RowsFit, at_place}
+use Rattle.reading_laws.proofs.Checks.{all_fetches}
+use Rattle.reading_laws.proofs.Dialogs.{held_both}
+use Rattle.reading_laws.proofs.Parts.{AsksOnly, all_asked, asks_more, asks_ok, asks_room, asks_then}
+use Rattle.reading_laws.proofs.Writes.{writes_leave, writes_pass}
+use Rattle.batch_meaning.specs.declared.failure.Failure.{Failure}
+use Rattle.batch_meaning.specs.Asking.{applies, unless_broken}
+use Rattle.batch_meaning.specs.Doing.{Held}
+use Rattle.batch_meaning.specs.Progress.{SessionProgress}
+use Rattle.statement_paths.proofs.Apart.{holds_apart}
+use Rattle.statement_paths.proofs.Only.{AnyStep, NoCommit, Only, only_gives, quiet_commits, says_quiet}
+use Rattle.sound_laws.specs.Stands.{Intact, Brings, Stands, StandsAt, base_of}
+use Rattle.sound_laws.specs.Tied.{Tied}
+use Rattle.sound_laws.proofs.Here.{place_past}
+use Rattle.sound_laws.proofs.Steps.{AllMarked, IsStill, after_one, back_stands, marks_stand, one_stands}
+use Rattle.sound_laws.proofs.Trees.{StandsWith, quiet_brings}
+
+-- ---- what a dialog ends and asks
+
+ends_none : (op : Op) (reply : Reply) → IsQuiet op → CanReply op reply → is_ended reply ≡ false
+ends_none ops.Commit reply quiet can = absurd quiet
+ends_none ops.Rollback reply quiet can = absurd quiet
+ends_none ops.Begin reply quiet can = absurd quiet
+ends_none ops.Relax reply quiet can = absurd quiet
+ends_none ops.Mark (replies.Ended place) quiet can = absurd can
+ends_none (ops.BackTo mark) (replies.Ended place) quiet can = absurd can
+ends_none (ops.Fetch table start stop hold part) (replies.Ended place) quiet can = absurd can
+ends_none (ops.Insert table key row) (replies.Ended place) quiet can = absurd can
+ends_none (ops.Replace table key row) (replies.Ended place) quiet can = absurd can
+ends_none (ops.Erase table key) (replies.Ended place) quiet can = absurd can
+ends_none op reply quiet can = refl
+
+-- no dialog ends a transaction
+pub held_goes : {A : Type 0} (manner : Manner) (dialog : Dialog A) (part : List Exchange) (result : A) → Said manner dialog part result → NoneEnds part
+unfolding Said
+held_goes manner (over a) part result held = subst NoneEnds (sym held.0) tt
+held_goes manner (asks op quiet go) [] result held = absurd held
+held_goes manner (asks op quiet go) (x ∷ later) result held = (ends_none op x.reply quiet held.2, held_goes manner (go x.reply) later result held.3)
+held_goes manner (room go) part result held = held_goes manner (go held.0) part result held.1
+held_goes manner never part result held = absurd held
+
+-- ---- no mark is set between changes and checks
+
+abbrev pub IsNoMark : Op → Type 0
+IsNoMark op = op ≢ ops.Mark
+
+fetch_marks : (op : Op) → HoldsIt op → IsNoMark op
+fetch_marks ops.Mark holds is = absurd holds
+fetch_marks op holds is = absurd (let no : op ≡ ops.Mark = is in cc)
+
+module _ (shapes : List TableTree) where
+  tried_marks : (op : Op) (quiet : IsQuiet op) → IsNoMark op → AsksOnly IsNoMark (tries op quiet over)
+  unfolding tries
+  tried_marks op quiet other = by_room
+    where
+      by_room : (enough : Bool) → AsksOnly IsNoMark (if enough then asks op quiet over else over replies.Memory)
+      by_room true = (other, λ reply. tt)
+      by_room false = tt
+
+  deed_marks : (table : TableName) (key : List Value) (deed : Deed) → AsksOnly IsNoMark (asks_deed table key deed)
+  deed_marks table key deed.Erase = tried_marks (ops.Erase table key) tt (λ is. absurd (let no : ops.Erase table key ≡ ops.Mark = is in cc))
+  deed_marks table key (deed.Replace row) = tried_marks (ops.Replace table key row) tt (λ is. absurd (let no : ops.Replace table key row ≡ ops.Mark = is in cc))
+  deed_marks table key (deed.Insert row) = tried_marks (ops.Insert table key row) tt (λ is. absurd (let no : ops.Insert table key row ≡ ops.Mark = is in cc))
+
+  done_marks : (change : Planned) (reply : Reply) → AsksOnly IsNoMark (done_by shapes change reply)
+  done_marks change replies.Done = tt
+  done_marks change replies.Exists = asks_room IsNoMark no_room (over (Err (present shapes change.table change.key))) tt
+  done_marks change replies.Missing = tt
+  done_marks change replies.Memory = tt
+  done_marks change (replies.TimedOut holder held asked on) = tt
+  done_marks change (replies.Victim cycle) = tt
+  done_marks change reply = tt
+
+  one_marks : (change : Planned) → AsksOnly IsNoMark (writes_one shapes change)
+  unfolding writes_one
+  one_marks change = asks_then IsNoMark (asks_deed change.table change.key change.deed) (done_by shapes change) (deed_marks change.table change.key change.deed) (done_marks change)
+
+  all_marks : (changes : List Planned) → AsksOnly IsNoMark (writes_all shapes changes)
+  unfolding writes_all
+  all_marks [] = tt
+  all_marks (change ∷ changes) = asks_ok IsNoMark (writes_one shapes change) (λ done. writes_all shapes changes) (one_marks change) (λ done. all_marks changes)
+
+  pub works_marks : (changes : List Planned) → AsksOnly IsNoMark (works shapes changes)
+  unfolding works
+  works_marks changes =
+      asks_ok IsNoMark (writes_all shapes changes) (λ done. with_room no_room (checks_all shapes (reads_for changes shapes))) (all_marks changes)
+      (λ done. asks_room IsNoMark no_room (checks_all shapes (reads_for changes shapes)) (asks_more HoldsIt IsNoMark fetch_marks (checks_all shapes (reads_for changes shapes)) (all_fetches shapes (reads_for changes shapes))))
+
+-- ---- the marks
+
+module _ (log : List Logged) where
+  -- at each live mark the database is intact
+  abbrev pub MarksStand : List Exchange → List Exchange → Type 0
+  MarksStand before later = Intact (base_of log later) → AllMarked (λ own. Intact (behind (base_of log later) own)) (progress_of before).marks
+
+  pub marks_one : (before : List Exchange) (x : Exchange) (later : List Exchange) → IsNoMark x.op → MarksStand before (x ∷ later) → MarksStand (before ++ x ∷ []) later
+  marks_one before x later other marks intact = subst (λ (p : Progress). AllMarked (λ own. Intact (behind (base_of log later) own)) p.marks) (sym (after_one before x)) (by_reply x.reply marks)
+    where
+      by_reply : (reply : Reply) → (Intact (State (take (place_or reply (place_of (length log) later)) log)) → AllMarked (λ own. Intact (behind (State (take (place_or reply (place_of (length log) later)) log)) own)) (progress_of before).marks)
+          → AllMarked (λ own. Intact (behind (base_of log later) own)) (progress_after (progress_of before) x.op reply).marks
+      by_reply (replies.Ended place) m = tt
+      by_reply reply m = marks_stand (base_of log later) intact (progress_of before) x.op reply other (m intact)
+
+  pub marks_on : (part before later : List Exchange) → AskOnly IsNoMark part → MarksStand before (part ++ later) → MarksStand (before ++ part) later
+  marks_on [] before later none marks = subst (λ (xs : List Exchange). MarksStand xs later) (sym (append-nil before)) marks
+  marks_on (x ∷ part) before later none marks =
+      subst (λ (xs : List Exchange). MarksStand xs later) (append_assoc before (x ∷ []) part) (marks_on part (before ++ x ∷ []) later none.1 (marks_one before x (part ++ later) none.0.0 marks))
+
+module _ (session : ℕ) (begin log : List Logged) (mine : List Exchange) (tied : Tied session begin log mine) where
+  -- a way back
+  pub was_taken_back : (before : List Exchange) (x : Exchange) (later : List Exchange) (mark : ℕ) → mine ≡ before ++ x ∷ later → x.op ≡ ops.BackTo mark → x.reply ≡ replies.Done → MarksStand log before (x ∷ later) → Stands log (before ++ x ∷ []) later
+  was_taken_back before x later mark is back done marks intact =
+      let same : base_of log (x ∷ later) ≡ base_of log later = ap (λ (reply : Reply). State (take (place_or reply (place_of (length log) later)) log)) done in
+      let may : MayCome (standing_at (progress_of before)) (ops.BackTo mark) = subst (MayCome (standing_at (progress_of before))) back (tied.comes before x later is) in
+      let there : AllMarked (λ own. Intact (behind (base_of log later) own)) (progress_of before).marks = subst (λ (base : Database). AllMarked (λ own. Intact (behind base own)) (progress_of before).marks) same (marks (subst Intact (sym same) intact)) in
+      subst (StandsAt (base_of log later)) (sym (after_one before x ∙ ap (λ (op : Op). progress_after (progress_of before) op x.reply) back ∙ ap (progress_after (progress_of before) (ops.BackTo mark)) done))
+      (back_stands (base_of log later) intact (progress_of before) mark may there)
+
+-- ---- a write
+
+-- Changes may be made in a database: rows can be read behind them for their checks, and where these pass it is intact.
+pub record MayWrite (db : Database) (shapes : List TableTree) (planned : List Planned) : Type 0 where
+  pub parents : HaveParents shapes
+  pub rows : AllByRecursion (RowsFit (behind db planned)) shapes
+  pub intact : AllByRecursion (Passes (behind db planned)) (reads_for planned shapes) → Intact (behind db planned)
+
+-- what a dialog came to, seen otherwise
+said_on : {A B : Type 0} (manner : Manner) (dialog : Dialog A) (seen : A → B) (part : List Exchange) (a : A) → Said manner dialog part a → Said manner (dialog then λ a. over (seen a)) part (seen a)
+unfolding Said ◌then◌
+said_on manner (over c) seen part a held = (held.0, ap seen held.1)
+said_on manner (asks op quiet go) seen [] a held = absurd held
+said_on manner (asks op quiet go) seen (x ∷ part) a held = (held.0, held.1, held.2, said_on manner (go x.reply) seen part a held.3)
+said_on manner (room go) seen part a held = (held.0, said_on manner (go held.0) seen part a held.1)
+said_on manner never seen part a held = absurd held
+
+-- what came of an attempt is what came of the write
+pub attempt_wrote : (manner : Manner) (shapes : List TableTree) (planned : List Planned) (part : List Exchange) (attempt : Attempt) → Said manner (attempts shapes planned) part attempt → Said manner (writes shapes planned) part attempt.came
+unfolding writes
+attempt_wrote manner shapes planned part attempt held = said_on manner (attempts shapes planned) (λ attempt. attempt.came) part attempt held
+
+module _ (session : ℕ) (begin log : List Logged) (mine : List Exchange) (tied : Tied session begin log mine) (manner : Manner) (shapes : List TableTree) (planned : List Planned) where
+  module _ (before part later : List Exchange) (is : mine ≡ before ++ (part ++ later)) (attempt : Attempt) (held : Said manner (attempts shapes planned) part attempt)
+      (from : StandsWith log (λ db. MayWrite db shapes planned) before (part ++ later)) where
+    goes_on : NoneEnds part
+    goes_on = held_goes manner (attempts shapes planned) part attempt held
+
+    base_past : base_of log (part ++ later) ≡ base_of log later
+    base_past = ap (λ (n : ℕ). State (take n log)) (place_past (length log) part later goes_on)
+
+    place_before : at_place log before (part ++ later) ≡ at_place log before later
+    place_before = ap (λ (base : Database). With base (map change_of (progress_of before).own)) base_past
+
+    -- the changes were made, and their checks passed
+    was_made : (mark : ℕ) → attempt.came ≡ Ok (written.Done mark) → MarksStand log (before ++ part) later → Stands log (before ++ part) later
+    was_made mark done marks intact =
+        let wrote : Said manner (writes shapes planned) part (Ok (written.Done mark)) = subst (λ (came : Result Written Refusal). Said manner (writes shapes planned) part came) done (attempt_wrote manner shapes planned part attempt held) in
+        let may : MayWrite (at_place log before later) shapes planned = subst (λ (db : Database). MayWrite db shapes planned) place_before (from.1 (subst Intact (sym base_past) intact)) in
+        let passes = writes_pass log mine before part later manner shapes planned mark is tied.ranges wrote may.rows may.parents in
+        record { now = subst Intact (sym (writes_leave log before part later manner shapes planned mark wrote)) (may.intact passes); marks = marks intact }
+
+  -- the end of an attempt, behind changes and checks
+  ends_stand : (before part later : List Exchange) (mark : ℕ) (came : Result (Unit {0}) _) (attempt : Attempt) → mine ≡ before ++ (part ++ later) → MarksStand log before (part ++ later) → Said manner (ends mark came) part attempt
+      → (((attempt.came ≡ Ok (written.Done mark)) × MarksStand log (before ++ part) later) → Stands log (before ++ part) later) → Stands log (before ++ part) later
+  unfolding Said
+  ends_stand before part later mark (Ok done) attempt is marks held made =
+      made (ap (λ (a : Attempt). a.came) held.1, subst (λ (xs : List Exchange). MarksStand log (before ++ xs) later) (sym held.0) (subst (λ (xs : List Exchange). MarksStand log xs later) (sym (append-nil before)) (subst (λ (xs : List Exchange). MarksStand log before (xs ++ later)) held.0 marks)))
+  ends_stand before [] later mark (Err why) attempt is marks held made = absurd held
+  ends_stand before (x ∷ part) later mark (Err why) attempt is marks held made = by_reply x.reply refl held.2 held.3
+    where
+      by_reply : (reply : Reply) → x.reply ≡ reply → CanReply (ops.BackTo mark) reply → Said manner (where_done (over (told (Some mark) (outcome why))) reply) part attempt → Stands log (before ++ x ∷ part) later
+      by_reply replies.Done done can rest =
+          subst (λ (xs : List Exchange). Stands log (before ++ x ∷ xs) later) (sym rest.0)
+          (was_taken_back session begin log mine tied before x later mark (is ∙ ap (λ (xs : List Exchange). before ++ x ∷ (xs ++ later)) rest.0) held.0 done (subst (λ (xs : List Exchange). MarksStand log before (x ∷ (xs ++ later))) rest.0 marks))
+      by_reply reply other can rest = absurd can
+
+  -- an attempt at changes that may be made keeps what stands
+  pub attempt_stands : (before part later : List Exchange) → mine ≡ before ++ (part ++ later) → (attempt : Attempt) → Said manner (attempts shapes planned) part attempt
+      → StandsWith log (λ db. MayWrite db shapes planned) before (part ++ later) → Stands log (before ++ part) later
+  unfolding attempts Said
+  attempt_stands before [] later is attempt held from = absurd held
+  attempt_stands before (x ∷ part) later is attempt held from = by_reply x.reply refl held.2 held.3
+    where
+      split : mine ≡ (before ++ x ∷ []) ++ (part ++ later)
+      split = is ∙ sym (append_assoc before (x ∷ []) (part ++ later))
+
+      marked_stands : Stands log (before ++ x ∷ []) (part ++ later)
+      marked_stands = one_stands session begin log mine tied before x (part ++ later) is (subst IsStill (sym held.0) tt) from.0
+
+      by_reply : (reply : Reply) → x.reply ≡ reply → CanReply ops.Mark reply → Said manner (marked shapes planned reply) part attempt → Stands log (before ++ x ∷ part) later
+      by_reply (replies.Marked mark) same can rest =
+          let both = held_both manner (works shapes planned) (ends mark) part attempt rest in
+          let parts : part ++ later ≡ both.first ++ (both.second ++ later) = ap (λ (xs : List Exchange). xs ++ later) both.parts ∙ append_assoc both.first both.second later in
+          let there : before ++ x ∷ part ≡ ((before ++ x ∷ []) ++ both.first) ++ both.second =
+          ap (λ (xs : List Exchange). before ++ x ∷ xs) both.parts ∙ sym (append_assoc before (x ∷ []) (both.first ++ both.second)) ∙ sym (append_assoc (before ++ x ∷ []) both.first both.second) in
+          let marks = marks_on log both.first (before ++ x ∷ []) (both.second ++ later) (all_asked IsNoMark manner (works shapes planned) both.first both.came (works_marks shapes planned) both.held)
+          (λ intact. (subst (Stands log (before ++ x ∷ [])) parts marked_stands intact).marks) in
+          subst (λ (xs : List Exchange). Stands log xs later) (sym there)
+          (ends_stand ((before ++ x ∷ []) ++ both.first) both.second later mark both.came attempt (split ∙ ap (λ (xs : List Exchange). (before ++ x ∷ []) ++ xs) parts ∙ sym (append_assoc (before ++ x ∷ []) both.first (both.second ++ later)))
+          marks both.more
+          (λ was. subst (λ (xs : List Exchange). Stands log xs later) there (was_made before (x ∷ part) later is attempt held from mark was.0 (subst (λ (xs : List Exchange). MarksStand log xs later) (sym there) was.1))))
+      by_reply replies.Memory same can rest =
+          subst (λ (xs : List Exchange). Stands log (before ++ x ∷ xs) later) (sym rest.0) (subst (λ (xs : List Exchange). Stands log (before ++ x ∷ []) (xs ++ later)) rest.0 marked_stands)
+      by_reply reply same can rest = absurd can
+
+-- ---- as trees
+
+unless_apart : (came : Result Written Refusal) (p new : SessionProgress) (part : List Exchange) (result : Result (Unit {0}) Failure) → Held (unless_broken came) p part result new → part ≡ []
+unfolding Held
+unless_apart (Ok (written.Done mark)) p new part result held = held.0
+unless_apart (Ok (written.Refused number name)) p new part result held = held.0
+unless_apart (Err why) p new part result held = held.0
+
+unless_asks : (came : Result Written Refusal) → Only AnyStep NoCommit (unless_broken came)
+unless_asks (Ok (written.Done mark)) = tt
+unless_asks (Ok (written.Refused number name)) = tt
+unless_asks (Err why) = tt
+
+module _ (session : ℕ) (begin log : List Logged) (mine : List Exchange) (tied : Tied session begin log mine) (shapes : List TableTree) (planned : List Planned) where
+  -- changes that may be made are asked, and checked
+  pub applies_bring : Brings log mine (StandsWith log (λ db. MayWrite db shapes planned)) (applies shapes planned) (λ (result : Result (Unit {0}) Failure). Stands log)
+  unfolding applies
+  applies_bring = quiet_brings log mine (StandsWith log (λ db. MayWrite db shapes planned)) (applies shapes planned) (λ (result : Result (Unit {0}) Failure). Stands log)
+      (tt, only_gives AnyStep NoCommit (attempts shapes planned) (λ attempt. unless_broken attempt.came) (says_quiet NoCommit (attempts shapes planned) quiet_commits) (λ attempt. unless_asks attempt.came)) came
+    where
+      came : (before part later : List Exchange) (p new : SessionProgress) (result : Result (Unit {0}) Failure) → mine ≡ before ++ (part ++ later) → Held (applies shapes planned) p part result new
+          → StandsWith log (λ db. MayWrite db shapes planned) before (part ++ later) → Stands log (before ++ part) later
+      came before part later p new result is held from =
+          let on = holds_apart (attempts shapes planned) (λ attempt. unless_broken attempt.came) p new part result held in
+          let whole : part ≡ on.front = on.parts ∙ ap (λ (xs : List Exchange). on.front ++ xs) (unless_apart on.came.came _ new on.back result on.rest) ∙ append-nil on.front in
+          subst (λ (xs : List Exchange). Stands log (before ++ xs) later) (sym whole)
+          (attempt_stands session begin log mine tied _ shapes planned before on.front later (is ∙ ap (λ (xs : List Exchange). before ++ (xs ++ later)) whole) on.came on.held
+          (subst (λ (xs : List Exchange). StandsWith log (λ db. MayWrite db shapes planned) before (xs ++ later)) whole from))

@@ -1,0 +1,144 @@
+-- Which operations the dialogs of a statement ask: those of its reads fetch, and those of a write go on, until it is taken back.
+use Rattle.std.proofs.Common.{ℕ, zero, suc, ℤ, Bool, true, false, if◌then◌else◌, List, [], ◌∷◌, ◌++◌, Option, None, Some, Result, Ok, Err}
+use Rattle.value_types.specs.declared.table_name.TableName.{TableName}
+use Rattle.value_types.specs.declared.value.Value.{Value}
+use Rattle.lock_modes.specs.declared.KeyPart.TheVariants.{S}
+use Rattle.tsql_tree.specs.declared.definition.TableTree.{TableTree}
+use Rattle.bound_tree.specs.declared.write.Bound.{Bound}
+use Rattle.step_model.specs.declared.change.Deed.{Deed}
+use Rattle.step_model.specs.declared.change.Deed.TheVariants as deed
+use Rattle.step_model.specs.declared.change.Planned.{Planned}
+use Rattle.step_model.specs.declared.op.Hold.TheVariants as hold
+use Rattle.step_model.specs.declared.op.Op.{Op}
+use Rattle.step_model.specs.declared.op.Op.TheVariants as ops
+use Rattle.step_model.specs.declared.range.KeyRange.{KeyRange}
+use Rattle.step_model.specs.declared.range.Start.{Start}
+use Rattle.step_model.specs.declared.reply.Reply.{Reply}
+use Rattle.step_model.specs.declared.reply.Reply.TheVariants as replies
+use Rattle.step_model.specs.Dialog as said
+use Rattle.step_model.specs.Dialog.{Dialog}
+use Rattle.step_model.specs.Ranges.{Keeps, Rows, range_limit}
+use Rattle.constraint_check.specs.declared.check_read.CheckRead.{CheckRead}
+use Rattle.constraint_check.specs.Judged.{judge}
+use Rattle.constraint_check.specs.Reads.{reads_for, shape_of}
+use Rattle.dml_exec.specs.declared.refusal.Level.{Level}
+use Rattle.dml_exec.specs.declared.refusal.Refusal.{Refusal}
+use Rattle.dml_exec.specs.declared.refusal.Refusal.TheVariants as refusal
+use Rattle.dml_exec.specs.Asking.{on_ok, with_room, with_room_if}
+use Rattle.dml_exec.specs.Reading.{TableRead, fetch_of, fetches, fits, from, images_from, images_of, is_short, key_width, read_by, reads_of, reads_on, reads_table, rows_from, rows_in, table_fetch}
+use Rattle.dml_exec.specs.Writing.{asks_deed, broken_by, checks_all, checks_one, done_by, halted, is_one_key, no_room, rows_checked, works, writes_all, writes_one}
+use Rattle.reading_laws.specs.Reads.{IsFetch}
+use Rattle.statement_paths.specs.Paths.{IsForward}
+use Rattle.statement_paths.proofs.Only.{Says, says_then}
+
+-- ---- parts of a dialog
+
+module _ (Ops : Op → Type 0) where
+  says_either : {A : Type 0} (first other : Dialog A) → Says Ops first → Says Ops other → (enough : Bool) → Says Ops (if enough then first else other)
+  says_either first other one two true = one
+  says_either first other one two false = two
+
+  pub says_room : {A E : Type 0} (why : E) (dialog : Dialog (Result A E)) → Says Ops dialog → Says Ops (with_room why dialog)
+  says_room why dialog says = says_either dialog (said.over (Err why)) says tt
+
+  says_room_if : {A E : Type 0} (wants : Bool) (why : E) (dialog : Dialog (Result A E)) → Says Ops dialog → Says Ops (with_room_if wants why dialog)
+  says_room_if true why dialog says = says_room why dialog says
+  says_room_if false why dialog says = says
+
+  -- behind a part that may fail
+  says_on : {A B E : Type 0} (go : A → Dialog (Result B E)) → ((a : A) → Says Ops (go a)) → (came : Result A E) → Says Ops (on_ok go came)
+  says_on go says (Ok a) = says a
+  says_on go says (Err e) = tt
+
+  -- ---- reads
+
+  module _ (fetching : (op : Op) → IsFetch op → Ops op) where
+    says_reply : (width : ℕ) (keeps : Keeps) (so_far : Rows) (reply : Reply) → Says Ops (read_by width keeps so_far reply)
+    says_reply width keeps so_far (replies.Row key row at) = says_room refusal.Memory _ tt
+    says_reply width keeps so_far (replies.Gone key at) = says_room_if (is_short width key) refusal.Memory _ tt
+    says_reply width keeps so_far reply = tt
+
+    says_fetch : (width : ℕ) (keeps : Keeps) (op : Op) (so_far : Rows) → Says Ops (fetches width keeps op so_far)
+    says_fetch width keeps (ops.Fetch table start stop hold part) so_far = (fetching (ops.Fetch table start stop hold part) tt, says_reply width keeps so_far)
+    says_fetch width keeps op so_far = tt
+
+    behind_range : (width : ℕ) (keeps : Keeps) (left : ℕ) (op : Op) → ((more : Rows) (start : Start) → Says Ops (rows_from width keeps left (from start op) more))
+        → (came : Result (Rows × Option Start) Refusal) → Says Ops (on_ok (reads_on (λ more start. rows_from width keeps left (from start op) more)) came)
+    behind_range width keeps left op says (Err why) = tt
+    behind_range width keeps left op says (Ok (more, None)) = tt
+    behind_range width keeps left op says (Ok (more, Some start)) = says more start
+
+    says_range : (width : ℕ) (keeps : Keeps) (left : ℕ) (op : Op) (so_far : Rows) → Says Ops (rows_from width keeps left op so_far)
+    unfolding rows_from
+    says_range width keeps zero op so_far = tt
+    says_range width keeps (suc left) op so_far =
+        says_then Ops (fetches width keeps op so_far) (on_ok (reads_on (λ more start. rows_from width keeps left (from start op) more))) (says_fetch width keeps op so_far)
+        (behind_range width keeps left op (λ more start. says_range width keeps left (from start op) more))
+
+    says_rows : (shape : Option TableTree) (one : Bool) (op : Op) → Says Ops (rows_in shape one op)
+    unfolding rows_in
+    says_rows shape true op = says_then Ops (fetches (key_width shape) (fits shape) op []) (on_ok (λ came. said.over (Ok came.0))) (says_fetch (key_width shape) (fits shape) op []) (says_on (λ came. said.over (Ok came.0)) (λ came. tt))
+    says_rows shape false op = says_range (key_width shape) (fits shape) range_limit op []
+
+    says_images : (shapes : List TableTree) (level : Level) (images : List Rows) (reads : List TableRead) → Says Ops (images_from shapes level images reads)
+    unfolding images_from reads_table
+    says_images shapes level images [] = tt
+    says_images shapes level images (read ∷ reads) =
+        says_then Ops (reads_table shapes level read) (on_ok (λ rows. with_room refusal.Memory (images_from shapes level (images ++ rows ∷ []) reads))) (says_rows (shape_of read.0 shapes) false (table_fetch level read))
+        (says_on (λ rows. with_room refusal.Memory (images_from shapes level (images ++ rows ∷ []) reads)) (λ rows. says_room refusal.Memory _ (says_images shapes level (images ++ rows ∷ []) reads)))
+
+    pub images_say : (shapes : List TableTree) (level : Level) (of : Bound) → Says Ops (images_of shapes level of)
+    unfolding images_of
+    images_say shapes level of = says_room refusal.Memory _ (says_images shapes level [] (reads_of of))
+
+-- ---- the changes of a write, and what checks them
+
+fetch_forward : (op : Op) → IsFetch op → IsForward op
+fetch_forward (ops.Fetch table start stop hold part) is = tt
+fetch_forward op is = absurd is
+
+deed_says : (table : TableName) (key : List Value) (deed : Deed) → Says IsForward (asks_deed table key deed)
+unfolding said.tries
+deed_says table key deed.Erase = says_either IsForward (said.asks (ops.Erase table key) tt said.over) (said.over replies.Memory) (tt, λ reply. tt) tt
+deed_says table key (deed.Replace row) = says_either IsForward (said.asks (ops.Replace table key row) tt said.over) (said.over replies.Memory) (tt, λ reply. tt) tt
+deed_says table key (deed.Insert row) = says_either IsForward (said.asks (ops.Insert table key row) tt said.over) (said.over replies.Memory) (tt, λ reply. tt) tt
+
+done_says : (shapes : List TableTree) (change : Planned) (reply : Reply) → Says IsForward (done_by shapes change reply)
+done_says shapes change replies.Exists = says_room IsForward no_room _ tt
+done_says shapes change reply = tt
+
+write_says : (shapes : List TableTree) (change : Planned) → Says IsForward (writes_one shapes change)
+unfolding writes_one
+write_says shapes change = says_then IsForward (asks_deed change.table change.key change.deed) (done_by shapes change) (deed_says change.table change.key change.deed) (done_says shapes change)
+
+writes_say : (shapes : List TableTree) (changes : List Planned) → Says IsForward (writes_all shapes changes)
+unfolding writes_all
+writes_say shapes [] = tt
+writes_say shapes (change ∷ changes) = says_then IsForward (writes_one shapes change) (on_ok (λ done. writes_all shapes changes)) (write_says shapes change) (says_on IsForward (λ done. writes_all shapes changes) (λ done. writes_say shapes changes))
+
+halted_says : (came : Result Rows Refusal) → Says IsForward (halted came)
+halted_says (Ok rows) = tt
+halted_says (Err why) = tt
+
+checked_says : (shapes : List TableTree) (range : KeyRange) → Says IsForward (rows_checked shapes range)
+unfolding rows_checked
+checked_says shapes range = says_room IsForward no_room _ (says_then IsForward (rows_in (shape_of range.table shapes) (is_one_key range.start) (fetch_of range hold.Range S)) halted
+    (says_rows IsForward fetch_forward (shape_of range.table shapes) (is_one_key range.start) (fetch_of range hold.Range S)) halted_says)
+
+broken_says : (read : CheckRead) (judged : Option ℤ) → Says IsForward (broken_by read judged)
+broken_says read None = tt
+broken_says read (Some number) = says_room IsForward no_room _ tt
+
+check_says : (shapes : List TableTree) (read : CheckRead) → Says IsForward (checks_one shapes read)
+unfolding checks_one
+check_says shapes read = says_then IsForward (rows_checked shapes read.range) (on_ok (λ found. broken_by read (judge read found))) (checked_says shapes read.range) (says_on IsForward (λ found. broken_by read (judge read found)) (λ found. broken_says read (judge read found)))
+
+checks_say : (shapes : List TableTree) (reads : List CheckRead) → Says IsForward (checks_all shapes reads)
+unfolding checks_all
+checks_say shapes [] = tt
+checks_say shapes (read ∷ reads) = says_then IsForward (checks_one shapes read) (on_ok (λ done. checks_all shapes reads)) (check_says shapes read) (says_on IsForward (λ done. checks_all shapes reads) (λ done. checks_say shapes reads))
+
+pub works_say : (shapes : List TableTree) (changes : List Planned) → Says IsForward (works shapes changes)
+unfolding works
+works_say shapes changes = says_then IsForward (writes_all shapes changes) (on_ok (λ done. with_room no_room (checks_all shapes (reads_for changes shapes)))) (writes_say shapes changes)
+    (says_on IsForward (λ done. with_room no_room (checks_all shapes (reads_for changes shapes))) (λ done. says_room IsForward no_room _ (checks_say shapes (reads_for changes shapes))))
