@@ -23,10 +23,10 @@ use Rattle.batch_meaning.specs.Statements.{vars_of}
 use Rattle.batch_meaning.specs.Tokens.{batch_done}
 use Rattle.statement_paths.proofs.Apart.{held_apart}
 use Rattle.reading_laws.proofs.Parts.{from_both}
-use Rattle.batch_laws.specs.Committing.{is_plain, Agrees, ArePlain, Commits, Ends, IfOn, IsIdle, Leaves, Runs}
+use Rattle.batch_laws.specs.Committing.{is_plain, Agrees, ArePlain, Commits, Ends, IfOn, IsIdle, Leaves, Runs, Stays}
 use Rattle.batch_laws.specs.Laws.{BatchRuns, EndsAtOnce, PlainRun, RefusedEnds, UnbuiltEnds}
 use Rattle.batch_laws.proofs.Ending.{Ended}
-use Rattle.batch_laws.proofs.Idle.{mean_stays}
+use Rattle.batch_laws.proofs.Idle.{mean_keeps, mean_stays}
 use Rattle.batch_laws.proofs.Leaving.{commits_both}
 use Rattle.batch_laws.proofs.Turns.{mean_ended}
 
@@ -44,10 +44,11 @@ pub record Closed (around : Around) (statement : Statement) (p : SessionProgress
   pub sent : List Token
   pub planned : List Planned
   pub tokens : new.tokens ≡ p.tokens ++ sent
-  pub ended : Ends around (made counts p) statement exit sent planned exchanges
+  pub ended : Ends around (made counts p) statement exit sent planned exchanges new
   pub none : progress_of exchanges ≡ none_open
   pub commits : commits_of exchanges ≡ commit_of (Net planned)
   pub idle : IsIdle new
+  pub stays : Stays p new
 
 pub mean_closed : (levels : ℕ) (around : Around) (statement : Statement) (p new : SessionProgress) (exchanges : List Exchange) (exit : Exit) → is_plain (form_of statement) ≡ true → IsIdle p → Held (mean_of levels statement around) p exchanges exit new
     → Closed around statement p exchanges exit new
@@ -60,7 +61,7 @@ mean_closed levels around statement p new exchanges exit is idle held = by_ended
     by_ended (sent, planned, tokens, ended, leaves) =
         let closed = closed_leaves p.is_open new.is_open exchanges planned idle.shut leaves in
         let stays = mean_stays levels around statement p new exchanges exit is held (idle.closed, idle.sound) in
-        record { sent = sent; planned = planned; tokens = tokens; ended = ended; none = closed.1; commits = closed.2; idle = record { shut = closed.0; closed = stays.0; sound = stays.1 } }
+        record { sent = sent; planned = planned; tokens = tokens; ended = ended; none = closed.1; commits = closed.2; idle = record { shut = closed.0; closed = stays.0; sound = stays.1 }; stays = mean_keeps levels around statement p new exchanges exit is held }
 
 -- ---- one behind another
 
@@ -82,7 +83,7 @@ module _ (levels : ℕ) (around : Around) where
         (
           first.sent ++ later,
           tokens ∙ ap (λ (t : List Token). t ++ later) first.tokens ∙ append_assoc p.tokens first.sent later,
-          (came, mid, first.sent, later, first.planned, rest, front, back, refl, all, parts, first.ended, goes),
+          (came, mid, first.sent, later, first.planned, rest, front, back, refl, all, parts, first.ended, first.stays, first.idle, goes),
         ),
         progress,
         idle,

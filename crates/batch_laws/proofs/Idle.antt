@@ -1,4 +1,4 @@
--- Plain statements open no transaction of BEGIN TRANSACTION, so where there is none there is none behind them.
+-- Plain statements open no transaction of BEGIN TRANSACTION, so where there is none there is none behind them; and all that SET has set stays.
 use Rattle.std.proofs.Common.{◌≡◌, ℕ, zero, suc, Bool, true, false, if◌then◌else◌, is_ok, List, [], ◌∷◌, Result, Ok, Err, refl, sym, ◌∙◌, subst}
 use Rattle.std.specs.Prelude.{◌&&◌, ◌==◌, ◌-◌}
 use Rattle.tsql_tree.specs.declared.definition.TableTree.{TableTree}
@@ -22,6 +22,7 @@ use Rattle.batch_meaning.specs.declared.failure.Failure.{Failure}
 use Rattle.batch_meaning.specs.declared.home.Home.{Home}
 use Rattle.batch_meaning.specs.declared.home.Home.TheVariants.{Nowhere, Open, Own}
 use Rattle.batch_meaning.specs.declared.raised.Raised.{Raised}
+use Rattle.batch_meaning.specs.declared.settings.Settings.{Settings}
 use Rattle.catalog_rows.specs.Definitions.{is_objects}
 use Rattle.batch_meaning.specs.Changing.{object_present}
 use Rattle.batch_meaning.specs.Asking.{assigns_all, fails_naming, unless_refused, where_begun, where_done, where_ended}
@@ -38,30 +39,31 @@ use Rattle.statement_paths.specs.Paths.{work_for, work_of}
 use Rattle.statement_paths.proofs.Only.{AnyOp, Only, held_keeps, only_bind, only_if, only_mono, only_naming, only_room, only_then}
 use Rattle.statement_paths.proofs.Owned.{nothing_more}
 use Rattle.statement_paths.proofs.Works.{IsWorkStep, Works, binds_work, creates_works, prepares_reads, reads_work, unless_works, worked_works}
-use Rattle.batch_laws.specs.Committing.{is_plain}
+use Rattle.batch_laws.specs.Committing.{is_plain, Stays}
 
--- BEGIN TRANSACTION opens none
-abbrev pub OpensNone : SessionStep → Type 0
-OpensNone (opens name) = ⊥
-OpensNone step = Unit {0}
+-- BEGIN TRANSACTION opens none, and SET sets nothing
+abbrev pub IsPlainStep : SessionStep → Type 0
+IsPlainStep (opens name) = ⊥
+IsPlainStep (sets settings) = ⊥
+IsPlainStep step = Unit {0}
 
 -- and ends or counts none
 abbrev Shut : {A : Type 0} → Doing A → Type 0
-Shut tree = Only OpensNone AnyOp tree
+Shut tree = Only IsPlainStep AnyOp tree
 
-work_shuts : (step : SessionStep) → IsWorkStep step → OpensNone step
+work_shuts : (step : SessionStep) → IsWorkStep step → IsPlainStep step
 work_shuts touches is = tt
 work_shuts (assigns place value) is = tt
 work_shuts step is = absurd is
 
 works_shut : {A : Type 0} (tree : Doing A) → Works tree → Shut tree
-works_shut tree works = only_mono IsWorkStep OpensNone IsQuiet AnyOp work_shuts (λ op is. tt) tree works
+works_shut tree works = only_mono IsWorkStep IsPlainStep IsQuiet AnyOp work_shuts (λ op is. tt) tree works
 
 -- ---- around the work
 
 relaxes_shut : Shut relaxes
 unfolding relaxes
-relaxes_shut = λ p. only_if OpensNone AnyOp p.touched (asks ops.Relax (where_done nothing_more)) nothing_more (tt, by_reply) tt
+relaxes_shut = λ p. only_if IsPlainStep AnyOp p.touched (asks ops.Relax (where_done nothing_more)) nothing_more (tt, by_reply) tt
   where
     by_reply : (reply : Reply) → CanReply ops.Relax reply → Shut (where_done nothing_more reply)
     by_reply replies.Done can = tt
@@ -84,12 +86,12 @@ leaves_shut : (home : Home) (succeeded : Bool) → Shut (leaves home succeeded)
 unfolding leaves
 leaves_shut Nowhere succeeded = tt
 leaves_shut Open succeeded = relaxes_shut
-leaves_shut Own succeeded = only_then OpensNone AnyOp relaxes (λ done. closes succeeded) relaxes_shut (λ done. closes_shut succeeded)
+leaves_shut Own succeeded = only_then IsPlainStep AnyOp relaxes (λ done. closes succeeded) relaxes_shut (λ done. closes_shut succeeded)
 
 enters_shut : (asks_some : Bool) → Shut (enters asks_some)
 unfolding enters
 enters_shut false = tt
-enters_shut true = λ p. only_if OpensNone AnyOp p.is_open (over (Ok Open)) (asks ops.Begin (unless_refused (where_begun (over (Ok Own))))) tt (tt, by_reply)
+enters_shut true = λ p. only_if IsPlainStep AnyOp p.is_open (over (Ok Open)) (asks ops.Begin (unless_refused (where_begun (over (Ok Own))))) tt (tt, by_reply)
   where
     by_reply : (reply : Reply) → CanReply ops.Begin reply → Shut {A = Result Home Failure} (unless_refused (where_begun (over (Ok Own))) reply)
     by_reply replies.Began can = tt
@@ -98,29 +100,29 @@ enters_shut true = λ p. only_if OpensNone AnyOp p.is_open (over (Ok Open)) (ask
 
 own_shuts : {A : Type 0} (asks_some : Bool) (work : Doing (Result A Failure)) → Shut work → Shut (own asks_some work)
 unfolding own
-own_shuts asks_some work shut = only_bind OpensNone AnyOp (enters asks_some) _ (enters_shut asks_some)
-    (λ home. only_then OpensNone AnyOp work (λ came. leaves home (is_ok came) then λ done. over came) shut (λ came. only_then OpensNone AnyOp (leaves home (is_ok came)) (λ done. over came) (leaves_shut home (is_ok came)) (λ done. tt)))
+own_shuts asks_some work shut = only_bind IsPlainStep AnyOp (enters asks_some) _ (enters_shut asks_some)
+    (λ home. only_then IsPlainStep AnyOp work (λ came. leaves home (is_ok came) then λ done. over came) shut (λ came. only_then IsPlainStep AnyOp (leaves home (is_ok came)) (λ done. over came) (leaves_shut home (is_ok came)) (λ done. tt)))
 
 binds_shut : (statement : Statement) (go : List TableTree → Bound → Doing (Result Effect Failure)) → ((shapes : List TableTree) (of : Bound) → Shut (go shapes of)) → Shut (binds statement go)
 unfolding binds
-binds_shut statement go shut = only_bind OpensNone AnyOp (prepares statement) (λ made. go made.0 made.1) (works_shut (prepares statement) (reads_work (prepares statement) (prepares_reads statement))) (λ made. shut made.0 made.1)
+binds_shut statement go shut = only_bind IsPlainStep AnyOp (prepares statement) (λ made. go made.0 made.1) (works_shut (prepares statement) (reads_work (prepares statement) (prepares_reads statement))) (λ made. shut made.0 made.1)
 
 objects_shut : (name : List ℕ) (tree : Doing (Result Effect Failure)) → Shut tree → Shut (unless_objects name tree)
-objects_shut name tree shut = only_if OpensNone AnyOp (is_objects name) (fails_naming object_present name) tree (only_naming OpensNone AnyOp Effect object_present name) shut
+objects_shut name tree shut = only_if IsPlainStep AnyOp (is_objects name) (fails_naming object_present name) tree (only_naming IsPlainStep AnyOp Effect object_present name) shut
 
 -- ---- every statement that is done with its effect
 
 module _ (around : Around) (p0 : SessionProgress) (statement : Statement) where
   works_of_shut : Shut (works around statement)
   unfolding works within
-  works_of_shut = only_room OpensNone AnyOp (own (asks_any (looked_up statement)) work) (own_shuts (asks_any (looked_up statement)) work (works_shut work (binds_work statement (works_bound around (form_of statement)) (worked_works around p0 (form_of statement)))))
+  works_of_shut = only_room IsPlainStep AnyOp (own (asks_any (looked_up statement)) work) (own_shuts (asks_any (looked_up statement)) work (works_shut work (binds_work statement (works_bound around (form_of statement)) (worked_works around p0 (form_of statement)))))
     where
       work : Doing (Result Effect Failure)
       work = binds statement (works_bound around (form_of statement))
 
   creates_shut : (name text : List ℕ) → Shut (creates_table statement name text)
   unfolding creates_table
-  creates_shut name text = only_room OpensNone AnyOp _ (only_if OpensNone AnyOp (asks_any (looked_up statement)) (own true first) second (own_shuts true first (works_shut first (binds_work statement putting (λ shapes of. unless_works name (creates name text) (creates_works name text))))) second_shut)
+  creates_shut name text = only_room IsPlainStep AnyOp _ (only_if IsPlainStep AnyOp (asks_any (looked_up statement)) (own true first) second (own_shuts true first (works_shut first (binds_work statement putting (λ shapes of. unless_works name (creates name text) (creates_works name text))))) second_shut)
     where
       putting : List TableTree → Bound → Doing (Result Effect Failure)
       putting shapes of = unless_objects name (creates name text)
@@ -148,7 +150,7 @@ module _ (around : Around) (p0 : SessionProgress) (statement : Statement) where
 
 rolls_shut : Shut rolls_back_told
 unfolding rolls_back_told
-rolls_shut = λ p. only_if OpensNone AnyOp p.is_open (asks ops.Rollback (where_ended (makes (sends _) nothing_more))) nothing_more (tt, by_reply _) tt
+rolls_shut = λ p. only_if IsPlainStep AnyOp p.is_open (asks ops.Rollback (where_ended (makes (sends _) nothing_more))) nothing_more (tt, by_reply _) tt
   where
     by_reply : (tokens : List Token) (reply : Reply) → CanReply ops.Rollback reply → Shut (where_ended (makes (sends tokens) nothing_more) reply)
     by_reply tokens (replies.Ended place) can = (tt, tt)
@@ -159,7 +161,7 @@ unfolding ended_by
 ended_shut act.Statement = tt
 ended_shut act.Doom = tt
 ended_shut act.Batch = tt
-ended_shut act.BatchAndTransaction = only_then OpensNone AnyOp rolls_back_told (λ done. over _) rolls_shut (λ done. tt)
+ended_shut act.BatchAndTransaction = only_then IsPlainStep AnyOp rolls_back_told (λ done. over _) rolls_shut (λ done. tt)
 
 caught_shut : (action : Action) (raised : Raised) → Shut (caught_as action raised)
 caught_shut act.Statement raised = tt
@@ -171,13 +173,13 @@ raises_shut : (around : Around) (statement : Statement) (raised : Raised) → Sh
 unfolding raises
 raises_shut around statement raised = λ p. (
   tt,
-  only_if OpensNone AnyOp (is_caught_in around (or_full around p (command_of (form_of statement)) (line_of statement) raised)) _ _
+  only_if IsPlainStep AnyOp (is_caught_in around (or_full around p (command_of (form_of statement)) (line_of statement) raised)) _ _
       (caught_shut (action_in around p.settings.xact_abort (or_full around p (command_of (form_of statement)) (line_of statement) raised)) (or_full around p (command_of (form_of statement)) (line_of statement) raised))
       (tt, ended_shut (action_in around p.settings.xact_abort (or_full around p (command_of (form_of statement)) (line_of statement) raised))),
 )
 
 counted_shut : (form : Layer) (rows : ℕ) (next : Doing Exit) → Shut next → Shut (counted form rows next)
-counted_shut form rows next shut = only_if OpensNone AnyOp (leaves_rows form) next (makes (tells_rows rows) next) shut (tt, shut)
+counted_shut form rows next shut = only_if IsPlainStep AnyOp (leaves_rows form) next (makes (tells_rows rows) next) shut (tt, shut)
 
 fails_shut : (around : Around) (statement : Statement) (failure : Failure) → Shut (fails_for around statement failure)
 unfolding fails_for
@@ -198,7 +200,7 @@ succeeds_shut statement effect exit = sets_shut effect.sets _ (counted_shut (for
 
 does_shut : (around : Around) (p0 : SessionProgress) (statement : Statement) (exit : Exit) (work : Doing (Result Effect Failure)) → Shut work → Shut (does around statement exit work)
 unfolding does concludes
-does_shut around p0 statement exit work shut = only_then OpensNone AnyOp work (concluded around statement (λ effect. succeeds statement effect (over exit))) shut by_came
+does_shut around p0 statement exit work shut = only_then IsPlainStep AnyOp work (concluded around statement (λ effect. succeeds statement effect (over exit))) shut by_came
   where
     by_came : (came : Result Effect Failure) → Shut (concluded around statement (λ effect. succeeds statement effect (over exit)) came)
     by_came (Ok effect) = succeeds_shut statement effect exit
@@ -226,12 +228,12 @@ plain_shut one around p0 statement form is = does_shut around p0 statement _ _ (
 
 by_shut : (one : Statement → Meaning) (around : Around) (p0 : SessionProgress) (statement : Statement) → is_plain (form_of statement) ≡ true → Shut (mean_by one statement around)
 unfolding mean_by
-by_shut one around p0 statement is = λ p. only_if OpensNone AnyOp (p.txn.doomed && is_refused_doomed (form_of statement)) (fails_for around statement (plain doomed_write)) _ (fails_shut around statement (plain doomed_write)) (plain_shut one around p0 statement (form_of statement) is)
+by_shut one around p0 statement is = λ p. only_if IsPlainStep AnyOp (p.txn.doomed && is_refused_doomed (form_of statement)) (fails_for around statement (plain doomed_write)) _ (fails_shut around statement (plain doomed_write)) (plain_shut one around p0 statement (form_of statement) is)
 
 pub mean_shut : (levels : ℕ) (around : Around) (p0 : SessionProgress) (statement : Statement) → is_plain (form_of statement) ≡ true → Shut (mean_of levels statement around)
 unfolding mean_of
 mean_shut zero around p0 statement is = raises_shut around statement (raised_at (line_of statement) (plain statements_spent))
-mean_shut (suc levels) around p0 statement is = λ p. only_if OpensNone AnyOp (p.statements_left == 0) (spends statement around) _ (raises_shut around statement (raised_at (line_of statement) (plain statements_spent)))
+mean_shut (suc levels) around p0 statement is = λ p. only_if IsPlainStep AnyOp (p.statements_left == 0) (spends statement around) _ (raises_shut around statement (raised_at (line_of statement) (plain statements_spent)))
     (tt, by_shut (λ inner at. mean_of levels inner at) around p0 statement is)
 
 -- ---- what stays so
@@ -245,7 +247,7 @@ doom_none txn is = rw is refl
 close_none : (txn : TxnState) → is_closed txn ≡ true → after_commit txn ≡ txn
 close_none txn is = rw is refl
 
-by_step : (step : SessionStep) (p : SessionProgress) → OpensNone step → IsShut p → IsShut (made step p)
+by_step : (step : SessionStep) (p : SessionProgress) → IsPlainStep step → IsShut p → IsShut (made step p)
 by_step (begins vars) p is shut = shut
 by_step counts p is shut = shut
 by_step touches p is shut = shut
@@ -253,7 +255,7 @@ by_step (sends tokens) p is shut = shut
 by_step (tells_rows rows) p is shut = shut
 by_step (tells_error number) p is shut = shut
 by_step (assigns place value) p is shut = shut
-by_step (sets settings) p is shut = shut
+by_step (sets settings) p is shut = absurd is
 by_step (opens name) p is shut = absurd is
 by_step closes_one p is shut = subst (λ (t : TxnState). (is_closed t ≡ true) × (t.doomed ≡ false)) (sym (close_none p.txn shut.0)) shut
 by_step (saves name mark) p is shut = shut
@@ -266,7 +268,7 @@ by_op (ops.BackTo mark) reply p is can shut = shut
 by_op op reply p is can shut = shut
 
 pub mean_stays : (levels : ℕ) (around : Around) (statement : Statement) (p new : SessionProgress) (exchanges : List Exchange) (exit : Exit) → is_plain (form_of statement) ≡ true → Held (mean_of levels statement around) p exchanges exit new → IsShut p → IsShut new
-mean_stays levels around statement p new exchanges exit is held shut = held_keeps OpensNone AnyOp IsShut by_step by_op (mean_of levels statement around) p new exchanges exit (mean_shut levels around p statement is) held shut
+mean_stays levels around statement p new exchanges exit is held shut = held_keeps IsPlainStep AnyOp IsShut by_step by_op (mean_of levels statement around) p new exchanges exit (mean_shut levels around p statement is) held shut
 
 -- ---- the number of the transaction stays
 
@@ -290,7 +292,7 @@ module _ (number : ℕ) where
   abbrev IsNumber : SessionProgress → Type 0
   IsNumber p = p.txn.serial ≡ number
 
-  number_step : (step : SessionStep) (p : SessionProgress) → OpensNone step → IsNumber p → IsNumber (made step p)
+  number_step : (step : SessionStep) (p : SessionProgress) → IsPlainStep step → IsNumber p → IsNumber (made step p)
   number_step (begins vars) p is same = same
   number_step counts p is same = same
   number_step touches p is same = same
@@ -298,7 +300,7 @@ module _ (number : ℕ) where
   number_step (tells_rows rows) p is same = same
   number_step (tells_error error) p is same = same
   number_step (assigns place value) p is same = same
-  number_step (sets settings) p is same = same
+  number_step (sets settings) p is same = absurd is
   number_step (opens name) p is same = absurd is
   number_step closes_one p is same = serial_closes p.txn ∙ same
   number_step (saves name mark) p is same = same
@@ -310,6 +312,43 @@ module _ (number : ℕ) where
   number_op (ops.BackTo mark) reply p is can same = same
   number_op op reply p is can same = same
 
+-- ---- all that SET has set stays
+
+module _ (settings : Settings) where
+  abbrev IsSet : SessionProgress → Type 0
+  IsSet p = p.settings ≡ settings
+
+  set_step : (step : SessionStep) (p : SessionProgress) → IsPlainStep step → IsSet p → IsSet (made step p)
+  set_step (begins vars) p is same = same
+  set_step counts p is same = same
+  set_step touches p is same = same
+  set_step (sends tokens) p is same = same
+  set_step (tells_rows rows) p is same = same
+  set_step (tells_error error) p is same = same
+  set_step (assigns place value) p is same = same
+  set_step (sets other) p is same = absurd is
+  set_step (opens name) p is same = absurd is
+  set_step closes_one p is same = same
+  set_step (saves name mark) p is same = same
+  set_step dooms p is same = same
+
+  set_op : (op : Op) (reply : Reply) (p : SessionProgress) → AnyOp op → CanReply op reply → IsSet p → IsSet (asked op reply p)
+  set_op op reply p is can same = same
+
+-- both stay
+shut_stays : {A : Type 0} (tree : Doing A) (p new : SessionProgress) (exchanges : List Exchange) (a : A) → Shut tree → Held tree p exchanges a new → Stays p new
+shut_stays tree p new exchanges a shut held = record {
+  settings = held_keeps IsPlainStep AnyOp (IsSet p.settings) (set_step p.settings) (set_op p.settings) tree p new exchanges a shut held refl;
+  serial = held_keeps IsPlainStep AnyOp (IsNumber p.txn.serial) (number_step p.txn.serial) (number_op p.txn.serial) tree p new exchanges a shut held refl;
+}
+
+pub mean_keeps : (levels : ℕ) (around : Around) (statement : Statement) (p new : SessionProgress) (exchanges : List Exchange) (exit : Exit) → is_plain (form_of statement) ≡ true → Held (mean_of levels statement around) p exchanges exit new → Stays p new
+mean_keeps levels around statement p new exchanges exit is held = shut_stays (mean_of levels statement around) p new exchanges exit (mean_shut levels around p statement is) held
+
+pub does_keeps : (around : Around) (statement : Statement) (exit : Exit) (p new : SessionProgress) (exchanges : List Exchange) (came : Exit) → Held (does around statement exit (work_of around statement)) p exchanges came new → Stays p new
+does_keeps around statement exit p new exchanges came held =
+    shut_stays (does around statement exit (work_of around statement)) p new exchanges came (does_shut around p statement exit (work_of around statement) (work_shuts_of around p statement)) held
+
 pub work_serial : (around : Around) (statement : Statement) (p new : SessionProgress) (exchanges : List Exchange) (came : Result Effect Failure) → Held (work_of around statement) p exchanges came new → new.txn.serial ≡ p.txn.serial
 work_serial around statement p new exchanges came held =
-    held_keeps OpensNone AnyOp (IsNumber p.txn.serial) (number_step p.txn.serial) (number_op p.txn.serial) (work_of around statement) p new exchanges came (work_shuts_of around p statement) held refl
+    held_keeps IsPlainStep AnyOp (IsNumber p.txn.serial) (number_step p.txn.serial) (number_op p.txn.serial) (work_of around statement) p new exchanges came (work_shuts_of around p statement) held refl

@@ -235,6 +235,8 @@ module _ (levels : ℕ) (around : Around) where
             ap commits_of parts ∙ commits_both none_open front back ∙ ap (λ (s : Stand). commits_of front ++ commits_from s back) first.none ∙ ap (λ (c : Commits). c ++ commits_of back) first.commits,
             parts,
             first.ended,
+            first.stays,
+            first.idle,
             goes,
           )
 

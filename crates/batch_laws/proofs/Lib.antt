@@ -4,6 +4,8 @@ pub mod Writes  -- what is read changes nothing, and changes stay whole or not a
 pub mod Leaving  -- what exchanges leave of a transaction, part by part
 pub mod Statements  -- what a statement leaves of its transaction
 pub mod Idle  -- plain statements open no transaction
+pub mod Variables  -- a statement that succeeds assigns nothing before it tells its effect
+pub mod Opened  -- in an open transaction the work of a statement keeps the state of it
 pub mod Ending  -- how a statement ends, and what it has sent
 pub mod Turns  -- statements one after another
 pub mod Batches  -- a batch of plain statements

@@ -33,6 +33,7 @@ use Rattle.batch_meaning.specs.declared.exit.Exit.{Exit}
 use Rattle.batch_meaning.specs.declared.exit.Exit.TheVariants.{On, Leave, Again, Return, Raise, End}
 use Rattle.batch_meaning.specs.declared.failure.Failure.{Failure}
 use Rattle.batch_meaning.specs.declared.form.ReadText.TheVariants as text
+use Rattle.batch_meaning.specs.declared.settings.Settings.{Settings}
 use Rattle.batch_meaning.specs.Changing.{whole}
 use Rattle.batch_meaning.specs.Doing.{Doing, over, makes, ◌then◌, Left}
 use Rattle.batch_meaning.specs.Failures.{plain}
@@ -197,12 +198,12 @@ abbrev Went : Around → SessionProgress → Statement → List Exchange → Typ
 Went around p statement exchanges = NoneCommits exchanges ⊎ ((planned : List Planned) × (effect : Effect) × HasDone around p statement planned effect exchanges)
 
 -- a front of it, behind which no commit is asked, or nothing
-went_front : (around : Around) (p : SessionProgress) (statement : Statement) (others : List Statement) (exchanges front back : List Exchange) → p.is_open ≡ false → exchanges ≡ front ++ back → NoneCommits back → Went around p statement front
-    → CommitsEnd around (statement ∷ others) exchanges
-went_front around p statement others exchanges front back shut parts calm (inl none) before later x is commit = absurd (no_commit before x later (subst NoneCommits (sym parts ∙ is) (none_append front back none calm)) commit)
-went_front around p statement others exchanges front back shut parts calm (inr (planned, effect, done)) before later x is commit = by_splits (splits front back before x later (sym parts ∙ is))
+went_front : (around : Around) (p : SessionProgress) (statement : Statement) (others : List Statement) (exchanges front back : List Exchange) → IsIdle p → exchanges ≡ front ++ back → NoneCommits back → Went around p statement front
+    → CommitsEnd around (statement ∷ others) p.settings exchanges
+went_front around p statement others exchanges front back idle parts calm (inl none) before later x is commit = absurd (no_commit before x later (subst NoneCommits (sym parts ∙ is) (none_append front back none calm)) commit)
+went_front around p statement others exchanges front back idle parts calm (inr (planned, effect, done)) before later x is commit = by_splits (splits front back before x later (sym parts ∙ is))
   where
-    by_splits : Splits front back before x later → EndsWork around (statement ∷ others) before x
+    by_splits : Splits front back before x later → EndsWork around (statement ∷ others) p.settings before x
     by_splits (inl on) =
         let last = around_ends around p statement planned effect (asks_of statement) p.is_open done.0 front before x on.0 done.1 done.2 on.1 commit in
         record {
@@ -215,14 +216,15 @@ went_front around p statement others exchanges front back shut parts calm (inr (
           parts = sym (on.1 ∙ ap (λ (l : List Exchange). before ++ x ∷ l) last);
           none = refl;
           old = p;
-          shut = shut;
+          idle = idle;
+          stays = refl;
           planned = planned;
           effect = effect;
           done = done;
         }
     by_splits (inr on) = absurd (no_commit on.0 x later (subst NoneCommits on.2 calm) commit)
 
-module _ (around : Around) (statement : Statement) (others : List Statement) (p : SessionProgress) (shut : p.is_open ≡ false) where
+module _ (around : Around) (statement : Statement) (others : List Statement) (p : SessionProgress) (idle : IsIdle p) where
   went_left : (new : SessionProgress) (exchanges : List Exchange) → Left (work_of around statement) p exchanges new → Went around p statement exchanges
   went_left new exchanges left = by_left (work_was_left around statement p new exchanges left)
     where
@@ -230,7 +232,7 @@ module _ (around : Around) (statement : Statement) (others : List Statement) (p 
       by_left (inl calm) = inl calm
       by_left (inr (now, planned, effect, done)) = inr (planned, effect, done)
 
-  does_ends : (new : SessionProgress) (exchanges : List Exchange) → Left (does around statement (exit_for (form_of statement)) (work_of around statement)) p exchanges new → CommitsEnd around (statement ∷ others) exchanges
+  does_ends : (new : SessionProgress) (exchanges : List Exchange) → Left (does around statement (exit_for (form_of statement)) (work_of around statement)) p exchanges new → CommitsEnd around (statement ∷ others) p.settings exchanges
   unfolding does concludes
   does_ends new exchanges left = by_left (left_apart (work_of around statement) (concluded around statement (λ effect. succeeds statement effect (over (exit_for (form_of statement))))) p new exchanges left)
     where
@@ -239,36 +241,36 @@ module _ (around : Around) (statement : Statement) (others : List Statement) (p 
       behind back mid (Err failure) rest = calm_left (fails_for around statement failure) mid new back (fails_calm around statement failure) rest
 
       by_left : Left (work_of around statement) p exchanges new ⊎ Apart (work_of around statement) p exchanges (λ came mid back. Left (concluded around statement (λ effect. succeeds statement effect (over (exit_for (form_of statement)))) came) mid back new)
-          → CommitsEnd around (statement ∷ others) exchanges
-      by_left (inl here) = went_front around p statement others exchanges exchanges [] shut (sym (append-nil exchanges)) tt (went_left new exchanges here)
-      by_left (inr on) = went_front around p statement others exchanges on.front on.back shut on.parts (behind on.back on.mid on.came on.rest) (went_left on.mid on.front (held_left (work_of around statement) p on.mid on.front on.came on.held))
+          → CommitsEnd around (statement ∷ others) p.settings exchanges
+      by_left (inl here) = went_front around p statement others exchanges exchanges [] idle (sym (append-nil exchanges)) tt (went_left new exchanges here)
+      by_left (inr on) = went_front around p statement others exchanges on.front on.back idle on.parts (behind on.back on.mid on.came on.rest) (went_left on.mid on.front (held_left (work_of around statement) p on.mid on.front on.came on.held))
 
-calm_ends : (around : Around) (statements : List Statement) (exchanges : List Exchange) → NoneCommits exchanges → CommitsEnd around statements exchanges
-calm_ends around statements exchanges calm before later x is commit = absurd (no_commit before x later (subst NoneCommits is calm) commit)
+calm_ends : (around : Around) (statements : List Statement) (settings : Settings) (exchanges : List Exchange) → NoneCommits exchanges → CommitsEnd around statements settings exchanges
+calm_ends around statements settings exchanges calm before later x is commit = absurd (no_commit before x later (subst NoneCommits is calm) commit)
 
-mean_ends : (levels : ℕ) (around : Around) (statement : Statement) (others : List Statement) (p new : SessionProgress) (exchanges : List Exchange) → is_plain (form_of statement) ≡ true → p.is_open ≡ false → Left (mean_of levels statement around) p exchanges new
-    → CommitsEnd around (statement ∷ others) exchanges
+mean_ends : (levels : ℕ) (around : Around) (statement : Statement) (others : List Statement) (p new : SessionProgress) (exchanges : List Exchange) → is_plain (form_of statement) ≡ true → IsIdle p → Left (mean_of levels statement around) p exchanges new
+    → CommitsEnd around (statement ∷ others) p.settings exchanges
 unfolding mean_of mean_by Left
-mean_ends zero around statement others p new exchanges is shut left =
-    calm_ends around (statement ∷ others) exchanges (calm_left (spends statement around) p new exchanges (raises_calm around statement (raised_at (line_of statement) (plain statements_spent))) left)
-mean_ends (suc levels) around statement others p new exchanges is shut left = by_spent (p.statements_left == 0) left
+mean_ends zero around statement others p new exchanges is idle left =
+    calm_ends around (statement ∷ others) p.settings exchanges (calm_left (spends statement around) p new exchanges (raises_calm around statement (raised_at (line_of statement) (plain statements_spent))) left)
+mean_ends (suc levels) around statement others p new exchanges is idle left = by_spent (p.statements_left == 0) left
   where
-    by_doom : (refused : Bool) → Left (if refused then fails_for around statement (plain doomed_write) else mean_form (λ inner at. mean_of levels inner at) around statement (form_of statement)) (made counts p) exchanges new → CommitsEnd around (statement ∷ others) exchanges
-    by_doom true was = calm_ends around (statement ∷ others) exchanges (calm_left (fails_for around statement (plain doomed_write)) (made counts p) new exchanges (fails_calm around statement (plain doomed_write)) was)
-    by_doom false was = does_ends around statement others (made counts p) shut new exchanges (plain_left (λ inner at. mean_of levels inner at) around statement (form_of statement) (made counts p) new exchanges is was)
+    by_doom : (refused : Bool) → Left (if refused then fails_for around statement (plain doomed_write) else mean_form (λ inner at. mean_of levels inner at) around statement (form_of statement)) (made counts p) exchanges new → CommitsEnd around (statement ∷ others) p.settings exchanges
+    by_doom true was = calm_ends around (statement ∷ others) p.settings exchanges (calm_left (fails_for around statement (plain doomed_write)) (made counts p) new exchanges (fails_calm around statement (plain doomed_write)) was)
+    by_doom false was = does_ends around statement others (made counts p) (record { shut = idle.shut; closed = idle.closed; sound = idle.sound }) new exchanges (plain_left (λ inner at. mean_of levels inner at) around statement (form_of statement) (made counts p) new exchanges is was)
 
-    by_count : ((exchanges ≡ []) × (new ≡ p)) ⊎ Left (mean_by (λ inner at. mean_of levels inner at) statement around) (made counts p) exchanges new → CommitsEnd around (statement ∷ others) exchanges
-    by_count (inl here) = calm_ends around (statement ∷ others) exchanges (subst NoneCommits (sym here.0) tt)
+    by_count : ((exchanges ≡ []) × (new ≡ p)) ⊎ Left (mean_by (λ inner at. mean_of levels inner at) statement around) (made counts p) exchanges new → CommitsEnd around (statement ∷ others) p.settings exchanges
+    by_count (inl here) = calm_ends around (statement ∷ others) p.settings exchanges (subst NoneCommits (sym here.0) tt)
     by_count (inr later) = by_doom ((made counts p).txn.doomed && is_refused_doomed (form_of statement)) later
 
-    by_spent : (spent : Bool) → Left (if spent then spends statement around else makes counts (mean_by (λ inner at. mean_of levels inner at) statement around)) p exchanges new → CommitsEnd around (statement ∷ others) exchanges
-    by_spent true was = calm_ends around (statement ∷ others) exchanges (calm_left (spends statement around) p new exchanges (raises_calm around statement (raised_at (line_of statement) (plain statements_spent))) was)
+    by_spent : (spent : Bool) → Left (if spent then spends statement around else makes counts (mean_by (λ inner at. mean_of levels inner at) statement around)) p exchanges new → CommitsEnd around (statement ∷ others) p.settings exchanges
+    by_spent true was = calm_ends around (statement ∷ others) p.settings exchanges (calm_left (spends statement around) p new exchanges (raises_calm around statement (raised_at (line_of statement) (plain statements_spent))) was)
     by_spent false was = by_count was
 
 -- ---- one behind another
 
-later_ends : (around : Around) (statement : Statement) (others : List Statement) (first before rest : List Exchange) (x : Exchange) → progress_of first ≡ none_open → before ≡ first ++ rest → EndsWork around others rest x → EndsWork around (statement ∷ others) before x
-later_ends around statement others first before rest x none is e = record {
+later_ends : (around : Around) (statement : Statement) (others : List Statement) (settings : Settings) (first before rest : List Exchange) (x : Exchange) → progress_of first ≡ none_open → before ≡ first ++ rest → EndsWork around others settings rest x → EndsWork around (statement ∷ others) settings before x
+later_ends around statement others settings first before rest x none is e = record {
   ahead = statement ∷ e.ahead;
   statement = e.statement;
   others = e.others;
@@ -278,50 +280,51 @@ later_ends around statement others first before rest x none is e = record {
   parts = ap (λ (l : List Exchange). l ++ x ∷ []) is ∙ append_assoc first rest (x ∷ []) ∙ ap (λ (l : List Exchange). first ++ l) e.parts ∙ sym (append_assoc first e.earlier e.path);
   none = from_both none_open first e.earlier ∙ ap (λ (s : Stand). progress_from s e.earlier) none ∙ e.none;
   old = e.old;
-  shut = e.shut;
+  idle = e.idle;
+  stays = e.stays;
   planned = e.planned;
   effect = e.effect;
   done = e.done;
 }
 
-both_end : (around : Around) (statement : Statement) (others : List Statement) (exchanges first second : List Exchange) → exchanges ≡ first ++ second → CommitsEnd around (statement ∷ others) first → progress_of first ≡ none_open → CommitsEnd around others second
-    → CommitsEnd around (statement ∷ others) exchanges
-both_end around statement others exchanges first second parts one none two before later x is commit = by_splits (splits first second before x later (sym parts ∙ is))
+both_end : (around : Around) (statement : Statement) (others : List Statement) (settings : Settings) (exchanges first second : List Exchange) → exchanges ≡ first ++ second → CommitsEnd around (statement ∷ others) settings first → progress_of first ≡ none_open
+    → CommitsEnd around others settings second → CommitsEnd around (statement ∷ others) settings exchanges
+both_end around statement others settings exchanges first second parts one none two before later x is commit = by_splits (splits first second before x later (sym parts ∙ is))
   where
-    by_splits : Splits first second before x later → EndsWork around (statement ∷ others) before x
+    by_splits : Splits first second before x later → EndsWork around (statement ∷ others) settings before x
     by_splits (inl on) = one before on.0 x on.1 commit
-    by_splits (inr on) = later_ends around statement others first before on.0 x none on.1 (two on.0 later x on.2 commit)
+    by_splits (inr on) = later_ends around statement others settings first before on.0 x none on.1 (two on.0 later x on.2 commit)
 
-nothing_ends : (around : Around) (statements : List Statement) (exchanges : List Exchange) → exchanges ≡ [] → CommitsEnd around statements exchanges
-nothing_ends around statements exchanges none before later x is commit = absurd (no_element before x later (sym none ∙ is))
+nothing_ends : (around : Around) (statements : List Statement) (settings : Settings) (exchanges : List Exchange) → exchanges ≡ [] → CommitsEnd around statements settings exchanges
+nothing_ends around statements settings exchanges none before later x is commit = absurd (no_element before x later (sym none ∙ is))
 
 module _ (levels : ℕ) (around : Around) where
   abbrev one : Statement → Around → Doing Exit
   one inner at = mean_of levels inner at
 
-  run_ends : (statements : List Statement) (p new : SessionProgress) (exchanges : List Exchange) → ArePlain statements → IsIdle p → Left (each_of one statements around) p exchanges new → CommitsEnd around statements exchanges
+  run_ends : (statements : List Statement) (p new : SessionProgress) (exchanges : List Exchange) → ArePlain statements → IsIdle p → Left (each_of one statements around) p exchanges new → CommitsEnd around statements p.settings exchanges
   unfolding each_of Left
-  run_ends [] p new exchanges plain_all idle left = nothing_ends around [] exchanges left.0
+  run_ends [] p new exchanges plain_all idle left = nothing_ends around [] p.settings exchanges left.0
   run_ends (statement ∷ others) p new exchanges plain_all idle left =
       by_left (λ q back now rest. run_ends others q new back plain_all.1 now rest) (left_apart (one statement around) (λ exit. goes_on (each_of one others around) exit) p new exchanges left)
     where
-      by_came : (back : List Exchange) (mid : SessionProgress) (came : Exit) → IsIdle mid → ((q : SessionProgress) (back : List Exchange) → IsIdle q → Left (each_of one others around) q back new → CommitsEnd around others back) → Left (goes_on (each_of one others around) came) mid back new → CommitsEnd around others back
+      by_came : (back : List Exchange) (mid : SessionProgress) (came : Exit) → IsIdle mid → ((q : SessionProgress) (back : List Exchange) → IsIdle q → Left (each_of one others around) q back new → CommitsEnd around others q.settings back) → Left (goes_on (each_of one others around) came) mid back new → CommitsEnd around others mid.settings back
       by_came back mid On now goes rest = goes mid back now rest
-      by_came back mid Leave now goes rest = nothing_ends around others back rest.0
-      by_came back mid Again now goes rest = nothing_ends around others back rest.0
-      by_came back mid Return now goes rest = nothing_ends around others back rest.0
-      by_came back mid (Raise raised) now goes rest = nothing_ends around others back rest.0
-      by_came back mid End now goes rest = nothing_ends around others back rest.0
+      by_came back mid Leave now goes rest = nothing_ends around others mid.settings back rest.0
+      by_came back mid Again now goes rest = nothing_ends around others mid.settings back rest.0
+      by_came back mid Return now goes rest = nothing_ends around others mid.settings back rest.0
+      by_came back mid (Raise raised) now goes rest = nothing_ends around others mid.settings back rest.0
+      by_came back mid End now goes rest = nothing_ends around others mid.settings back rest.0
 
-      by_left : ((q : SessionProgress) (back : List Exchange) → IsIdle q → Left (each_of one others around) q back new → CommitsEnd around others back)
-          → Left (one statement around) p exchanges new ⊎ Apart (one statement around) p exchanges (λ came mid back. Left (goes_on (each_of one others around) came) mid back new) → CommitsEnd around (statement ∷ others) exchanges
-      by_left goes (inl here) = mean_ends levels around statement others p new exchanges plain_all.0 idle.shut here
+      by_left : ((q : SessionProgress) (back : List Exchange) → IsIdle q → Left (each_of one others around) q back new → CommitsEnd around others q.settings back)
+          → Left (one statement around) p exchanges new ⊎ Apart (one statement around) p exchanges (λ came mid back. Left (goes_on (each_of one others around) came) mid back new) → CommitsEnd around (statement ∷ others) p.settings exchanges
+      by_left goes (inl here) = mean_ends levels around statement others p new exchanges plain_all.0 idle here
       by_left goes (inr on) =
           let closed = mean_closed levels around statement p on.mid on.front on.came plain_all.0 idle on.held in
-          both_end around statement others exchanges on.front on.back on.parts (mean_ends levels around statement others p on.mid on.front plain_all.0 idle.shut (held_left (one statement around) p on.mid on.front on.came on.held)) closed.none
-          (by_came on.back on.mid on.came closed.idle goes on.rest)
+          both_end around statement others p.settings exchanges on.front on.back on.parts (mean_ends levels around statement others p on.mid on.front plain_all.0 idle (held_left (one statement around) p on.mid on.front on.came on.held)) closed.none
+          (subst (λ (s : Settings). CommitsEnd around others s on.back) closed.stays.settings (by_came on.back on.mid on.came closed.idle goes on.rest))
 
-left_commits : (statements : List Statement) (old new : SessionProgress) (exchanges : List Exchange) → ArePlain statements → IsIdle old → Left (batch (text.Statements statements)) old exchanges new → CommitsEnd around_batch statements exchanges
+left_commits : (statements : List Statement) (old new : SessionProgress) (exchanges : List Exchange) → ArePlain statements → IsIdle old → Left (batch (text.Statements statements)) old exchanges new → CommitsEnd around_batch statements old.settings exchanges
 unfolding batch Left
 left_commits statements old new exchanges plain_all idle left = by_begins left
   where
@@ -331,16 +334,16 @@ left_commits statements old new exchanges plain_all idle left = by_begins left
     now : IsIdle begun
     now = record { shut = idle.shut; closed = idle.closed; sound = idle.sound }
 
-    by_apart : Left (meaning statement_limit statements around_batch) begun exchanges new ⊎ Apart (meaning statement_limit statements around_batch) begun exchanges (λ exit mid back. Left (ends exit) mid back new) → CommitsEnd around_batch statements exchanges
+    by_apart : Left (meaning statement_limit statements around_batch) begun exchanges new ⊎ Apart (meaning statement_limit statements around_batch) begun exchanges (λ exit mid back. Left (ends exit) mid back new) → CommitsEnd around_batch statements old.settings exchanges
     by_apart (inl here) = run_ends statement_limit around_batch statements begun new exchanges plain_all now here
     by_apart (inr on) =
         let ran = plain_run statement_limit around_batch statements begun on.mid on.front on.came plain_all now on.held in
         let whole : on.front ≡ exchanges = sym (on.parts ∙ ap (λ (l : List Exchange). on.front ++ l) (ends_quiet on.came on.mid new on.back ran.2.sound on.rest) ∙ append-nil on.front) in
-        subst (CommitsEnd around_batch statements) whole
+        subst (CommitsEnd around_batch statements old.settings) whole
         (run_ends statement_limit around_batch statements begun on.mid on.front plain_all now (held_left (meaning statement_limit statements around_batch) begun on.mid on.front on.came on.held))
 
-    by_begins : ((exchanges ≡ []) × (new ≡ old)) ⊎ Left (meaning statement_limit statements around_batch then ends) begun exchanges new → CommitsEnd around_batch statements exchanges
-    by_begins (inl here) = nothing_ends around_batch statements exchanges here.0
+    by_begins : ((exchanges ≡ []) × (new ≡ old)) ⊎ Left (meaning statement_limit statements around_batch then ends) begun exchanges new → CommitsEnd around_batch statements old.settings exchanges
+    by_begins (inl here) = nothing_ends around_batch statements old.settings exchanges here.0
     by_begins (inr later) = by_apart (left_apart (meaning statement_limit statements around_batch) ends begun new exchanges later)
 
 pub batch_commits : BatchCommits

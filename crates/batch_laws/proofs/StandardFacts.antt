@@ -13,6 +13,8 @@ use Rattle.step_model.specs.Fits.{commit_of}
 use Rattle.step_model.specs.Net.{Net}
 use Rattle.step_model.specs.Own.{MarkedAt, Progress as Stand, none_open}
 use Rattle.constraint_check.specs.Reads.{rows_table}
+use Rattle.txn_rules.specs.declared.state.TxnState.{TxnState}
+use Rattle.txn_rules.specs.State.{is_closed}
 use Rattle.batch_meaning.specs.declared.exit.Exit.TheVariants.{On, End, Return, Raise}
 use Rattle.batch_meaning.specs.declared.raised.Raised.{Raised}
 use Rattle.batch_meaning.specs.Changing.{created}
@@ -79,13 +81,17 @@ module _ (manner : Manner) (name text : List ℕ) (mark place : ℕ) where
   all_committed = (refl, refl)
 
 -- an error that ends its statement is told, and the batch goes on
-told_on : (manner : Manner) (is_open : Bool) (serial command : ℕ) (raised : Raised) → StrikesBy manner false act.Statement is_open serial command raised On (error_token raised ∷ statement_failed command ∷ []) []
-told_on manner is_open serial command raised = (refl, refl, refl)
+told_on : (manner : Manner) (is_open : Bool) (txn : TxnState) (command : ℕ) (raised : Raised) → StrikesBy manner false act.Statement is_open txn command raised On (error_token raised ∷ statement_failed command ∷ []) [] txn
+told_on manner is_open txn command raised = (refl, refl, refl, refl)
 
 -- one that is caught sends nothing
-caught_silent : (manner : Manner) (is_open : Bool) (serial command : ℕ) (raised : Raised) → StrikesBy manner true act.Statement is_open serial command raised (Raise raised) [] []
-caught_silent manner is_open serial command raised = (refl, refl, refl)
+caught_silent : (manner : Manner) (is_open : Bool) (txn : TxnState) (command : ℕ) (raised : Raised) → StrikesBy manner true act.Statement is_open txn command raised (Raise raised) [] [] txn
+caught_silent manner is_open txn command raised = (refl, refl, refl, refl)
+
+-- but one that would end the transaction dooms it
+caught_dooms : (manner : Manner) (is_open : Bool) (txn : TxnState) (command : ℕ) (raised : Raised) → is_closed txn ≡ false → StrikesBy manner true act.Doom is_open txn command raised (Raise raised) [] [] (record txn { doomed = true })
+caught_dooms manner is_open txn command raised is = rw is (refl, refl, refl, refl)
 
 -- one that would end a transaction ends the batch alone where none is open
-told_alone : (manner : Manner) (serial command : ℕ) (raised : Raised) → StrikesBy manner false act.BatchAndTransaction false serial command raised End (error_token raised ∷ []) []
-told_alone manner serial command raised = (refl, refl, refl)
+told_alone : (manner : Manner) (txn : TxnState) (command : ℕ) (raised : Raised) → StrikesBy manner false act.BatchAndTransaction false txn command raised End (error_token raised ∷ []) [] txn
+told_alone manner txn command raised = (refl, refl, refl, refl)

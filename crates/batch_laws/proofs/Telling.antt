@@ -26,8 +26,8 @@ use Rattle.statement_paths.proofs.Owned.{Owned, Refused, entered, own_held}
 use Rattle.statement_paths.proofs.Working.{values_read}
 use Rattle.statement_paths.proofs.Works.{prepares_reads, reads_work}
 use Rattle.batch_laws.specs.Committing.{Agrees, Leaves}
-use Rattle.batch_laws.specs.Laws.{EffectTells, GoesBy, MessageLeaves, TestLeaves, WorkTells}
-use Rattle.batch_laws.proofs.Ending.{fails_held, succeeds_held}
+use Rattle.batch_laws.specs.Laws.{EffectTells, ErrorStrikes, GoesBy, MessageLeaves, TestLeaves, WorkTells}
+use Rattle.batch_laws.proofs.Ending.{fails_held, raises_held, succeeds_held}
 use Rattle.batch_laws.proofs.Leaving.{fetch_stand, wrote_fetches}
 use Rattle.batch_laws.proofs.Statements.{begin_refused, done_leaves, fails_leave, none_leaves}
 
@@ -41,10 +41,14 @@ work_tells A around statement exit go work old new exchanges held =
   where
     by_came : (mid : SessionProgress) (back : List Exchange) (result : Result A Failure) → Held (concluded around statement go result) mid back exit new → GoesBy around mid statement go exit result back new
     by_came mid back (Ok a) rest = rest
-    by_came mid back (Err failure) rest = let struck = fails_held around statement failure mid mid new back exit refl refl rest in (struck.tokens, struck.sent, struck.strikes)
+    by_came mid back (Err failure) rest = let struck = fails_held around statement failure mid mid new back exit refl rest in (struck.tokens, struck.sent, struck.strikes)
+
+pub error_strikes : ErrorStrikes
+error_strikes around statement raised exit old new exchanges held = let struck = raises_held around statement raised old old new exchanges exit refl held in (struck.tokens, struck.sent, struck.strikes)
 
 pub effect_tells : EffectTells
-effect_tells statement effect exit came old new exchanges held = let end = succeeds_held statement effect exit came old new exchanges held in (end.0, end.1, end.2, end.3)
+effect_tells statement effect exit came old new exchanges held = let end = succeeds_held statement effect exit came old new exchanges held in
+    (end.0, end.1, ap (λ (q : SessionProgress). q.tokens) end.2, ap (λ (q : SessionProgress). q.is_open) end.2, end.2)
 
 -- ---- what only reads
 

@@ -19,6 +19,7 @@ use Rattle.statement_paths.proofs.Apart.{held_apart}
 use Rattle.batch_laws.specs.Committing.{exit_for, is_plain, Agrees, IfOn, InTurn}
 use Rattle.batch_laws.specs.Laws.{EachInTurn, PlainEnds}
 use Rattle.batch_laws.proofs.Statements.{none_leaves}
+use Rattle.batch_laws.proofs.Idle.{mean_keeps}
 use Rattle.batch_laws.proofs.Ending.{Ended, Struck, does_held, fail_leaves, fails_held, full_or, raises_held}
 
 -- ---- each in turn
@@ -71,13 +72,13 @@ plain_form one around statement form p new exchanges exit is held = held
 
 module _ (around : Around) (statement : Statement) (p new : SessionProgress) (exchanges : List Exchange) (exit : Exit) (before : Stand) (agrees : Agrees p.is_open before) where
   -- where its error strikes before it asks anything
-  unasked_ended : (failure : Failure) → Struck around p statement (full_or around p statement (raised_at (line_of statement) failure)) exit exchanges new → Ended around statement p new exchanges exit before agrees
+  unasked_ended : (failure : Failure) → Struck around p p.txn statement (full_or around p statement (raised_at (line_of statement) failure)) exit exchanges new → Ended around statement p new exchanges exit before agrees
   unasked_ended failure struck = (
     struck.tokens,
     [],
     struck.sent,
-    inr (refl, (failure, [], exchanges, refl, inl refl, struck.strikes)),
-    fail_leaves around statement p new exchanges exit before agrees failure [] exchanges struck.tokens refl (inl (none_leaves p.is_open before [] agrees refl)) struck.strikes struck.stays,
+    inr (refl, (failure, [], exchanges, p.txn, refl, inl refl, record { serial = refl; opened = λ is. refl }, struck.strikes)),
+    fail_leaves around statement p new exchanges exit before agrees failure [] exchanges struck.tokens p.txn refl (inl (none_leaves p.is_open before [] agrees refl)) struck.strikes struck.stays,
   )
 
   -- as it begins
@@ -86,14 +87,14 @@ module _ (around : Around) (statement : Statement) (p new : SessionProgress) (ex
   begun_ended one plain_one held = by_doom (p.txn.doomed && is_refused_doomed (form_of statement)) held
     where
       by_doom : (refused : Bool) → Held (if refused then fails_for around statement (plain doomed_write) else mean_form one around statement (form_of statement)) p exchanges exit new → Ended around statement p new exchanges exit before agrees
-      by_doom true was = unasked_ended (plain doomed_write) (fails_held around statement (plain doomed_write) p p new exchanges exit refl refl was)
+      by_doom true was = unasked_ended (plain doomed_write) (fails_held around statement (plain doomed_write) p p new exchanges exit refl was)
       by_doom false was = does_held around statement p new exchanges exit before agrees (plain_form one around statement (form_of statement) p new exchanges exit plain_one was)
 
 -- where none may begin any more
 spent_ended : (around : Around) (statement : Statement) (old new : SessionProgress) (exchanges : List Exchange) (exit : Exit) (before : Stand) (agrees : Agrees old.is_open before) → Held (spends statement around) old exchanges exit new
     → Ended around statement (made counts old) new exchanges exit before agrees
 spent_ended around statement old new exchanges exit before agrees held =
-    let struck = raises_held around statement (raised_at (line_of statement) (plain statements_spent)) old old new exchanges exit refl refl held in
+    let struck = raises_held around statement (raised_at (line_of statement) (plain statements_spent)) old old new exchanges exit refl held in
     unasked_ended around statement (made counts old) new exchanges exit before agrees (plain statements_spent) (record { tokens = struck.tokens; sent = struck.sent; strikes = struck.strikes; stays = struck.stays })
 
 pub mean_ended : (levels : ℕ) (around : Around) (statement : Statement) (old new : SessionProgress) (exchanges : List Exchange) (exit : Exit) (before : Stand) (agrees : Agrees old.is_open before) → is_plain (form_of statement) ≡ true
@@ -107,4 +108,4 @@ mean_ended (suc levels) around statement old new exchanges exit before agrees pl
     by_left false was = begun_ended around statement (made counts old) new exchanges exit before agrees (λ inner at. mean_of levels inner at) plain_one was
 
 pub plain_ends : PlainEnds
-plain_ends levels around statement old new exchanges exit before plain_one agrees held = mean_ended levels around statement old new exchanges exit before agrees plain_one held
+plain_ends levels around statement old new exchanges exit before plain_one agrees held = (mean_ended levels around statement old new exchanges exit before agrees plain_one held, mean_keeps levels around statement old new exchanges exit plain_one held)

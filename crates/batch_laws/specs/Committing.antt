@@ -1,7 +1,7 @@
 -- Own: what a statement leaves of its transaction and commits, and what it sends, beside what it has asked. One that succeeded in an open
 -- transaction has left its changes behind what that had written; one in a transaction of its own has committed them, as one commit, where
 -- they change anything. One that failed has left the transaction as it was, or its error has ended it.
-use Rattle.std.specs.Prelude.{◌≡◌, ◌⊎◌, ℕ, Bool, true, false, List, [], ◌∷◌, ◌++◌, Result, Ok, Err}
+use Rattle.std.specs.Prelude.{◌≡◌, ◌⊎◌, ℕ, pos, min, if◌then◌else◌, Bool, true, false, List, [], ◌∷◌, ◌++◌, Result, Ok, Err}
 use Rattle.std.specs.List.{AllByRecursion}
 use Rattle.tsql_tree.specs.declared.statement.Form.{Form-F}
 use Rattle.tsql_tree.specs.declared.statement.Statement.{Statement}
@@ -20,17 +20,19 @@ use Rattle.step_model.specs.Own.{Progress as Stand, none_open, progress_from}
 use Rattle.dml_exec.specs.declared.refusal.Refusal.{Refusal}
 use Rattle.dml_exec.specs.declared.written.Written.{Written}
 use Rattle.dml_exec.specs.declared.written.Written.TheVariants as written
-use Rattle.txn_rules.specs.State.{is_closed}
+use Rattle.txn_rules.specs.declared.state.TxnState.{TxnState}
+use Rattle.txn_rules.specs.State.{after_end, is_closed}
 use Rattle.tds_tokens.specs.declared.token.Token.{Token}
 use Rattle.batch_meaning.specs.declared.exit.Exit.{Exit}
 use Rattle.batch_meaning.specs.declared.exit.Exit.TheVariants.{On, Leave, Again, Return, Raise, End}
 use Rattle.batch_meaning.specs.declared.failure.Failure.{Failure}
 use Rattle.batch_meaning.specs.declared.raised.Raised.{Raised}
-use Rattle.batch_meaning.specs.Meaning.{line_of, or_full, told_tokens}
-use Rattle.batch_meaning.specs.Progress.{SessionProgress, counts, made}
+use Rattle.batch_meaning.specs.Meaning.{leaves_rows, line_of, or_full, told_tokens}
+use Rattle.batch_meaning.specs.Progress.{SessionProgress, after_doom, assigns, counts, greatest_count, made}
 use Rattle.batch_meaning.specs.Raised.{Around, action_in, error_token, is_caught_in, raised_at}
 use Rattle.batch_meaning.specs.Selecting.{Effect}
 use Rattle.batch_meaning.specs.Tokens.{command_of, transaction_rolled_back}
+use Rattle.batch_meaning.specs.Values.{Assigned}
 use Rattle.statement_paths.specs.Paths.{HasDone, HasFailed, replied}
 
 -- ---- the changes of a write
@@ -69,23 +71,31 @@ exit_behind act.Doom = On
 exit_behind act.Batch = End
 exit_behind act.BatchAndTransaction = End
 
--- An error strikes, by whether it is caught, by what it ends, by whether a transaction is open, and by its number: one that is caught is raised and not
--- told; one that ends an open transaction is told, and that is rolled back, and told; any other is told.
-abbrev pub StrikesBy : Manner → Bool → Action → Bool → ℕ → ℕ → Raised → Exit → List Token → List Exchange → Type 0
-StrikesBy manner true action is_open serial command raised exit tokens exchanges = (exit ≡ Raise raised) × (tokens ≡ []) × (exchanges ≡ [])
-StrikesBy manner false act.BatchAndTransaction true serial command raised exit tokens exchanges = (exit ≡ End)
-    × ((place : ℕ) × (exchanges ≡ replied manner Rollback (Ended place) ∷ [])) × (tokens ≡ error_token raised ∷ transaction_rolled_back serial ∷ [])
-StrikesBy manner false action is_open serial command raised exit tokens exchanges = (exit ≡ exit_behind action) × (tokens ≡ told_tokens action command raised) × (exchanges ≡ [])
+-- what an error that is caught makes of its transaction: one that would end it dooms it, where it is open
+abbrev pub caught_txn : Action → TxnState → TxnState
+caught_txn act.Statement txn = txn
+caught_txn act.Doom txn = after_doom txn
+caught_txn act.Batch txn = txn
+caught_txn act.BatchAndTransaction txn = txn
 
--- as it is raised
-abbrev pub StrikesAs : Around → SessionProgress → Statement → Raised → Exit → List Token → List Exchange → Type 0
-StrikesAs around p statement raised exit tokens exchanges =
-    StrikesBy p.settings.manner (is_caught_in around raised) (action_in around p.settings.xact_abort raised) p.is_open p.txn.serial (command_of (form_of statement)) raised exit tokens exchanges
+-- An error strikes, by whether it is caught, by what it ends, and by whether a transaction is open: one that is caught is raised and not
+-- told, and may doom its transaction; one that ends an open transaction is told, and that is rolled back, and told; any other is told, and
+-- leaves its transaction. The state of that is given where the error strikes, and behind it.
+abbrev pub StrikesBy : Manner → Bool → Action → Bool → TxnState → ℕ → Raised → Exit → List Token → List Exchange → TxnState → Type 0
+StrikesBy manner true action is_open txn command raised exit tokens exchanges after = (exit ≡ Raise raised) × (tokens ≡ []) × (exchanges ≡ []) × (after ≡ caught_txn action txn)
+StrikesBy manner false act.BatchAndTransaction true txn command raised exit tokens exchanges after = (exit ≡ End)
+    × ((place : ℕ) × (exchanges ≡ replied manner Rollback (Ended place) ∷ [])) × (tokens ≡ error_token raised ∷ transaction_rolled_back txn.serial ∷ []) × (after ≡ after_end txn)
+StrikesBy manner false action is_open txn command raised exit tokens exchanges after = (exit ≡ exit_behind action) × (tokens ≡ told_tokens action command raised) × (exchanges ≡ []) × (after ≡ txn)
+
+-- as it is raised, with its number in @@ERROR
+abbrev pub StrikesAs : Around → SessionProgress → TxnState → Statement → Raised → Exit → List Token → List Exchange → SessionProgress → Type 0
+StrikesAs around p txn statement raised exit tokens exchanges new =
+    StrikesBy p.settings.manner (is_caught_in around raised) (action_in around p.settings.xact_abort raised) p.is_open txn (command_of (form_of statement)) raised exit tokens exchanges new.txn × (new.error ≡ raised.number)
 
 -- where it is not caught, and the batch may send too little to tell it, it is one that says so
-abbrev pub Strikes : Around → SessionProgress → Statement → Raised → Exit → List Token → List Exchange → Type 0
-Strikes around p statement raised exit tokens exchanges =
-    StrikesAs around p statement (or_full around p (command_of (form_of statement)) (line_of statement) raised) exit tokens exchanges
+abbrev pub Strikes : Around → SessionProgress → TxnState → Statement → Raised → Exit → List Token → List Exchange → SessionProgress → Type 0
+Strikes around p txn statement raised exit tokens exchanges new =
+    StrikesAs around p txn statement (or_full around p (command_of (form_of statement)) (line_of statement) raised) exit tokens exchanges new
 
 -- ---- a statement that is done with its effect
 
@@ -94,21 +104,42 @@ abbrev pub exit_for : Layer → Exit
 exit_for (Form-F.Return value) = Return
 exit_for form = On
 
--- it succeeded: it has done its work, and sent what that came to
-abbrev pub Succeeds : Around → SessionProgress → Statement → Exit → List Token → List Planned → List Exchange → Type 0
-Succeeds around p statement exit tokens planned exchanges = (exit ≡ exit_for (form_of statement)) × ((effect : Effect) × HasDone around p statement planned effect exchanges × (tokens ≡ effect.tokens))
+-- the session behind assignments, one after another
+abbrev pub assigned_all : List Assigned → SessionProgress → SessionProgress
+assigned_all [] p = p
+assigned_all (one ∷ sets) p = assigned_all sets (made (assigns one.0 one.1) p)
+
+-- @@ROWCOUNT behind a statement of this form
+abbrev pub rows_behind : Layer → ℕ → ℕ → ℕ
+rows_behind form rows before = if leaves_rows form then before else min rows greatest_count
+
+-- the session behind an effect: its variables are assigned, @@ROWCOUNT and @@ERROR set, and its tokens sent
+abbrev pub behind_effect : Layer → Effect → SessionProgress → SessionProgress
+behind_effect form effect p =
+    record p { vars = (assigned_all effect.sets p).vars; row_count = rows_behind form effect.rows p.row_count; error = pos 0; tokens = p.tokens ++ effect.tokens }
+
+-- The state of a transaction behind the work of a statement: its number stays, and where it was open, at most its savepoints are others.
+pub record IsWithin (p : SessionProgress) (txn : TxnState) : Type 0 where
+  pub serial : txn.serial ≡ p.txn.serial
+  pub opened : p.is_open ≡ true → txn ≡ record p.txn { saves = txn.saves }
+
+-- it succeeded: it has done its work, sent what that came to, set @@ROWCOUNT and @@ERROR, and assigned variables
+abbrev pub Succeeds : Around → SessionProgress → Statement → Exit → List Token → List Planned → List Exchange → SessionProgress → Type 0
+Succeeds around p statement exit tokens planned exchanges new = (exit ≡ exit_for (form_of statement)) × ((effect : Effect) × HasDone around p statement planned effect exchanges × (tokens ≡ effect.tokens)
+    × (new.row_count ≡ rows_behind (form_of statement) effect.rows p.row_count) × (new.error ≡ pos 0) × (new.vars ≡ (assigned_all effect.sets p).vars) × IsWithin p new.txn)
 
 -- it failed, and its error struck
-abbrev pub Fails : Around → SessionProgress → Statement → Exit → List Token → List Exchange → Type 0
-Fails around p statement exit tokens exchanges = (failure : Failure) × (work behind : List Exchange) × (exchanges ≡ work ++ behind)
-    × HasFailed around p statement failure work × Strikes around p statement (raised_at (line_of statement) failure) exit tokens behind
+abbrev pub Fails : Around → SessionProgress → Statement → Exit → List Token → List Exchange → SessionProgress → Type 0
+Fails around p statement exit tokens exchanges new = (failure : Failure) × (work behind : List Exchange) × (struck : TxnState) × (exchanges ≡ work ++ behind)
+    × HasFailed around p statement failure work × IsWithin p struck × Strikes around p struck statement (raised_at (line_of statement) failure) exit tokens behind new
 
 -- what it planned stays where it succeeded
-abbrev pub Ends : Around → SessionProgress → Statement → Exit → List Token → List Planned → List Exchange → Type 0
-Ends around p statement exit tokens planned exchanges = Succeeds around p statement exit tokens planned exchanges ⊎ ((planned ≡ []) × Fails around p statement exit tokens exchanges)
+abbrev pub Ends : Around → SessionProgress → Statement → Exit → List Token → List Planned → List Exchange → SessionProgress → Type 0
+Ends around p statement exit tokens planned exchanges new = Succeeds around p statement exit tokens planned exchanges new ⊎ ((planned ≡ []) × Fails around p statement exit tokens exchanges new)
 
 -- The forms of statements that are done with their effect: SELECT, INSERT, UPDATE, DELETE, CREATE TABLE, DROP, DECLARE, SET of a variable and
--- RETURN. The others hold statements, begin or end transactions, set options, or raise errors and send messages of their own.
+-- RETURN; and EXEC and the statements of cursors, which are not built. The others hold statements, begin or end transactions, set options,
+-- or raise errors and send messages of their own.
 abbrev pub is_plain : Layer → Bool
 is_plain (Form-F.If test so otherwise) = false
 is_plain (Form-F.While test body) = false
@@ -130,6 +161,19 @@ is_plain form = true
 abbrev pub ArePlain : List Statement → Type 0
 ArePlain statements = AllByRecursion (λ statement. is_plain (form_of statement) ≡ true) statements
 
+-- ---- what stays of a session
+
+-- no transaction is open, and BEGIN TRANSACTION has opened none
+pub record IsIdle (p : SessionProgress) : Type 0 where
+  pub shut : p.is_open ≡ false
+  pub closed : is_closed p.txn ≡ true
+  pub sound : p.txn.doomed ≡ false
+
+-- what a plain statement leaves as it was: all that SET has set, with its manner and its level, and the number of the transaction
+pub record Stays (p new : SessionProgress) : Type 0 where
+  pub settings : new.settings ≡ p.settings
+  pub serial : new.txn.serial ≡ p.txn.serial
+
 -- ---- statements one after another
 
 -- where they go on this holds, and else that
@@ -148,11 +192,11 @@ InTurn Does (statement ∷ others) p exchanges exit new = (came : Exit) × (mid 
     × IfOn came (InTurn Does others mid back exit new) ((back ≡ []) × (exit ≡ came) × (new ≡ mid))
 
 -- Plain statements one after another, where no transaction is open, until one leaves the others, have sent these tokens and committed this.
--- Each counts as it begins.
+-- Each counts as it begins, and finds the session as the one before it has left it: set as it was, with nothing open.
 abbrev pub Runs : Around → List Statement → SessionProgress → Exit → List Token → Commits → List Exchange → SessionProgress → Type 0
 Runs around [] p exit tokens commits exchanges new = (exit ≡ On) × (tokens ≡ []) × (commits ≡ []) × (exchanges ≡ []) × (new ≡ p)
 Runs around (statement ∷ others) p exit tokens commits exchanges new = (came : Exit) × (mid : SessionProgress) × (sent later : List Token) × (planned : List Planned) × (rest : Commits) × (front back : List Exchange)
-    × (tokens ≡ sent ++ later) × (commits ≡ commit_of (Net planned) ++ rest) × (exchanges ≡ front ++ back) × Ends around (made counts p) statement came sent planned front
+    × (tokens ≡ sent ++ later) × (commits ≡ commit_of (Net planned) ++ rest) × (exchanges ≡ front ++ back) × Ends around (made counts p) statement came sent planned front mid × Stays p mid × IsIdle mid
     × IfOn came (Runs around others mid exit later rest back new) ((exit ≡ came) × (later ≡ []) × (rest ≡ []) × (back ≡ []) × (new ≡ mid))
 
 -- One that was left in the middle, where no transaction was open, has committed nothing, or done all its work.
@@ -164,10 +208,4 @@ abbrev pub LeftRuns : Around → List Statement → SessionProgress → Commits 
 LeftRuns around [] p commits exchanges = (commits ≡ []) × (exchanges ≡ [])
 LeftRuns around (statement ∷ others) p commits exchanges = LeftAt around (made counts p) statement commits exchanges
     ⊎ ((came : Exit) × (mid : SessionProgress) × (sent : List Token) × (planned : List Planned) × (rest : Commits) × (front back : List Exchange)
-    × (commits ≡ commit_of (Net planned) ++ rest) × (exchanges ≡ front ++ back) × Ends around (made counts p) statement came sent planned front × IfOn came (LeftRuns around others mid rest back) ((rest ≡ []) × (back ≡ [])))
-
--- no transaction is open, and BEGIN TRANSACTION has opened none
-pub record IsIdle (p : SessionProgress) : Type 0 where
-  pub shut : p.is_open ≡ false
-  pub closed : is_closed p.txn ≡ true
-  pub sound : p.txn.doomed ≡ false
+    × (commits ≡ commit_of (Net planned) ++ rest) × (exchanges ≡ front ++ back) × Ends around (made counts p) statement came sent planned front mid × Stays p mid × IsIdle mid × IfOn came (LeftRuns around others mid rest back) ((rest ≡ []) × (back ≡ [])))

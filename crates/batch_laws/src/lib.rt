@@ -11,7 +11,7 @@
 ghost use Rattle.std.specs.Prelude.{Bool};
 ghost use Rattle.batch_meaning.specs.declared.raised.Raised.{Raised};
 ghost use Rattle.batch_meaning.specs.Selecting.{Effect};
-ghost use Rattle.batch_laws.specs.Laws.{BatchCommits, BatchRuns, EachInTurn, EffectTells, FailureLeaves, LeftRun, MessageLeaves, PlainEnds, PlainRun, RefusedEnds, StatementEnds, TestLeaves, UnbuiltEnds, WorkLeaves, WorkTells, WritesWhole};
+ghost use Rattle.batch_laws.specs.Laws.{BatchCommits, BatchRuns, EachInTurn, EffectTells, ErrorStrikes, FailureLeaves, LeftRun, MessageLeaves, PlainEnds, PlainRun, RefusedEnds, StatementEnds, TestLeaves, UnbuiltEnds, WorkLeaves, WorkTells, WritesWhole};
 ghost use Rattle.batch_laws.specs.Transactions.{BeginLeaves, CommitLeaves, RollbackLeaves, SaveLeaves};
 
 /// The changes of a write stay whole or not at all: where they were made and checked they stand behind what the
@@ -30,7 +30,8 @@ pub fn law_work()
 {}
 
 /// A statement that is done with its effect has done its work, sent what that came to and left its changes; or it has
-/// failed, its error has struck, and the transaction is as it was, or rolled back.
+/// failed, its error has struck, and the transaction is as it was, or rolled back. What is assigned and counted is told of its
+/// session, and so is the state of its transaction; all that SET has set stays.
 #[tactic(auto, using(crate::proofs::Ending::statement_ends, crate::proofs::Turns::plain_ends))]
 pub fn law_statement()
     ensures ends { StatementEnds }
@@ -38,13 +39,15 @@ pub fn law_statement()
 {}
 
 /// Whatever a statement does comes first, and then it goes on by what that came to, or its error strikes; one that is done
-/// with its effect sends its tokens.
-#[tactic(auto, using(crate::proofs::Telling::effect_tells))]
+/// with its effect sends its tokens, and leaves its session as that says. An error that is caught and would end the transaction
+/// dooms it.
+#[tactic(auto, using(crate::proofs::Telling::effect_tells, crate::proofs::Telling::error_strikes))]
 pub fn law_told()
     ensures works { WorkTells Effect }
     ensures tests { WorkTells Bool }
     ensures messages { WorkTells Raised }
     ensures effect { EffectTells }
+    ensures errors { ErrorStrikes }
 {}
 
 /// A test and a message only read, and leave their transaction as it was.
@@ -93,7 +96,7 @@ pub fn law_left()
 {}
 
 /// Each commit of such a batch, done or left, is the last exchange of a statement's own transaction, in which that did its
-/// work, and at whose beginning none was open.
+/// work, and at whose beginning none was open; all that SET has set is then as at the batch's beginning.
 pub fn law_commits()
     ensures { BatchCommits }
 {}
