@@ -6,7 +6,7 @@ use Rattle.tds_login.specs.declared.config.Config.{Config}
 use Rattle.tds_packets.specs.declared.message.Message.{Message}
 use Rattle.tds_packets.specs.Stream.{Splits}
 use Rattle.step_model.specs.Exchange.{Exchange}
-use Rattle.step_model.specs.Fits.{without_waits}
+use Rattle.step_model.specs.Fits.{Fits, without_waits}
 use Rattle.step_model.specs.Log.{Commit as Logged, State}
 use Rattle.step_model.specs.Runs.{Asked, Run, mine_of, opening}
 use Rattle.step_model.specs.State.{Engine}
@@ -50,6 +50,12 @@ pub record AreConnections (mine : List Exchange) : Type 0 where
 -- Each commit among those of a session keeps its database intact.
 abbrev pub ConnectionsKeep : Type 0
 ConnectionsKeep = (session : ℕ) (begin log : List Logged) (mine : List Exchange) → Tied session begin log mine → AreConnections mine → CommitsKeep log [] mine
+
+-- Where the exchanges of each session fit one log, each of them asked where it may come, and are those of connections, every database that the
+-- first commits of the log leave is intact.
+abbrev pub HistorySound : Type 0
+HistorySound = (log : List Logged) (mine : ℕ → List Exchange) → ((session : ℕ) → Tied session [] log (mine session)) → ((session : ℕ) → Fits session [] log (mine session))
+    → ((session : ℕ) → AreConnections (mine session)) → (place : ℕ) → Intact (State (take place log))
 
 -- Where each session has served connections, every database that the first commits of the log leave is intact.
 abbrev pub ConnectionsSound : Type 0

@@ -8,7 +8,7 @@
 //! of their caller; only the definitions that they cite say what they mean.
 #![tactic(auto)]
 
-ghost use Rattle.connection_laws.specs.Laws.{ConnectionAsks, ConnectionServed, ConnectionSound, ConnectionsKeep, ConnectionsSound};
+ghost use Rattle.connection_laws.specs.Laws.{ConnectionAsks, ConnectionServed, ConnectionSound, ConnectionsKeep, ConnectionsSound, HistorySound};
 
 /// What a connection has asked is what the batches of its requests ask, one behind another, each done, and each from where the
 /// one before it has come to; then, where the last response was not made, a front of what one more asks, and the rollback of
@@ -22,6 +22,12 @@ pub fn law_served_connection()
 /// defined in it.
 pub fn law_connections_keep()
     ensures { ConnectionsKeep }
+{}
+
+/// Where the exchanges of each session fit one log, and are those of connections, every database that the first commits of the
+/// log leave is sound, and no trigger is defined in it.
+pub fn law_history_sound()
+    ensures { HistorySound }
 {}
 
 /// In every run of any sessions that have served connections, one behind another, every database that the first commits of

@@ -19,7 +19,7 @@ use value_types::Memory;
 /// The engine of all sessions.
 #[derive(Debug, Drop)]
 pub struct Engine {
-    parts: Parts,
+    pub(crate) parts: Parts,
 }
 
 impl Model for Engine {

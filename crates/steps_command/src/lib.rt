@@ -15,3 +15,4 @@ pub use command::run_steps;
 pub use engine::ScriptEngine;
 pub use laws::law_script_run;
 pub use play::{Stop, play_script};
+pub use writing::write_whole;

@@ -8,7 +8,7 @@ ghost use Rattle.steps_command.specs.Command.{IsCutOff};
 use outside_io::{Sink, SinkFault};
 
 /// Writes all of the bytes.
-pub(crate) fn write_whole<K: Sink>(sink: &mut K, bytes: &[u8]) -> Result<(), SinkFault>
+pub fn write_whole<K: Sink>(sink: &mut K, bytes: &[u8]) -> Result<(), SinkFault>
     ensures written { OnOk result (Appends (K.written sink.old) (K.written sink.new) bytes.now) }
     ensures part { OnErr result (IsCutOff (K.written sink.old) (K.written sink.new) bytes.now) }
     ensures fault { result ≡ Err SinkFault.Failed → HasRisen (K.faults sink.old) (K.faults sink.new) }

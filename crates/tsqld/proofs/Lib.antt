@@ -1,2 +1,1 @@
-pub mod Words
-pub mod Pipes
+pub mod Runs  -- what the commands did, as the program tells it

@@ -1,4 +1,3 @@
 -- Read in this order; the comment behind a name says what the file is for.
-pub mod Program  -- Piped, EndsWell: words, statuses, and what `pipe` and `steps` do
--- Cited by private contracts alone.
-pub mod Command  -- config_of: the configuration of a command
+pub mod Program  -- Piped, HallServed: the statuses, and what the commands do
+pub mod Asking  -- AsksFor: which words ask for a command

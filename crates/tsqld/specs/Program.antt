@@ -1,110 +1,141 @@
--- Own: the words of the program, its statuses, and what `pipe` and `steps` do. It is said of the whole run; the
--- code calls the connection, and asks the port whether it tells.
-use Rattle.std.specs.Prelude.{◌≡◌, ℕ, ◌<◌, ◌≤◌, ◌⊎◌, Bool, true, false, List, [], ◌∷◌, length, map, take, Option, Some, is_some, IfSome, codes}
-use Rattle.std.specs.List.{All}
-use Rattle.value_types.specs.Units.{utf16_of}
+-- Own: the statuses of the program, and what its commands do. It is said of the whole run: of the words, the bytes that go in and
+-- out, the seats of the house and the connections of the hall; the code calls one layer after another.
+use Rattle.std.specs.Prelude.{◌≡◌, ℕ, ◌<◌, ◌⊎◌, ◌||◌, nat_lt, Bool, true, false, List, [], ◌++◌, length, take, drop, Option, IfSome, if◌then◌else◌, codes}
+use Rattle.std.specs.Fmt.{decimal}
+use Rattle.std.specs.Io.KnownBytes.{Appends}
 use Rattle.tds_login.specs.declared.config.Config.{Config}
+use Rattle.tds_login.specs.declared.config.Entry.{Entry}
 use Rattle.tds_login.specs.declared.config.Entry.TheVariants.{Login, Bare}
 use Rattle.tds_packets.specs.declared.message.Message.{Message}
 use Rattle.tds_packets.specs.Stream.{Splits}
 use Rattle.tds_packets.specs.Reading.{byte_limit}
-use Rattle.step_model.specs.Fits.{Fits, commits_of}
-use Rattle.step_model.specs.Log.{State}
-use Rattle.step_model.specs.State.{is_open}
-use Rattle.step_model.specs.Runs.{Run, opening}
-use Rattle.integrity_laws.specs.Sound.{Sound, Firm}
-use Rattle.engine_core.specs.Solo.{Solo, asked_by, solo_past}
+use Rattle.step_model.specs.Runs.{opening}
+use Rattle.outside_io.specs.Bytes.{HasRisen}
+use Rattle.steps_command.specs.Command.{IsCutOff}
 use Rattle.steps_command.specs.Play.{Stage, first_manners}
 use Rattle.session_server.specs.declared.end.End.{End}
 use Rattle.session_server.specs.declared.end.End.TheVariants.{Closed, Cut, BadHeader, TooLong, OutOfPlace, BadPrelogin, LoginRefused, BadBatch, Spent, ReadFault, WriteFault, Memory}
-use Rattle.session_server.specs.Conversation.{Conversation, IsUnended}
+use Rattle.session_server.specs.Conversation.{IsUnended}
+use Rattle.shared_port.specs.Asked.{EngineSeat}
+use Rattle.seat_server.specs.declared.tally.Tally.{Tally}
+use Rattle.seat_server.specs.Served.{ServedConnection}
+use Rattle.seat_server.specs.Workers.{AllWorked, Tallied}
+use Rattle.seat_server.specs.House.{ServesFirst}
+use Rattle.transfer_load.specs.Load.{Loaded}
 
--- ---- words
+-- how many seats the program's house has
+abbrev pub house_seats : ℕ
+house_seats = 64
 
--- this user may log in, with this password
-abbrev pub login_config : List ℕ → List ℕ → Config
-login_config user password = record { user = user; password = password; entry = Login }
+-- ---- configurations
 
--- the client is logged in from the beginning
-abbrev pub bare_config : Config
-bare_config = record { user = []; password = []; entry = Bare }
+-- a client logs in as this user with this password, or is logged in from the beginning
+abbrev pub entry_of : Bool → Entry
+entry_of true = Bare
+entry_of false = Login
 
--- The words, each as its UTF-8 bytes, are `pipe`, for the user `sa` with the password `A`; or
--- `pipe --user U --password P`, for these; or `pipe --bare`. They ask for this configuration.
-abbrev pub IsPipe : List (List ℕ) → Config → Type 0
-IsPipe words config =
-    ((words ≡ codes "pipe" ∷ []) × (config ≡ login_config (codes "sa") (codes "A")))
-    ⊎ (((user : List ℕ) × (password : List ℕ) × (words ≡ codes "pipe" ∷ codes "--user" ∷ user ∷ codes "--password" ∷ password ∷ []) × (config ≡ login_config (utf16_of user) (utf16_of password)))
-    ⊎ ((words ≡ codes "pipe" ∷ codes "--bare" ∷ []) × (config ≡ bare_config)))
+abbrev pub config_of : List ℕ → List ℕ → Bool → Config
+config_of user password bare = record { user = user; password = password; entry = entry_of bare }
 
--- the words are none of these
-abbrev pub IsNoPipe : List (List ℕ) → Type 0
-IsNoPipe words = (config : Config) → IsPipe words config → ⊥
+-- ---- what is printed
 
--- they are `steps`
-abbrev pub IsSteps : List (List ℕ) → Type 0
-IsSteps words = words ≡ codes "steps" ∷ []
+-- A text was written whole, and the status is the one that was meant. Or a front of it was: writing failed, or memory was wanting.
+abbrev pub Prints : Option (List ℕ) → Option (List ℕ) → List ℕ → ℕ → ℕ → ℕ → Type 0
+Prints before after text done wanting status = ((status ≡ done) × Appends before after text)
+    ⊎ (((status ≡ 4) ⊎ (status ≡ wanting)) × IsCutOff before after text)
 
--- they are no command
-abbrev pub IsNoCommand : List (List ℕ) → Type 0
-IsNoCommand words = IsNoPipe words × (IsSteps words → ⊥)
+-- ---- `pipe`
 
--- ---- statuses
+-- the status at the end of a connection
+abbrev pub status_of : End → ℕ
+status_of Closed = 0
+status_of ReadFault = 3
+status_of WriteFault = 4
+status_of (Cut at) = 5
+status_of (BadHeader at) = 5
+status_of (TooLong at) = 5
+status_of (OutOfPlace at kind) = 5
+status_of (BadPrelogin fault) = 5
+status_of (LoginRefused number) = 5
+status_of (BadBatch fault) = 5
+status_of Spent = 5
+status_of Memory = 6
 
--- The status at an end, where the port tells its exchanges or not. Where it doesn't, memory was wanting
--- for one of them.
-abbrev pub status_of : Bool → End → ℕ
-status_of tells ReadFault = 3
-status_of tells WriteFault = 4
-status_of false end = 6
-status_of true Closed = 0
-status_of true (Cut at) = 5
-status_of true (BadHeader at) = 5
-status_of true (TooLong at) = 5
-status_of true (OutOfPlace at kind) = 5
-status_of true (BadPrelogin fault) = 5
-status_of true (LoginRefused number) = 5
-status_of true (BadBatch fault) = 5
-status_of true Spent = 5
-status_of true Memory = 6
-
--- ---- what `pipe` does
-
--- a port for session 1, over an engine before any step
-abbrev pub fresh_port : Solo
-fresh_port = record { session = 1; told = Some []; engine = opening }
-
--- Session 1 was served by this configuration over such a port, which stands then as `port`. `gave` says
--- which bytes came from the source, in which `left` are left.
-pub record PipedOver (config : Config) (gave : List ℕ → Type 0) (left sink_before sink_after : Option (List ℕ)) (port : Solo) (status : ℕ) : Type 0 where
+-- The first of the seats served one connection by this configuration, and the others nothing. `gave` says which bytes came from the
+-- source, in which `left` are left.
+pub record Piped (config : Config) (gave : List ℕ → Type 0) (left sink_before sink_after : Option (List ℕ)) (olds news : List EngineSeat) (status : ℕ) : Type 0 where
   pub end : End
-  pub status_is : status ≡ status_of (is_some port.told) end
-  pub conversation : Conversation config 1 gave left (solo_past fresh_port) (solo_past port) sink_before sink_after end
-  -- its exchanges are a run of this session alone, which leads to the port's engine, and fit its log
-  pub run : Run opening (asked_by 1 conversation.means.exchanges) port.engine
-  pub fits : Fits 1 [] port.engine.log conversation.means.exchanges
-  -- the commits of the log are those of the exchanges, each once, in order, and no others
-  pub commits : map (λ commit. commit.changes) port.engine.log ≡ commits_of conversation.means.exchanges
-  pub own : All (λ commit. commit.session ≡ 1) port.engine.log
-  -- every database that the first commits of the log leave is sound
-  pub sound : (place : ℕ) → Sound (State (take place port.engine.log))
-  -- and has all that statements keep of it
-  pub firm : (place : ℕ) → Firm (State (take place port.engine.log))
-  -- no transaction is left open
-  pub idle : is_open 1 port.engine ≡ false
-  -- memory was wanting only after a whole header was taken
-  pub memory : status ≡ 6 → 8 ≤ length conversation.heard.taken
-
--- it was served so over some port
-abbrev pub Piped : Config → (List ℕ → Type 0) → Option (List ℕ) → Option (List ℕ) → Option (List ℕ) → ℕ → Type 0
-Piped config gave left sink_before sink_after status = (port : Solo) × PipedOver config gave left sink_before sink_after port status
+  pub status_is : status ≡ status_of end
+  pub served : ServesFirst (λ old new. ServedConnection config gave left sink_before sink_after old new end) olds news
 
 -- Where the source told its bytes, and they are fewer than 2^40 and whole messages of which none ends
 -- the talk, as a refused login does: all were answered, or memory was wanting.
 abbrev pub EndsWell : Config → Option (List ℕ) → ℕ → Type 0
 EndsWell config told status = IfSome told (λ bytes. length bytes < byte_limit → (messages : List Message) → Splits bytes messages [] → IsUnended config messages → (status ≡ 0) ⊎ (status ≡ 6))
 
--- ---- what `steps` does
+-- ---- `listen`
+
+-- how many connections were served
+abbrev pub served_text : ℕ → List ℕ
+served_text served = codes "served " ++ decimal served ++ codes "\n"
+
+-- a door failed; or else memory was wanting, before the workers began or for a connection
+abbrev pub tally_status : Tally → ℕ
+tally_status tally = if nat_lt 0 tally.failed then 7 else if tally.memory || nat_lt 0 tally.starved then 6 else 0
+
+-- where memory is wanting for what is printed
+abbrev pub unprinted_status : Tally → ℕ
+unprinted_status tally = if nat_lt 0 tally.failed then 7 else 6
+
+-- the numbers of a hall: its faults, its finished connections, and the doors of it that failed and that closed
+pub record HallNumbers : Type 0 where
+  pub faults : ℕ
+  pub finished : ℕ
+  pub failed : ℕ
+  pub closed : ℕ
+
+abbrev pub numbers_of : {H : Type 0} → (H → ℕ) → (H → ℕ) → (H → ℕ) → (H → ℕ) → H → HallNumbers
+numbers_of faults finished failed closed hall = record { faults = faults hall; finished = finished hall; failed = failed hall; closed = closed hall }
+
+module _ {I O : Type 0} (left given : I → Option (List ℕ)) (input_faults : I → ℕ) (written : O → Option (List ℕ)) (output_faults : O → ℕ) where
+  -- The first of the seats served the connections of the hall, so many workers beside one another, and the others nothing; then it was
+  -- printed how many connections that were.
+  pub record HallServed (config : Config) (workers : ℕ) (rounds : Option ℕ) (told_old told_new : Option (List (I × O))) (before after : HallNumbers) (sink_before sink_after : Option (List ℕ)) (olds news : List EngineSeat) (status : ℕ) : Type 0 where
+    pub tally : Tally
+    pub worked : AllWorked left given input_faults written output_faults config (take workers olds) (take workers news) told_old told_new tally
+    pub others : drop workers news ≡ drop workers olds
+    pub tallied : Tallied rounds workers before.faults after.faults before.finished after.finished before.failed after.failed before.closed after.closed tally
+    pub printed : Prints sink_before sink_after (served_text tally.connections) (tally_status tally) (unprinted_status tally) status
+
+-- the hall could not begin: it counted a fault and nothing else, nothing was served, and nothing printed
+pub record NotBegun (before after : HallNumbers) (sink_before sink_after : Option (List ℕ)) (olds news : List EngineSeat) (status : ℕ) : Type 0 where
+  pub status_is : status ≡ 7
+  pub fault : HasRisen before.faults after.faults
+  pub numbers : after ≡ record before { faults = after.faults }
+  pub unprinted : sink_after ≡ sink_before
+  pub unserved : news ≡ olds
+
+module _ {I O : Type 0} (left given : I → Option (List ℕ)) (input_faults : I → ℕ) (written : O → Option (List ℕ)) (output_faults : O → ℕ) where
+  -- `listen` by this configuration: the hall was served, or could not begin
+  abbrev pub Listened : Config → ℕ → Option ℕ → Option (List (I × O)) → Option (List (I × O)) → HallNumbers → HallNumbers → Option (List ℕ) → Option (List ℕ) → List EngineSeat → List EngineSeat → ℕ → Type 0
+  Listened config workers rounds told_old told_new before after sink_before sink_after olds news status =
+      HallServed left given input_faults written output_faults config workers rounds told_old told_new before after sink_before sink_after olds news status
+      ⊎ ((told_new ≡ told_old) × NotBegun before after sink_before sink_after olds news status)
+
+-- Where rounds are given, nothing fails, and no door may close: as many connections were served, and that was printed; or memory was
+-- wanting.
+abbrev pub ServesAll : Option ℕ → Option (List ℕ) → Option (List ℕ) → ℕ → Type 0
+ServesAll rounds sink_before sink_after status = IfSome rounds (λ all. ((status ≡ 0) × Appends sink_before sink_after (served_text all)) ⊎ (status ≡ 6))
+
+-- ---- `load`
+
+-- A load was run by so many of the first seats, and printed; or memory was wanting for it, and nothing was printed.
+abbrev pub PrintsLoad : ℕ → ℕ → Option (List ℕ) → Option (List ℕ) → List EngineSeat → List EngineSeat → ℕ → Type 0
+PrintsLoad workers transfers sink_before sink_after olds news status =
+    ((printed : List ℕ) × Loaded workers transfers olds news printed × Prints sink_before sink_after printed 0 6 status)
+    ⊎ ((status ≡ 6) × (sink_after ≡ sink_before))
+
+-- ---- `steps`
 
 -- an engine before any step, and the manners in which sessions ask at first
 abbrev pub first_stage : Stage

@@ -9,7 +9,8 @@ mod program;
 #[cfg(test)]
 mod tests;
 
-use outside_io::{ReadSource, WriteSink};
+use outside_io::{ReadSource, SystemClock, TcpHall, WriteSink};
+use seat_server::House;
 use std::env::{self, Env};
 use std::io;
 use std::process::ExitCode;
@@ -22,9 +23,21 @@ fn main(rt: HostRuntime) -> ExitCode {
         ),
         Err(_) => return ExitCode::from(program::NO_COMMAND),
     };
-    let mut input = ReadSource::new(rt.reader());
-    let mut output = WriteSink::new(io::writer(&rt));
-    ExitCode::from(program::run_program(rt.alloc(), words.as_slice(), &mut input, &mut output))
+    let Ok(mut house) = House::open(rt.alloc(), program::SEATS) else {
+        return ExitCode::from(program::NO_MEMORY);
+    };
+    let status = program::run_program(
+        rt.alloc(),
+        &rt,
+        words.as_slice(),
+        &mut house,
+        &mut ReadSource::new(rt.reader()),
+        &mut WriteSink::new(io::writer(&rt)),
+        &mut TcpHall::new(&rt, rt.alloc()),
+        &mut SystemClock::new(&rt),
+    );
+    house.close();
+    ExitCode::from(status)
 }
 
 /// The words after the program's name.

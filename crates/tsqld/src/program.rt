@@ -1,226 +1,355 @@
 //! The program.
 
-ghost use Rattle.std.specs.Prelude.{◌≡◌, ◌≢◌, ◌⊎◌, None, ◌∷◌, List, ℕ, false, codes, map, string_bytes, IsTrue, IsNone, IfSome, IfOk, IfErr};
-ghost use Rattle.outside_io.specs.Bytes.{Takes};
-ghost use Rattle.tds_login.specs.declared.config.Config.{Config};
-ghost use Rattle.tds_login.specs.declared.config.Entry.TheVariants.{Login};
-ghost use Rattle.tsqld.specs.Command.{config_of};
+ghost use Rattle.std.specs.Prelude.{◌≡◌, ◌≢◌, ◌⊎◌, ◌≤◌, ℕ, Bool, false, List, Option, IfOk, map, string_bytes};
+ghost use Rattle.outside_io.specs.Bytes.{HasRisen, Takes};
+ghost use Rattle.program_words.specs.Asked.{IsInRange};
+ghost use Rattle.program_words.specs.declared.command.ProgramCommand.{ProgramCommand};
 ghost use Rattle.session_server.specs.Conversation.{CountsFault};
 ghost use Rattle.steps_command.specs.Command.{Steps, EndsWell as AllAnswered};
-ghost use Rattle.tsqld.specs.Program.{IsPipe, IsNoCommand, IsNoPipe, IsSteps, first_stage, fresh_port, PipedOver, Piped, EndsWell, status_of};
+ghost use Rattle.seat_server.specs.House.{IsFull};
+ghost use Rattle.tsqld.specs.Asking.{AsksFor, AsksForText, IfText, IsNoCommand, IsRefused};
+ghost use Rattle.tsqld.specs.Program.{EndsWell, Listened, Piped, Prints, PrintsLoad, ServesAll, config_of, first_stage, house_seats, numbers_of, served_text, status_of, tally_status, unprinted_status};
 
-use engine_core::{Engine, SoloPort};
-use outside_io::{Sink, Source};
-use session_server::{End, serve_on_port};
+use engine_core::Engine;
+use outside_io::{Clock, Hall, Sink, SinkFault, Source};
+use program_words::{ProgramCommand, WordsFault, read_words};
+use seat_server::{House, Tally};
+use session_server::End;
 use std::alloc::Global;
-use steps_command::run_steps;
+use std::sync::Wait;
+use std::thread::Threads;
+use steps_command::{run_steps, write_whole};
 use tds_login::{Config, Entry};
-use value_types::{Memory, Units, units_of_str};
+use transfer_load::load;
+use value_types::{Memory, Units};
+
+/// How many seats the program's house has.
+pub(crate) const SEATS: u32 = 64;
+
+/// The status where the run ended well.
+const DONE: u8 = 0;
 
 /// The status where the words are no command.
 pub(crate) const NO_COMMAND: u8 = 2;
 
+/// The status where writing failed.
+const WRITE_FAULT: u8 = 4;
+
 /// The status where memory was wanting.
 pub(crate) const NO_MEMORY: u8 = 6;
 
-/// The session that `pipe` serves.
-const SESSION: u32 = 1;
+/// The status where the hall could not begin, or a door failed.
+const HALL_FAULT: u8 = 7;
 
-/// Does all that the program does, for the words after its name. They are `pipe`,
-/// `pipe --user U --password P` and `pipe --bare`, which serve one connection of session 1 over an engine
-/// of its own, and `steps`, which answers a script of engine steps over one; all other words are no command.
-/// The first two ask the client to log in, as user `sa` with the password `A`, or as U with P; with `--bare`
-/// it is logged in from the beginning.
+/// Does all that the program does, for the words after its name (`program_words` has them): `pipe` serves one connection by the
+/// house's first seat; `listen` those of a hall, by so many of the first seats, each on a thread, and prints how many it has
+/// served; `steps` answers a script of engine steps over an engine of its own; and help or the version is printed where the
+/// words ask for that.
 ///
-/// The status is 0 where the connection was closed, or every line of the script was answered, 2 where the words
-/// are no command, 3 where reading failed, 4 where writing failed, 6 where memory was wanting, for the
-/// configuration, for the connection, for the list of what it asked or for the script, and 5 at any other end.
-pub fn run_program<S: Source, K: Sink>(
+/// The status is 0 where the run ended well: the connection was closed, the workers have ended, or every line was answered. It is 2 where
+/// the words are no command, 3 where reading failed, 4 where writing failed, 5 at any other end of the connection or where a line
+/// is none, 6 where memory was wanting, for a connection, the workers or what is printed, and 7 where the hall could not begin or
+/// a door of it failed.
+pub fn run_program<S: Source, K: Sink, H: Hall, C: Clock, R: Threads + Wait + Sync>(
     alloc: Global,
+    rt: &R,
     words: &[String],
+    house: &mut House,
     input: &mut S,
     output: &mut K,
+    hall: &mut H,
+    _clock: &mut C,
 ) -> u8
-    // What was taken, asked, written and committed, and the status. Memory for the user and the password
-    // may be wanting before anything is taken.
-    ensures conversation { (config : Config) → IsPipe (map string_bytes words.now) config
-        → Piped config (Takes S.left S.given input.old input.new) (S.left input.new) (K.written output.old) (K.written output.new) result
-        ⊎ ((config.entry ≡ Login) × (result ≡ 6) × (input.new ≡ input.old) × (output.new ≡ output.old)) }
-    ensures steps { IsSteps (map string_bytes words.now) → (taken : List ℕ) × Takes S.left S.given input.old input.new taken
-        × Steps first_stage taken (S.left input.new) (K.written output.old) (K.written output.new) result }
-    ensures refused { IsNoCommand (map string_bytes words.now) → (result ≡ 2) × (input.new ≡ input.old) × (output.new ≡ output.old) }
+    requires full { IsFull house_seats house.old }
+    ensures full { IsFull house_seats house.new }
 
-    // When 3 and 4 come.
+    // What was taken, asked, written and committed for one connection, and the status.
+    ensures pipe { (user password : List ℕ) (bare : Bool) → AsksFor (map string_bytes words.now) (ProgramCommand.Pipe user password bare)
+        → (hall.new ≡ hall.old) × (Piped (config_of user password bare) (Takes S.left S.given input.old input.new) (S.left input.new) (K.written output.old) (K.written output.new)
+        house.old.seats house.new.seats result
+        ⊎ ((result ≡ 6) × (input.new ≡ input.old) × (output.new ≡ output.old) × (house.new ≡ house.old))) }
+
+    // What was served of the hall's connections, and what was printed.
+    ensures listen { (port workers : ℕ) (rounds : Option ℕ) (user password : List ℕ) → AsksFor (map string_bytes words.now) (ProgramCommand.Listen port workers rounds user password)
+        → (input.new ≡ input.old) × (Listened H.Door.Input.left H.Door.Input.given H.Door.Input.faults H.Door.Output.written H.Door.Output.faults (config_of user password false) workers rounds
+        (H.told hall.old) (H.told hall.new) (numbers_of H.faults H.finished H.failed H.closed hall.old) (numbers_of H.faults H.finished H.failed H.closed hall.new)
+        (K.written output.old) (K.written output.new) house.old.seats house.new.seats result
+        ⊎ ((result ≡ 6) × (output.new ≡ output.old) × (hall.new ≡ hall.old) × (house.new ≡ house.old))) }
+
+    // What a script of steps was answered.
+    ensures steps { AsksFor (map string_bytes words.now) ProgramCommand.Steps → (hall.new ≡ hall.old) × (house.new ≡ house.old)
+        × ((taken : List ℕ) × Takes S.left S.given input.old input.new taken
+        × Steps first_stage taken (S.left input.new) (K.written output.old) (K.written output.new) result) }
+
+    // What a load of transfers did, and what was printed of it.
+    ensures load { (transfers workers : ℕ) → AsksFor (map string_bytes words.now) (ProgramCommand.Load transfers workers)
+        → (input.new ≡ input.old) × (hall.new ≡ hall.old) × PrintsLoad workers transfers (K.written output.old) (K.written output.new) house.old.seats house.new.seats result }
+
+    // Where the words are no command nothing is served, and at most help or the version is printed, if they ask for that.
+    ensures no_command { IsNoCommand (map string_bytes words.now) → (input.new ≡ input.old) × (hall.new ≡ hall.old) × (house.new ≡ house.old)
+        × ((((result ≡ 2) ⊎ (result ≡ 6)) × (output.new ≡ output.old))
+        ⊎ (AsksForText (map string_bytes words.now) × ((text : List ℕ) × Prints (K.written output.old) (K.written output.new) text 0 6 result))) }
+    ensures refused { result ≡ 2 → IsRefused (map string_bytes words.now) }
+
+    // When 3, 4 and 7 come.
     ensures reads { CountsFault (S.faults input.old) (S.faults input.new) (result ≡ 3) }
     ensures writes { CountsFault (K.faults output.old) (K.faults output.new) (result ≡ 4) }
+    ensures hall { result ≡ 7 → HasRisen (H.faults hall.old) (H.faults hall.new) }
 
     // Where nothing fails, memory is not wanting, and the input is fewer than 2^40 bytes of whole messages
     // that can be read, in their places, with no login that is refused, all of them are answered; so are all
-    // lines of a script that is within its limit and has no other.
-    ensures complete { (config : Config) → IsPipe (map string_bytes words.now) config → result ≢ 3 → result ≢ 4 → EndsWell config (S.left input.old) result }
-    ensures complete_steps { IsSteps (map string_bytes words.now) → result ≢ 3 → result ≢ 4 → AllAnswered (S.left input.old) result }
+    // lines of a script that is within its limit and has no other; and as many connections are served as there are rounds,
+    // where no door may close.
+    ensures complete { (user password : List ℕ) (bare : Bool) → AsksFor (map string_bytes words.now) (ProgramCommand.Pipe user password bare)
+        → result ≢ 3 → result ≢ 4 → EndsWell (config_of user password bare) (S.left input.old) result }
+    ensures complete_steps { AsksFor (map string_bytes words.now) ProgramCommand.Steps → result ≢ 3 → result ≢ 4 → AllAnswered (S.left input.old) result }
+    ensures complete_listen { (port workers : ℕ) (rounds : Option ℕ) (user password : List ℕ) → AsksFor (map string_bytes words.now) (ProgramCommand.Listen port workers rounds user password)
+        → ((door : H.Door) → H.Door.may_close door ≡ false) → result ≢ 4 → result ≢ 7 → ServesAll rounds (K.written output.old) (K.written output.new) result }
+    ensures complete_load { (transfers workers : ℕ) → AsksFor (map string_bytes words.now) (ProgramCommand.Load transfers workers) → result ≢ 4 → (result ≡ 0) ⊎ (result ≡ 6) }
 {
-    if is_steps(words) {
-        let mut engine = Engine::new(alloc);
-        run_steps(alloc, &mut engine, input, output)
-    } else {
-        serve(alloc, words, input, output)
+    match read_words(alloc, words) {
+        Ok(command) => run_command(alloc, rt, command, house, input, output, hall),
+        Err(WordsFault::Refused) => NO_COMMAND,
+        Err(WordsFault::Memory) => NO_MEMORY,
     }
 }
 
-/// Whether the words are `steps`.
-fn is_steps(words: &[String]) -> bool
-    ensures yes { IsTrue result → IsSteps (map string_bytes words.now) }
-    ensures no { result ≡ false → IsSteps (map string_bytes words.now) → ⊥ }
-{
-    match words {
-        [command] => command.as_str() == "steps",
-        _ => false,
-    }
-}
-
-/// Serves one connection of session 1 over an engine of its own, where the words are `pipe`,
-/// `pipe --user U --password P` or `pipe --bare`; all other words are no command. The first two ask the client to log in, as user `sa` with
-/// the password `A`, or as U with P; with the last it is logged in from the beginning.
-///
-/// The status is 0 where the connection was closed, 2 where the words are no command, 3 where
-/// reading failed, 4 where writing failed, 6 where memory was wanting, for the configuration, for the
-/// connection or for the list of what it asked, and 5 at any other end.
-fn serve<S: Source, K: Sink>(alloc: Global, words: &[String], input: &mut S, output: &mut K) -> u8
-    // What was taken, asked, written and committed, and the status. Memory for the user and the password
-    // may be wanting before anything is taken.
-    ensures conversation { (config : Config) → IsPipe (map string_bytes words.now) config
-        → Piped config (Takes S.left S.given input.old input.new) (S.left input.new) (K.written output.old) (K.written output.new) result
-        ⊎ ((config.entry ≡ Login) × (result ≡ 6) × (input.new ≡ input.old) × (output.new ≡ output.old)) }
-    ensures refused { IsNoPipe (map string_bytes words.now) → (result ≡ 2) × (input.new ≡ input.old) × (output.new ≡ output.old) }
-
-    // When 3 and 4 come.
-    ensures reads { CountsFault (S.faults input.old) (S.faults input.new) (result ≡ 3) }
-    ensures writes { CountsFault (K.faults output.old) (K.faults output.new) (result ≡ 4) }
-
-    // Where nothing fails, memory is not wanting, and the input is fewer than 2^40 bytes of whole messages
-    // that can be read, in their places, with no login that is refused, all of them are answered.
-    ensures complete { (config : Config) → IsPipe (map string_bytes words.now) config → result ≢ 3 → result ≢ 4 → EndsWell config (S.left input.old) result }
-{
-    match command_of(words) {
-        Some(command) => match config_for(alloc, &command) {
-            Ok(config) => pipe(alloc, &config, input, output),
-            Err(_) => NO_MEMORY,
-        },
-        None => NO_COMMAND,
-    }
-}
-
-/// What the words ask for. It is not `Debug`, which would print the password.
-#[derive(Clone, Copy)]
-enum Command<'a> {
-    /// The client logs in as this user with this password.
-    Pipe {
-        /// The user.
-        user: &'a str,
-        /// That user's password.
-        password: &'a str,
-    },
-    /// The client is logged in from the beginning.
-    PipeBare,
-}
-
-/// The command that the words are, if they are one.
-fn command_of(words: &[String]) -> Option<Command<'_>>
-    ensures command { IfSome result (λ command. IsPipe (map string_bytes words.now) (config_of command)) }
-    ensures none { IsNone result → IsNoPipe (map string_bytes words.now) }
-{
-    match words {
-        [command, options @ ..] if command.as_str() == "pipe" => pipe_command(options),
-        _ => None,
-    }
-}
-
-/// The command that `pipe` is with these options, if it has such.
-fn pipe_command(options: &[String]) -> Option<Command<'_>>
-    ensures command { IfSome result (λ command. IsPipe (codes "pipe" ∷ map string_bytes options.now) (config_of command)) }
-    ensures none { IsNone result → IsNoPipe (codes "pipe" ∷ map string_bytes options.now) }
-{
-    match options {
-        [] => Some(Command::Pipe {
-            user: "sa",
-            password: "A",
-        }),
-        [flag] if flag.as_str() == "--bare" => Some(Command::PipeBare),
-        [first, user, second, password]
-            if first.as_str() == "--user" && second.as_str() == "--password" => Some(
-            Command::Pipe {
-                user: user.as_str(),
-                password: password.as_str(),
-            },
-        ),
-        _ => None,
-    }
-}
-
-/// The configuration that a command asks for. Memory may be wanting only for a user and a password.
-fn config_for(alloc: Global, command: &Command<'_>) -> Result<Config, Memory>
-    ensures config { IfOk result (λ config. config ≡ config_of command.now) }
-    ensures memory { IfErr result (λ _. (config_of command.now).entry ≡ Login) }
-{
-    match *command {
-        Command::Pipe { user, password } => Ok(Config {
-            user: units_of_str(alloc, user)?,
-            password: units_of_str(alloc, password)?,
-            entry: Entry::Login,
-        }),
-        Command::PipeBare => Ok(Config {
-            user: Units::new(alloc),
-            password: Units::new(alloc),
-            entry: Entry::Bare,
-        }),
-    }
-}
-
-/// Serves one connection of session 1 over an engine of its own, and gives the status at its end.
-fn pipe<S: Source, K: Sink>(alloc: Global, config: &Config, input: &mut S, output: &mut K) -> u8
-    ensures conversation { Piped config.now (Takes S.left S.given input.old input.new) (S.left input.new)
-        (K.written output.old) (K.written output.new) result }
-    ensures reads { CountsFault (S.faults input.old) (S.faults input.new) (result ≡ 3) }
-    ensures writes { CountsFault (K.faults output.old) (K.faults output.new) (result ≡ 4) }
-    ensures complete { result ≢ 3 → result ≢ 4 → EndsWell config.now (S.left input.old) result }
-{
-    let mut port = SoloPort::new(alloc, SESSION);
-    pipe_over(alloc, &mut port, config, input, output)
-}
-
-/// Serves one connection over this port, which is that of session 1 over an engine before any step, and
-/// gives the status at its end: 6 where the port tells its exchanges no longer, unless reading or writing
-/// failed.
-pub fn pipe_over<S: Source, K: Sink>(
+/// Does what a command says, and gives the status.
+fn run_command<S: Source, K: Sink, H: Hall, R: Threads + Wait + Sync>(
     alloc: Global,
-    port: &mut SoloPort,
+    rt: &R,
+    command: ProgramCommand,
+    house: &mut House,
+    input: &mut S,
+    output: &mut K,
+    hall: &mut H,
+) -> u8
+    requires full { IsFull house_seats house.old }
+    requires range { IsInRange command }
+    ensures full { IsFull house_seats house.new }
+    ensures pipe { (user password : List ℕ) (bare : Bool) → command ≡ ProgramCommand.Pipe user password bare
+        → (hall.new ≡ hall.old) × Piped (config_of user password bare) (Takes S.left S.given input.old input.new) (S.left input.new) (K.written output.old) (K.written output.new)
+        house.old.seats house.new.seats result }
+    ensures complete { (user password : List ℕ) (bare : Bool) → command ≡ ProgramCommand.Pipe user password bare
+        → result ≢ 3 → result ≢ 4 → EndsWell (config_of user password bare) (S.left input.old) result }
+    ensures listen { (port workers : ℕ) (rounds : Option ℕ) (user password : List ℕ) → command ≡ ProgramCommand.Listen port workers rounds user password
+        → (input.new ≡ input.old) × Listened H.Door.Input.left H.Door.Input.given H.Door.Input.faults H.Door.Output.written H.Door.Output.faults (config_of user password false) workers rounds
+        (H.told hall.old) (H.told hall.new) (numbers_of H.faults H.finished H.failed H.closed hall.old) (numbers_of H.faults H.finished H.failed H.closed hall.new)
+        (K.written output.old) (K.written output.new) house.old.seats house.new.seats result }
+    ensures complete_listen { (port workers : ℕ) (rounds : Option ℕ) (user password : List ℕ) → command ≡ ProgramCommand.Listen port workers rounds user password
+        → ((door : H.Door) → H.Door.may_close door ≡ false) → result ≢ 4 → result ≢ 7 → ServesAll rounds (K.written output.old) (K.written output.new) result }
+    ensures steps { command ≡ ProgramCommand.Steps → (hall.new ≡ hall.old) × (house.new ≡ house.old)
+        × ((taken : List ℕ) × Takes S.left S.given input.old input.new taken
+        × Steps first_stage taken (S.left input.new) (K.written output.old) (K.written output.new) result) }
+    ensures complete_steps { command ≡ ProgramCommand.Steps → result ≢ 3 → result ≢ 4 → AllAnswered (S.left input.old) result }
+    ensures shows { IfText command (λ text. (input.new ≡ input.old) × (hall.new ≡ hall.old) × (house.new ≡ house.old)
+        × Prints (K.written output.old) (K.written output.new) text 0 6 result) }
+    ensures load { (transfers workers : ℕ) → command ≡ ProgramCommand.Load transfers workers
+        → (input.new ≡ input.old) × (hall.new ≡ hall.old) × PrintsLoad workers transfers (K.written output.old) (K.written output.new) house.old.seats house.new.seats result }
+    ensures complete_load { (transfers workers : ℕ) → command ≡ ProgramCommand.Load transfers workers → result ≢ 4 → (result ≡ 0) ⊎ (result ≡ 6) }
+    ensures command { result ≢ 2 }
+    ensures reads { CountsFault (S.faults input.old) (S.faults input.new) (result ≡ 3) }
+    ensures writes { CountsFault (K.faults output.old) (K.faults output.new) (result ≡ 4) }
+    ensures hall { result ≡ 7 → HasRisen (H.faults hall.old) (H.faults hall.new) }
+{
+    match command {
+        ProgramCommand::Pipe {
+            user,
+            password,
+            bare,
+        } => pipe(
+            alloc,
+            rt,
+            house,
+            &config_of(user, password, bare),
+            input,
+            output,
+        ),
+        ProgramCommand::Listen {
+            port,
+            workers,
+            rounds,
+            user,
+            password,
+        } => {
+            let config = config_of(user, password, false);
+            listen(
+                alloc, rt, house, output, hall, port, workers, rounds, &config,
+            )
+        }
+        ProgramCommand::Steps => steps(alloc, input, output),
+        ProgramCommand::Load { transfers, workers } => load_accounts(
+            alloc, rt, house, output, workers, transfers,
+        ),
+        ProgramCommand::Show { text } => print(output, text.as_bytes(), DONE, NO_MEMORY),
+    }
+}
+
+/// Serves one connection by the house's first seat, and gives the status at its end.
+fn pipe<S: Source, K: Sink, R: Wait>(
+    alloc: Global,
+    rt: &R,
+    house: &mut House,
     config: &Config,
     input: &mut S,
     output: &mut K,
 ) -> u8
-    requires fresh { port.old ≡ fresh_port }
-    ensures conversation { PipedOver config.now (Takes S.left S.given input.old input.new) (S.left input.new)
-        (K.written output.old) (K.written output.new) port.new result }
-    ensures lost { port.new.told ≡ None → result ≢ 3 → result ≢ 4 → result ≡ 6 }
+    requires full { IsFull house_seats house.old }
+    ensures full { IsFull house_seats house.new }
+    ensures piped { Piped config.now (Takes S.left S.given input.old input.new) (S.left input.new) (K.written output.old) (K.written output.new)
+        house.old.seats house.new.seats result }
+    ensures complete { result ≢ 3 → result ≢ 4 → EndsWell config.now (S.left input.old) result }
     ensures reads { CountsFault (S.faults input.old) (S.faults input.new) (result ≡ 3) }
     ensures writes { CountsFault (K.faults output.old) (K.faults output.new) (result ≡ 4) }
-    ensures complete { result ≢ 3 → result ≢ 4 → EndsWell config.now (S.left input.old) result }
+    ensures others { (result ≢ 2) × (result ≢ 7) }
 {
-    let end = serve_on_port(alloc, SESSION, port, config, input, output);
-    status_of(end, port.tells())
+    status_of(house.serve_first(alloc, rt, config, input, output))
 }
 
-/// The status at an end, where the port tells its exchanges or not.
-fn status_of(end: End, tells: bool) -> u8
-    ensures { result ≡ status_of tells end }
+/// Answers a script over an engine of its own.
+fn steps<S: Source, K: Sink>(alloc: Global, input: &mut S, output: &mut K) -> u8
+    ensures steps { (taken : List ℕ) × Takes S.left S.given input.old input.new taken
+        × Steps first_stage taken (S.left input.new) (K.written output.old) (K.written output.new) result }
+    ensures complete { result ≢ 3 → result ≢ 4 → AllAnswered (S.left input.old) result }
+    ensures reads { CountsFault (S.faults input.old) (S.faults input.new) (result ≡ 3) }
+    ensures writes { CountsFault (K.faults output.old) (K.faults output.new) (result ≡ 4) }
+    ensures others { (result ≢ 2) × (result ≢ 7) }
+{
+    let mut engine = Engine::new(alloc);
+    run_steps(alloc, &mut engine, input, output)
+}
+
+/// The configuration for this user and password.
+fn config_of(user: Units, password: Units, bare: bool) -> Config
+    ensures { result ≡ config_of user password bare }
+{
+    Config {
+        user,
+        password,
+        entry: if bare { Entry::Bare } else { Entry::Login },
+    }
+}
+
+/// The status at the end of a connection.
+fn status_of(end: End) -> u8
+    ensures { result ≡ status_of end }
 {
     match end {
+        End::Closed => DONE,
         End::ReadFault => 3,
-        End::WriteFault => 4,
-        _ if !tells => NO_MEMORY,
-        End::Closed => 0,
+        End::WriteFault => WRITE_FAULT,
         End::Memory => NO_MEMORY,
         _ => 5,
+    }
+}
+
+/// Serves the connections of a hall by so many of the house's first seats, and prints how many that were.
+fn listen<K: Sink, H: Hall, R: Threads + Wait + Sync>(
+    alloc: Global,
+    rt: &R,
+    house: &mut House,
+    output: &mut K,
+    hall: &mut H,
+    port: u16,
+    workers: u32,
+    rounds: Option<u32>,
+    config: &Config,
+) -> u8
+    requires full { IsFull house_seats house.old }
+    requires workers { (1 ≤ workers) × (workers ≤ 64) }
+    ensures full { IsFull house_seats house.new }
+    ensures listened { Listened H.Door.Input.left H.Door.Input.given H.Door.Input.faults H.Door.Output.written H.Door.Output.faults config.now workers rounds
+        (H.told hall.old) (H.told hall.new) (numbers_of H.faults H.finished H.failed H.closed hall.old) (numbers_of H.faults H.finished H.failed H.closed hall.new)
+        (K.written output.old) (K.written output.new) house.old.seats house.new.seats result }
+    ensures complete { ((door : H.Door) → H.Door.may_close door ≡ false) → result ≢ 4 → result ≢ 7 → ServesAll rounds (K.written output.old) (K.written output.new) result }
+    ensures writes { CountsFault (K.faults output.old) (K.faults output.new) (result ≡ 4) }
+    ensures hall { result ≡ 7 → HasRisen (H.faults hall.old) (H.faults hall.new) }
+    ensures others { (result ≢ 2) × (result ≢ 3) }
+{
+    if hall.begin(port).is_err() {
+        return HALL_FAULT;
+    }
+    let tally = house.serve_hall(alloc, rt, workers, config, hall, rounds);
+    print_served(alloc, output, &tally)
+}
+
+/// Prints how many connections were served, and gives the status.
+fn print_served<K: Sink>(alloc: Global, output: &mut K, tally: &Tally) -> u8
+    ensures printed { Prints (K.written output.old) (K.written output.new) (served_text tally.now.connections) (tally_status tally.now) (unprinted_status tally.now) result }
+    ensures writes { CountsFault (K.faults output.old) (K.faults output.new) (result ≡ 4) }
+{
+    let unprinted = unprinted_status(tally);
+    match served_text(alloc, tally.connections) {
+        Ok(text) => print(output, text.as_bytes(), tally_status(tally), unprinted),
+        Err(Memory) => unprinted,
+    }
+}
+
+/// How many connections were served, as it is printed.
+fn served_text(alloc: Global, served: u64) -> Result<String, Memory>
+    ensures { IfOk result (λ text. string_bytes text ≡ served_text served) }
+{
+    Ok(format!(in alloc; "served {served}\n")?)
+}
+
+/// The status where a hall was served.
+fn tally_status(tally: &Tally) -> u8
+    ensures { result ≡ tally_status tally.now }
+{
+    if tally.failed > 0 {
+        HALL_FAULT
+    } else if tally.memory || tally.starved > 0 {
+        NO_MEMORY
+    } else {
+        DONE
+    }
+}
+
+/// The status where memory is wanting for what is printed then.
+fn unprinted_status(tally: &Tally) -> u8
+    ensures { result ≡ unprinted_status tally.now }
+{
+    if tally.failed > 0 {
+        HALL_FAULT
+    } else {
+        NO_MEMORY
+    }
+}
+
+/// Runs transfers between accounts by so many of the house's first seats, and prints what came of them.
+fn load_accounts<K: Sink, R: Threads + Wait + Sync>(
+    alloc: Global,
+    rt: &R,
+    house: &mut House,
+    output: &mut K,
+    workers: u32,
+    transfers: u32,
+) -> u8
+    requires full { IsFull house_seats house.old }
+    requires workers { (1 ≤ workers) × (workers ≤ 64) }
+    requires transfers { (1 ≤ transfers) × (transfers ≤ 10000) }
+    ensures full { IsFull house_seats house.new }
+    ensures printed { PrintsLoad workers transfers (K.written output.old) (K.written output.new) house.old.seats house.new.seats result }
+    ensures writes { CountsFault (K.faults output.old) (K.faults output.new) (result ≡ 4) }
+    ensures one { (result ≡ 0) ⊎ ((result ≡ 4) ⊎ (result ≡ 6)) }
+{
+    let mut printed = Vec::new(alloc);
+    match load(alloc, rt, house, workers, transfers, &mut printed) {
+        Ok(()) => print(output, printed.as_slice(), DONE, NO_MEMORY),
+        Err(Memory) => NO_MEMORY,
+    }
+}
+
+/// Prints a text whole, and gives the status for that; or where memory is wanting, the other one.
+fn print<K: Sink>(output: &mut K, text: &[u8], done: u8, wanting: u8) -> u8
+    requires done { (done ≢ 4) × (wanting ≢ 4) }
+    ensures printed { Prints (K.written output.old) (K.written output.new) text.now done wanting result }
+    ensures writes { CountsFault (K.faults output.old) (K.faults output.new) (result ≡ 4) }
+    ensures one { (result ≡ done) ⊎ ((result ≡ 4) ⊎ (result ≡ wanting)) }
+{
+    match write_whole(output, text) {
+        Ok(()) => done,
+        Err(SinkFault::Failed) => WRITE_FAULT,
+        Err(SinkFault::Memory) => wanting,
     }
 }

@@ -1,0 +1,200 @@
+/* A client of bench/serve: so many connections, each on a thread, log in over TDS 7.4 as `sa` and send one batch after
+ * another for so many seconds, each when the reply to the last has come whole. Prints replies a second of all connections
+ * together, and how many of them held an error. With `run` it sends the batches of a file instead, one a line, on one
+ * connection, and prints nothing.
+ *
+ *   serve_client PORT run FILE
+ *   serve_client PORT one|point|transfer CONNECTIONS SECONDS
+ */
+#include <arpa/inet.h>
+#include <netinet/tcp.h>
+#include <pthread.h>
+#include <stdint.h>
+#include <stdio.h>
+#include <stdlib.h>
+#include <string.h>
+#include <sys/socket.h>
+#include <time.h>
+#include <unistd.h>
+
+enum { ACCOUNTS = 10000, ROOM = 1 << 20, HEADER = 8 };
+
+typedef struct {
+    int port, seconds, number;
+    char mode;
+    uint64_t replies, errors;
+} Worker;
+
+static void fail(const char *what)
+{
+    perror(what);
+    exit(1);
+}
+
+static double now(void)
+{
+    struct timespec t;
+    clock_gettime(CLOCK_MONOTONIC, &t);
+    return t.tv_sec + t.tv_nsec / 1e9;
+}
+
+static void send_all(int socket, const uint8_t *bytes, size_t length)
+{
+    while (length > 0) {
+        ssize_t sent = send(socket, bytes, length, 0);
+        if (sent <= 0)
+            fail("send");
+        bytes += sent;
+        length -= (size_t)sent;
+    }
+}
+
+static void receive_all(int socket, uint8_t *into, size_t length)
+{
+    while (length > 0) {
+        ssize_t got = recv(socket, into, length, 0);
+        if (got <= 0)
+            fail("recv");
+        into += got;
+        length -= (size_t)got;
+    }
+}
+
+/* One message in one packet. */
+static void send_message(int socket, uint8_t kind, const uint8_t *payload, size_t length)
+{
+    static __thread uint8_t packet[ROOM];
+    size_t whole = length + HEADER;
+    memcpy(packet, (uint8_t[]){kind, 1, whole >> 8, whole & 255, 0, 0, 1, 0}, HEADER);
+    memcpy(packet + HEADER, payload, length);
+    send_all(socket, packet, whole);
+}
+
+/* A whole reply; whether it holds an ERROR as its first token. */
+static int receive_reply(int socket)
+{
+    static __thread uint8_t payload[ROOM];
+    uint8_t header[HEADER];
+    int error = 0, first = 1;
+    do {
+        receive_all(socket, header, HEADER);
+        size_t length = (size_t)(header[2] << 8 | header[3]) - HEADER;
+        receive_all(socket, payload, length);
+        if (first && length > 0 && payload[0] == 0xAA)
+            error = 1;
+        first = 0;
+    } while (!(header[1] & 1));
+    return error;
+}
+
+static int send_batch(int socket, const char *text)
+{
+    static __thread uint8_t payload[ROOM];
+    static const uint8_t headers[22] = {22, 0, 0, 0, 18, 0, 0, 0, 2, 0, 0, 0, 0, 0, 0, 0, 0, 0, 1, 0, 0, 0};
+    size_t length = sizeof headers;
+    memcpy(payload, headers, length);
+    for (; *text; text++) {
+        payload[length++] = (uint8_t)*text;
+        payload[length++] = 0;
+    }
+    send_message(socket, 0x01, payload, length);
+    return receive_reply(socket);
+}
+
+/* LOGIN7 of `sa` with the password `A`: fixed part, then the two texts. */
+static void log_in(int socket)
+{
+    uint8_t login[98] = {0};
+    login[0] = sizeof login;
+    login[7] = 0x74, login[4] = 4; /* TDSVersion 0x74000004 */
+    login[9] = 0x10;               /* PacketSize 4096 */
+    for (int field = 36; field <= 68; field += 4)
+        login[field] = 94;
+    login[40] = 94, login[42] = 2; /* UserName */
+    login[44] = 98, login[46] = 1; /* Password */
+    uint8_t whole[100];
+    memcpy(whole, login, 94);
+    whole[0] = sizeof whole;
+    memcpy(whole + 94, (uint8_t[]){'s', 0, 'a', 0, 0xB1, 0xA5}, 6);
+    send_message(socket, 0x10, whole, sizeof whole);
+    receive_reply(socket);
+}
+
+static int open_connection(int port)
+{
+    int s = socket(AF_INET, SOCK_STREAM, 0), yes = 1;
+    struct sockaddr_in at = {.sin_family = AF_INET, .sin_port = htons(port)};
+    at.sin_addr.s_addr = htonl(INADDR_LOOPBACK);
+    if (s < 0 || connect(s, (struct sockaddr *)&at, sizeof at) < 0)
+        fail("connect");
+    setsockopt(s, IPPROTO_TCP, TCP_NODELAY, &yes, sizeof yes);
+    log_in(s);
+    return s;
+}
+
+static void *work(void *given)
+{
+    Worker *w = given;
+    int socket = open_connection(w->port);
+    unsigned seed = 7919u * (unsigned)(w->number + 1);
+    char text[256];
+    double end = now() + w->seconds;
+    while (now() < end) {
+        int a = 1 + rand_r(&seed) % ACCOUNTS, b = 1 + (a + rand_r(&seed) % (ACCOUNTS - 1)) % ACCOUNTS;
+        if (w->mode == 'o')
+            strcpy(text, "SELECT 1");
+        else if (w->mode == 'p')
+            sprintf(text, "SELECT amount FROM accounts WHERE id = %d", a);
+        else
+            sprintf(text, "UPDATE accounts SET amount = amount + CASE WHEN id = %d THEN -1 ELSE 1 END WHERE id = %d OR id = %d", a, a, b);
+        w->errors += (uint64_t)send_batch(socket, text);
+        w->replies++;
+    }
+    close(socket);
+    return 0;
+}
+
+static void run_file(int port, const char *path)
+{
+    static char line[ROOM / 4];
+    FILE *file = fopen(path, "r");
+    if (!file)
+        fail(path);
+    int socket = open_connection(port);
+    while (fgets(line, sizeof line, file)) {
+        line[strcspn(line, "\n")] = 0;
+        if (send_batch(socket, line)) {
+            fprintf(stderr, "refused: %.60s\n", line);
+            exit(1);
+        }
+    }
+    close(socket);
+    fclose(file);
+}
+
+int main(int count, char **words)
+{
+    int port = count > 3 ? atoi(words[1]) : 0;
+    if (count == 4 && !strcmp(words[2], "run")) {
+        run_file(port, words[3]);
+        return 0;
+    }
+    if (count != 5 || !strchr("opt", words[2][0]))
+        return 2;
+    int many = atoi(words[3]);
+    Worker workers[64];
+    pthread_t threads[64];
+    double begin = now();
+    for (int i = 0; i < many; i++) {
+        workers[i] = (Worker){port, atoi(words[4]), i, words[2][0], 0, 0};
+        pthread_create(&threads[i], 0, work, &workers[i]);
+    }
+    uint64_t replies = 0, errors = 0;
+    for (int i = 0; i < many; i++) {
+        pthread_join(threads[i], 0);
+        replies += workers[i].replies;
+        errors += workers[i].errors;
+    }
+    printf("%.0f %llu\n", (double)replies / (now() - begin), (unsigned long long)errors);
+    return 0;
+}

@@ -1,0 +1,10 @@
+mod Plain
+mod Ranges
+mod Parses
+mod Steps
+mod Leaves
+mod Runs
+mod Ends
+mod Written
+mod Values
+mod Odd

@@ -1,0 +1,9 @@
+pub mod Conversing
+pub mod Courses
+pub mod Dismissed
+pub mod Dismissing
+pub mod Housing
+pub mod Serving
+pub mod Shares
+pub mod Stretches
+pub mod Totals

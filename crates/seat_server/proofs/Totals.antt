@@ -1,0 +1,144 @@
+-- What all workers of a hall have done, and how it is counted, from their dismissal; and where memory was wanting before any began.
+use Rattle.std.proofs.Common.{◌≡◌, ℕ, ◌+◌, ◌-◌, ◌*◌, ◌/◌, ◌^◌, ◌<◌, ◌≤◌, Bool, true, false, List, [], ◌∷◌, ◌++◌, length, map, Option, None, Some, IfSome, refl, sym, ap, ◌∙◌, subst, arith}
+use Rattle.atomic_table.specs.Seated.{TableId}
+use Rattle.tds_login.specs.declared.config.Config.{Config}
+use Rattle.outside_io.specs.Bytes.{HasRisen}
+use Rattle.outside_io.specs.Doors.{count_on, has_failed, one_if}
+use Rattle.shared_port.specs.Asked.{EngineSeat}
+use Rattle.seat_server.specs.declared.tally.Tally.{Tally}
+use Rattle.seat_server.specs.declared.worker.Worker.{Worker}
+use Rattle.seat_server.specs.Served.{Course}
+use Rattle.seat_server.specs.Workers.{AllFollow, AllWorked, RisesBy, Tallied, TellsCourses, all_courses, starved_in}
+use Rattle.seat_server.specs.Posts.{StaysTold, TakesAll, count_after, no_tally, seats_of, tally_after}
+use Rattle.seat_server.proofs.Courses.{count_fresh, count_none, none_some, tells_none}
+use Rattle.seat_server.proofs.Dismissed.{Dismissal, SharesSo, closed_in, failed_in}
+use Rattle.seat_server.proofs.Shares.{all_dealt}
+
+-- the tally where memory was wanting
+abbrev pub no_memory : Tally
+no_memory = record { connections = 0; starved = 0; failed = 0; closed = 0; memory = true }
+
+-- no courses for each seat
+abbrev no_courses : List EngineSeat → List (List Course)
+no_courses seats = map (λ (seat : EngineSeat). []) seats
+
+none_follow : (seats : List EngineSeat) → AllFollow seats (no_courses seats) seats
+none_follow [] = tt
+none_follow (seat ∷ seats) = (refl, none_follow seats)
+
+none_in_all : (seats : List EngineSeat) → all_courses (no_courses seats) ≡ []
+none_in_all [] = refl
+none_in_all (seat ∷ seats) = none_in_all seats
+
+module _ {I O : Type 0} (left given : I → Option (List ℕ)) (input_faults : I → ℕ) (written : O → Option (List ℕ)) (output_faults : O → ℕ) (config : Config) where
+  tells_stayed : (courses : List Course) (before mid after : Option (List (I × O))) → StaysTold before mid → TellsCourses left given input_faults written output_faults config courses mid after → TellsCourses left given input_faults written output_faults config courses before after
+  tells_stayed courses before mid None stays tells = tt
+  tells_stayed courses before None (Some after) stays tells = absurd (none_some tells.2)
+  tells_stayed courses before (Some mid) (Some after) stays tells = (tells.0, tells.1, stays ∙ tells.2, tells.3, tells.4)
+
+  pub none_worked : (seats : List EngineSeat) (before after : Option (List (I × O))) (tally : Tally) → StaysTold before after → tally ≡ no_memory → AllWorked left given input_faults written output_faults config seats seats before after tally
+  none_worked seats before after tally stays is = record {
+    each = no_courses seats;
+    follow = none_follow seats;
+    told = subst (λ (courses : List Course). TellsCourses left given input_faults written output_faults config courses before after) (sym (none_in_all seats)) (tells_stayed [] before after after stays (tells_none left given input_faults written output_faults config after));
+    connections = ap (λ (t : Tally). t.connections) is ∙ ap (λ (courses : List Course). count_on 0 (length courses)) (sym (none_in_all seats));
+    starved = ap (λ (t : Tally). t.starved) is ∙ ap (λ (courses : List Course). count_on 0 (starved_in courses)) (sym (none_in_all seats));
+  }
+
+zero_bounded : (rounds : Option ℕ) → IfSome rounds (λ all. 0 ≤ all)
+zero_bounded None = tt
+zero_bounded (Some all) = omega arith
+
+pub none_tallied : (rounds : Option ℕ) (workers : ℕ) (faults_old faults_new finished_old finished_new failed_old failed_new closed_old closed_new : ℕ) (tally : Tally) → RisesBy faults_old faults_new 0 → RisesBy finished_old finished_new 0 → RisesBy failed_old failed_new 0 → RisesBy closed_old closed_new 0 → tally ≡ no_memory
+    → Tallied rounds workers faults_old faults_new finished_old finished_new failed_old failed_new closed_old closed_new tally
+none_tallied rounds workers faults_old faults_new finished_old finished_new failed_old failed_new closed_old closed_new tally faults finished failed closed is =
+    subst (Tallied rounds workers faults_old faults_new finished_old finished_new failed_old failed_new closed_old closed_new) (sym is) (record {
+      faulty = λ some. absurd (let no : ⊥ = omega (arith, some) in no);
+      counted = λ bound. omega (arith, bound, faults bound);
+      faultless = λ bound none. faults bound ∙ count_none faults_old bound;
+      finished = finished;
+      failed = failed;
+      closed = closed;
+      bounded = zero_bounded rounds;
+      none = λ wanting. (refl, refl, refl, refl);
+      least = λ no. absurd (let differ : true ≡ false = no in cc);
+      whole = λ no. absurd (let differ : true ≡ false = no in cc);
+      ended = λ no. absurd (let differ : true ≡ false = no in cc);
+    })
+
+-- what is read off the shares
+bounded_by : (rounds : Option ℕ) (many served failed closed connections : ℕ) → 0 < many → SharesSo rounds many 0 many served failed closed → connections ≡ count_on 0 served → IfSome rounds (λ all. connections ≤ all)
+bounded_by None many served failed closed connections some shares is = tt
+bounded_by (Some all) many served failed closed connections some shares is = omega (arith, shares.0, all_dealt all many some, is)
+
+least_by : (rounds : Option ℕ) (many served failed closed connections : ℕ) → 0 < many → IfSome rounds (λ all. all < 2 ^ 32) → SharesSo rounds many 0 many served failed closed → connections ≡ count_on 0 served
+    → IfSome rounds (λ all. all / many * (many - (failed + closed)) ≤ connections)
+least_by None many served failed closed connections some range shares is = tt
+least_by (Some all) many served failed closed connections some range shares is =
+    let bound : served ≤ all = omega (arith, shares.0, all_dealt all many some) in
+    let same : connections ≡ served = omega (arith, is, bound, range) in omega (arith, shares.1, same)
+
+whole_by : (rounds : Option ℕ) (many served failed closed connections : ℕ) → 0 < many → IfSome rounds (λ all. all < 2 ^ 32) → SharesSo rounds many 0 many served failed closed → connections ≡ count_on 0 served
+    → failed ≡ 0 → closed ≡ 0 → IfSome rounds (λ all. connections ≡ all)
+whole_by None many served failed closed connections some range shares is none_failed none_closed = tt
+whole_by (Some all) many served failed closed connections some range shares is none_failed none_closed = omega (arith, shares.2 none_failed none_closed, all_dealt all many some, is, range)
+
+ended_by : (rounds : Option ℕ) (many served failed closed : ℕ) → rounds ≡ None → SharesSo rounds many 0 many served failed closed → failed + closed ≡ many
+ended_by None many served failed closed none shares = shares
+ended_by (Some all) many served failed closed none shares = absurd (none_some (sym none))
+
+-- ---- all of them
+
+module _ {D : Type 0} (faults : D → ℕ) (is_out has_closed : D → Bool) {I O : Type 0} (left given : I → Option (List ℕ)) (input_faults : I → ℕ) (written : O → Option (List ℕ)) (output_faults : O → ℕ) (finished : D → ℕ) (told : D → Option (List (I × O))) (config : Config) (desk : TableId) (closing : Type 0) (rounds : Option ℕ)
+    (olds news : List EngineSeat) (workers : List (Worker D)) (tally : Tally) (done : Dismissal faults is_out has_closed left given input_faults written output_faults finished told config desk closing rounds (length olds) 0 olds workers) (is : tally ≡ tally_after no_tally workers) where
+  connections_are : tally.connections ≡ count_on 0 (length (all_courses done.each))
+  connections_are = ap (λ (t : Tally). t.connections) is ∙ done.connections no_tally (omega arith)
+
+  pub all_worked : (before mid after : Option (List (I × O))) → StaysTold before mid → TakesAll told mid workers after → news ≡ [] ++ seats_of workers → AllWorked left given input_faults written output_faults config olds news before after tally
+  all_worked before mid after stays takes seats = record {
+    each = done.each;
+    follow = subst (AllFollow olds done.each) (sym seats) done.follow;
+    told = tells_stayed left given input_faults written output_faults config (all_courses done.each) before mid after stays (done.tells mid after takes);
+    connections = connections_are;
+    starved = ap (λ (t : Tally). t.starved) is ∙ done.starved no_tally (omega arith);
+  }
+
+  pub all_closes : length olds ≤ 64 → 0 < tally.closed → closing
+  all_closes few some = done.closes (omega (arith, some, ap (λ (t : Tally). t.closed) is, done.closed no_tally (omega (arith, done.as_many, few))))
+
+  pub all_tallied : (faults_old faults_new finished_old finished_mid finished_new failed_old failed_mid failed_new closed_old closed_mid closed_new : ℕ) → length olds ≤ 64 → 0 < length olds → IfSome rounds (λ all. all < 2 ^ 32)
+      → RisesBy finished_old finished_mid 0 → RisesBy failed_old failed_mid 0 → RisesBy closed_old closed_mid 0
+      → faults_new ≡ count_after faults faults_old workers → finished_new ≡ count_after finished finished_mid workers → failed_new ≡ count_after (λ door. one_if (has_failed (faults door))) failed_mid workers → closed_new ≡ count_after (λ door. one_if (has_closed door)) closed_mid workers
+      → Tallied rounds (length olds) faults_old faults_new finished_old finished_new failed_old failed_new closed_old closed_new tally
+  all_tallied faults_old faults_new finished_old finished_mid finished_new failed_old failed_mid failed_new closed_old closed_mid closed_new few some range finished_stays failed_stays closed_stays faults_is finished_is failed_is closed_is = record {
+    faulty = λ some. subst (HasRisen faults_old) (sym faults_is) ((done.hall_faults faults_old).0 (omega (arith, some, failed_are)));
+    counted = λ bound. omega (arith, bound, faults_is, (done.hall_faults faults_old).1);
+    faultless = λ bound none. faults_is ∙ (done.hall_faults faults_old).2 bound (sym failed_are ∙ none);
+    finished = λ bound.
+        let same : finished_mid ≡ finished_old = finished_stays bound ∙ count_none finished_old bound in
+        finished_is ∙ (ap (λ n. count_after finished n workers) same ∙ (done.hall_finished finished_old bound ∙ (sym (count_fresh finished_old served) ∙ ap (count_on finished_old) (sym connections_are))));
+    failed = λ bound.
+        let same : failed_mid ≡ failed_old = failed_stays bound ∙ count_none failed_old bound in
+        failed_is ∙ (ap (λ n. count_after (λ door. one_if (has_failed (faults door))) n workers) same ∙ (done.hall_failed failed_old bound ∙ ap (count_on failed_old) (sym failed_are)));
+    closed = λ bound.
+        let same : closed_mid ≡ closed_old = closed_stays bound ∙ count_none closed_old bound in
+        closed_is ∙ (ap (λ n. count_after (λ door. one_if (has_closed door)) n workers) same ∙ (done.hall_closed closed_old bound ∙ ap (count_on closed_old) (sym closed_are)));
+    bounded = bounded_by rounds (length olds) served (failed_in workers) (closed_in workers) tally.connections some shares connections_are;
+    none = λ wanting. absurd (let differ : true ≡ false = sym wanting ∙ (ap (λ (t : Tally). t.memory) is ∙ done.memory no_tally) in cc);
+    least = λ memory. subst (λ ended. IfSome rounds (λ all. all / length olds * (length olds - ended) ≤ tally.connections)) (ap (λ n. n + closed_in workers) (sym failed_are) ∙ ap (λ n. tally.failed + n) (sym closed_are))
+        (least_by rounds (length olds) served (failed_in workers) (closed_in workers) tally.connections some range shares connections_are);
+    whole = λ memory none_failed none_closed. whole_by rounds (length olds) served (failed_in workers) (closed_in workers) tally.connections some range shares connections_are (sym failed_are ∙ none_failed) (sym closed_are ∙ none_closed);
+    ended = λ memory none. omega (arith, failed_are, closed_are, ended_by rounds (length olds) served (failed_in workers) (closed_in workers) none shares);
+  }
+    where
+      served : ℕ
+      served = length (all_courses done.each)
+
+      failed_are : tally.failed ≡ failed_in workers
+      failed_are = omega (arith, ap (λ (t : Tally). t.failed) is, done.failed no_tally (omega (arith, done.as_many, few)))
+
+      closed_are : tally.closed ≡ closed_in workers
+      closed_are = omega (arith, ap (λ (t : Tally). t.closed) is, done.closed no_tally (omega (arith, done.as_many, few)))
+
+      shares : SharesSo rounds (length olds) 0 (length olds) served (failed_in workers) (closed_in workers)
+      shares = subst (λ n. SharesSo rounds (length olds) 0 n served (failed_in workers) (closed_in workers)) done.as_many done.shares

@@ -1,0 +1,5 @@
+use Rattle.seat_server.proofs.Housing.{full_more}
+use Rattle.seat_server.proofs.house.House.serve_first.Goals as goal
+
+pub returns-clause-full : goal.returns-clause-full
+returns-clause-full g c = full_more c.self.inside.desk c.self.inside.seats.items c.serve_by_first.new.seats.items c.args.self.now c.self.view_is c.serve_by_first.ensures.numbers c.serve_by_first.ensures.hosted

@@ -1,0 +1,93 @@
+-- Own: what workers did, each with a seat and a door of its own, and how they are counted. It is said of each worker's connections as a
+-- list; the code counts them as they come.
+use Rattle.std.specs.Prelude.{◌≡◌, ℕ, ◌+◌, ◌-◌, ◌*◌, ◌/◌, ◌^◌, ◌≤◌, ◌<◌, Bool, true, false, List, [], ◌∷◌, ◌++◌, length, filter, Option, None, Some, IfSome}
+use Rattle.std.specs.List.{AllZip, flat_map}
+use Rattle.tds_login.specs.declared.config.Config.{Config}
+use Rattle.outside_io.specs.Bytes.{HasRisen, Takes}
+use Rattle.outside_io.specs.Doors.{IsUntouched, count_on}
+use Rattle.shared_port.specs.Asked.{EngineSeat}
+use Rattle.session_server.specs.Conversation.{CountsFault}
+use Rattle.session_server.specs.declared.end.End.{End}
+use Rattle.session_server.specs.declared.end.End.TheVariants.{Closed, Cut, BadHeader, TooLong, OutOfPlace, BadPrelogin, LoginRefused, BadBatch, Spent, ReadFault, WriteFault, Memory}
+use Rattle.seat_server.specs.declared.tally.Tally.{Tally}
+use Rattle.seat_server.specs.Served.{Course, Follow, ServedConnection}
+
+-- ---- what is told of connections
+
+module _ {I O : Type 0} (left given : I → Option (List ℕ)) (input_faults : I → ℕ) (written : O → Option (List ℕ)) (output_faults : O → ℕ) where
+  -- a connection, as a door was given it back, was served in this course
+  pub record IsServedIn (config : Config) (course : Course) (connection : I × O) : Type 0 where
+    -- as the door gave it: nothing had gone through it, and neither side had a fault
+    pub first : I × O
+    pub untouched : (given first.0 ≡ Some []) × IsUntouched (written first.1)
+    pub faultless : (input_faults first.0 ≡ 0) × (output_faults first.1 ≡ 0)
+    pub served : ServedConnection config (Takes left given first.0 connection.0) (left connection.0) (written first.1) (written connection.1) course.old course.new course.end
+    -- when reading and writing have failed
+    pub reads : CountsFault (input_faults first.0) (input_faults connection.0) (course.end ≡ ReadFault)
+    pub writes : CountsFault (output_faults first.1) (output_faults connection.1) (course.end ≡ WriteFault)
+
+  -- where a list of connections is told, it has those of these courses behind what it had
+  abbrev pub TellsCourses : Config → List Course → Option (List (I × O)) → Option (List (I × O)) → Type 0
+  TellsCourses config courses before None = Unit {0}
+  TellsCourses config courses before (Some after) = (earlier mine : List (I × O)) × (before ≡ Some earlier) × (after ≡ earlier ++ mine) × AllZip (IsServedIn config) courses mine
+
+-- ---- all workers
+
+abbrev pub is_memory : End → Bool
+is_memory Memory = true
+is_memory Closed = false
+is_memory (Cut at) = false
+is_memory (BadHeader at) = false
+is_memory (TooLong at) = false
+is_memory (OutOfPlace at kind) = false
+is_memory (BadPrelogin fault) = false
+is_memory (LoginRefused number) = false
+is_memory (BadBatch fault) = false
+is_memory Spent = false
+is_memory ReadFault = false
+is_memory WriteFault = false
+
+-- how many connections ended since memory was wanting
+abbrev pub starved_in : List Course → ℕ
+starved_in courses = length (filter (λ course. is_memory course.end) courses)
+
+-- the courses of all workers, one worker's behind another's
+abbrev pub all_courses : List (List Course) → List Course
+all_courses each = flat_map (λ courses. courses) each
+
+-- each of these seats served the connections of its list
+abbrev pub AllFollow : List EngineSeat → List (List Course) → List EngineSeat → Type 0
+AllFollow [] [] [] = Unit {0}
+AllFollow [] [] (new ∷ news) = ⊥
+AllFollow [] (courses ∷ each) news = ⊥
+AllFollow (old ∷ olds) [] news = ⊥
+AllFollow (old ∷ olds) (courses ∷ each) [] = ⊥
+AllFollow (old ∷ olds) (courses ∷ each) (new ∷ news) = Follow old courses new × AllFollow olds each news
+
+module _ {I O : Type 0} (left given : I → Option (List ℕ)) (input_faults : I → ℕ) (written : O → Option (List ℕ)) (output_faults : O → ℕ) where
+  -- Each seat served the connections of one of these lists, and all of them are what the hall was given back since.
+  pub record AllWorked (config : Config) (olds news : List EngineSeat) (told_old told_new : Option (List (I × O))) (tally : Tally) : Type 0 where
+    pub each : List (List Course)
+    pub follow : AllFollow olds each news
+    pub told : TellsCourses left given input_faults written output_faults config (all_courses each) told_old told_new
+    pub connections : tally.connections ≡ count_on 0 (length (all_courses each))
+    pub starved : tally.starved ≡ count_on 0 (starved_in (all_courses each))
+
+-- a count has risen by so many, if it was one of its type
+abbrev pub RisesBy : ℕ → ℕ → ℕ → Type 0
+RisesBy old new more = old ≤ 2 ^ 64 - 1 → new ≡ count_on old more
+
+-- How the workers are counted, and what the hall's numbers have risen by, where so many rounds were given. Where memory was wanting for a
+-- door or for the list of the workers, none began. Fewer connections than the rounds come only of doors that failed or closed.
+pub record Tallied (rounds : Option ℕ) (workers : ℕ) (faults_old faults_new finished_old finished_new failed_old failed_new closed_old closed_new : ℕ) (tally : Tally) : Type 0 where
+  pub faulty : 0 < tally.failed → HasRisen faults_old faults_new
+  pub counted : faults_old ≤ 2 ^ 64 - 1 → faults_old ≤ faults_new
+  pub faultless : faults_old ≤ 2 ^ 64 - 1 → tally.failed ≡ 0 → faults_new ≡ faults_old
+  pub finished : RisesBy finished_old finished_new tally.connections
+  pub failed : RisesBy failed_old failed_new tally.failed
+  pub closed : RisesBy closed_old closed_new tally.closed
+  pub bounded : IfSome rounds (λ all. tally.connections ≤ all)
+  pub none : tally.memory ≡ true → (tally.connections ≡ 0) × (tally.starved ≡ 0) × (tally.failed ≡ 0) × (tally.closed ≡ 0)
+  pub least : tally.memory ≡ false → IfSome rounds (λ all. all / workers * (workers - (tally.failed + tally.closed)) ≤ tally.connections)
+  pub whole : tally.memory ≡ false → tally.failed ≡ 0 → tally.closed ≡ 0 → IfSome rounds (λ all. tally.connections ≡ all)
+  pub ended : tally.memory ≡ false → rounds ≡ None → tally.failed + tally.closed ≡ workers

@@ -1,0 +1,4 @@
+pub mod Mine
+pub mod Numbers
+pub mod Waits
+pub mod Goes

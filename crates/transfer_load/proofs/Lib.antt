@@ -1,0 +1,7 @@
+mod Sent
+mod ReadReplies
+mod DoneConnections
+mod Messages
+mod Closing
+mod AllClosed
+mod OneReading

@@ -1,0 +1,28 @@
+use Rattle.std.proofs.Common.{rules, subst, inl, inr, refl, [], map, string_bytes}
+use Rattle.std.specs.Prelude.{Err}
+use Rattle.program_words.specs.declared.fault.WordsFault.{WordsFault}
+use Rattle.program_words.specs.Asked.{Answers}
+use Rattle.tsqld.proofs.Runs.{as_read, only_shown}
+use Rattle.tsqld.proofs.program.run_program.Goals as goal
+
+pub returns-in-Ok-clause-pipe : goal.returns-in-Ok-clause-pipe
+returns-in-Ok-clause-pipe g c = λ user password bare asks. let did = c.run_command.ensures.pipe user password bare (as_read _ c.in-Ok.command _ c.in-Ok.ensures.answers asks) in (did.0, inl did.1)
+
+pub returns-in-Ok-clause-listen : goal.returns-in-Ok-clause-listen
+returns-in-Ok-clause-listen g c = λ port workers rounds user password asks. let did = c.run_command.ensures.listen port workers rounds user password (as_read _ c.in-Ok.command _ c.in-Ok.ensures.answers asks) in (did.0, inl did.1)
+
+pub returns-in-Ok-clause-complete_listen : goal.returns-in-Ok-clause-complete_listen
+returns-in-Ok-clause-complete_listen g c = λ port workers rounds user password asks. c.run_command.ensures.complete_listen port workers rounds user password (as_read _ c.in-Ok.command _ c.in-Ok.ensures.answers asks)
+
+pub returns-in-Ok-clause-no_command : goal.returns-in-Ok-clause-no_command
+returns-in-Ok-clause-no_command g c = λ other. let shown = only_shown _ _ c.in-Ok.command c.in-Ok.ensures.answers other c.run_command.ensures.shows in
+    (shown.1.0, shown.1.1, shown.1.2, inr (shown.2, (shown.0, shown.1.3)))
+
+pub returns-in-Ok-clause-load : goal.returns-in-Ok-clause-load
+returns-in-Ok-clause-load g c = λ transfers workers asks. c.run_command.ensures.load transfers workers (as_read _ c.in-Ok.command _ c.in-Ok.ensures.answers asks)
+
+pub returns-in-Err-Refused-clause-refused : goal.returns-in-Err-Refused-clause-refused
+returns-in-Err-Refused-clause-refused g c = λ two. subst (λ (fault : WordsFault). Answers (map string_bytes c.args.words.now) (Err fault)) c.in-Err-Refused.field-0-is c.in-Err-Refused.ensures.answers
+
+pub returns-in-Err-Memory-clause-steps : goal.returns-in-Err-Memory-clause-steps
+returns-in-Err-Memory-clause-steps g c = λ asks. (refl, refl, ([], record { from_left = search rules; to_given = search rules }, inl (inr refl, refl)))
