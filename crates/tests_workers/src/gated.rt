@@ -205,13 +205,22 @@ impl<'a> Hall for GatedHall<'a> {
         })
     }
 
-    fn rejoin(&mut self, mut door: GatedDoor<'a>) {
-        self.finished = self.finished.saturating_add(door.finished);
-        if door.has_closed {
-            self.closed = self.closed.saturating_add(1);
-        }
-        while let Some(kept) = door.kept.pop() {
-            let _ = self.kept.push(kept);
-        }
+    fn rejoin(&mut self, door: GatedDoor<'a>) {
+        let GatedDoor {
+            kept,
+            finished,
+            has_closed,
+            ..
+        } = door;
+        self.finished = self.finished.saturating_add(finished);
+        self.closed = self.closed.saturating_add(u64::from(has_closed));
+        keep_all(&mut self.kept, kept);
+    }
+}
+
+/// Keeps what others kept. A test that misses one fails.
+fn keep_all(kept: &mut Vec<Kept>, others: Vec<Kept>) {
+    for other in others {
+        let _ = kept.push(other);
     }
 }
