@@ -1,4 +1,4 @@
-//! Tests of what no text reaches: keys in maps and in order, units and copies, variables, transaction states and places
+//! Tests of what no text reaches: keys in maps and in order, units and copies, variables, cursors, transaction states and places
 //! of trees where nothing stands, with ample memory. What they answer is proved; that they answer is shown here.
 //!
 //! Conversions, expressions and tests are lines of `tests_queries`.
@@ -6,6 +6,8 @@
 
 #[cfg(test)]
 mod copies;
+#[cfg(test)]
+mod cursors;
 #[cfg(test)]
 mod keys;
 #[cfg(test)]
