@@ -1,0 +1,5 @@
+mod Lists
+mod Named
+mod Slots
+mod Outcomes
+mod StandardFacts
