@@ -1,27 +1,18 @@
 -- What is refused before a statement on transactions asks.
-use Rattle.std.proofs.Common.{◌≡◌, Bool, true, false, if◌then◌else◌, List, Result, Ok, Err, refl, sym, ap, ◌∙◌, subst}
+use Rattle.std.proofs.Common.{◌≡◌, Bool, true, false, if◌then◌else◌, List, Result, Ok, Err, refl, ap, ◌∙◌, subst}
 use Rattle.std.specs.Prelude.{nat_lt, IfOk}
 use Rattle.std.specs.Result.{IsErr, IsErrAnd}
 use Rattle.value_types.specs.declared.memory.Memory.{Memory}
-use Rattle.tsql_tree.specs.declared.statement.Statement.{Statement}
 use Rattle.step_model.specs.Port.{PortPast}
 use Rattle.tds_tokens.specs.declared.token.Token.{Token}
 use Rattle.batch_meaning.specs.declared.failure.Failure.{Failure}
 use Rattle.batch_meaning.specs.Failures.{plain}
-use Rattle.batch_meaning.specs.Selecting.{Effect, result_full}
+use Rattle.batch_meaning.specs.Selecting.{result_full}
 use Rattle.batch_meaning.specs.Progress.{SessionProgress, size_of}
 use Rattle.batch_meaning.specs.Doing.{Doing, Did}
 use Rattle.batch_meaning.specs.Asking.{fails, if_bytes_left, with_room}
-use Rattle.batch_meaning.specs.Transactions.{bound_first}
 use Rattle.batch_meaning.proofs.Composed.{does_over, does_reads, does_room}
-use Rattle.batch_exec.specs.Selected.{IsAffordable, IsBoundFirst}
-use Rattle.batch_exec.proofs.TxnSteps.{bound_not}
-
--- it is not bound
-pub bound_fails : {past : PortPast} (statement : Statement) (go : SessionProgress → Doing (Result Effect Failure)) {p : SessionProgress} (failure : Failure) (result : Result Effect Failure) → IsErr result → IsErrAnd result (λ x. x ≡ failure)
-    → IsBoundFirst p statement (Err failure) → Did past past (bound_first statement go) p (Ok result) p
-bound_fails statement go failure (Ok effect) err same is = absurd (let never : false ≡ true = err in cc)
-bound_fails {past = past} statement go {p = p} failure (Err x) err same is = subst (λ (f : Failure). Did {A = Result Effect Failure} past past (bound_first statement go) p (Ok (Err f)) p) (sym same) (bound_not statement go is)
+use Rattle.batch_exec.specs.Running.{IsAffordable}
 
 -- tokens that can't be made or sent
 pub does_unaffordable : {past : PortPast} {A : Type 0} (tokens : List Token) (made : Result (List Token) Memory) (next : Doing (Result A Failure)) {p : SessionProgress} (failure : Failure) (result : Result A Failure) → IsErr result → IsErrAnd result (λ x. x ≡ failure)

@@ -1,5 +1,5 @@
 -- What becomes of an error.
-use Rattle.std.proofs.Common.{◌≡◌, ℕ, ℤ, Bool, true, false, if◌then◌else◌, List, [], ◌∷◌, Result, Ok, Err, nat_eq, refl, sym, ap, ◌∙◌, subst}
+use Rattle.std.proofs.Common.{◌≡◌, ℕ, ℤ, Bool, true, false, List, [], ◌∷◌, Result, Ok, Err, nat_eq, refl, sym, ap, ◌∙◌, subst, if◌then◌else◌}
 use Rattle.std.specs.Prelude.{IfErr, IfOk}
 use Rattle.value_types.specs.declared.memory.Memory.{Memory}
 use Rattle.tsql_tree.specs.declared.statement.Statement.{Statement}
@@ -15,11 +15,12 @@ use Rattle.batch_meaning.specs.declared.raised.Raised.{Raised}
 use Rattle.batch_meaning.specs.Raised.{Around, action_in, is_caught_in}
 use Rattle.batch_meaning.specs.Tokens.{command_of}
 use Rattle.batch_meaning.specs.Progress.{AreLive, Ready, SessionProgress, made, sends, tells_error, tells_rows}
-use Rattle.batch_meaning.specs.Doing.{Did, makes, over}
-use Rattle.batch_meaning.specs.Meaning.{caught_as, leaves_rows, line_of, or_full, raises, strikes, told_as}
+use Rattle.batch_meaning.specs.Doing.{Did, makes, over, Doing}
+use Rattle.batch_meaning.specs.Meaning.{caught_as, leaves_rows, line_of, or_full, raises, strikes, told_as, counted, sends_some}
 use Rattle.batch_meaning.specs.Values.{Assigned}
-use Rattle.batch_exec.specs.Selected.{assigned_all, sent_some}
-use Rattle.batch_exec.proofs.Selects.{assigned_only}
+use Rattle.session_state.specs.Parts.{assigned_all, Stepped}
+use Rattle.batch_exec.specs.Running.{sent_some}
+use Rattle.session_state.proofs.Stepping.{assigned_only, stepped_makes}
 use Rattle.batch_meaning.proofs.Composed.{does_makes, does_out, does_over, does_reads}
 
 -- an error is raised: this is what is told of it
@@ -35,6 +36,17 @@ does_refused {past = past} tokens {p = p} {new = new} (Ok exit) sent kept = subs
 does_refused tokens (Err memory) sent kept = does_out (Err memory) refl kept
 
 -- ---- a statement that succeeded
+
+pub stepped_counted : (form : Layer) (rows : ℕ) (next : Doing Exit) {p q new : SessionProgress} {result : Result Exit Memory} → q ≡ (if leaves_rows form then p else made (tells_rows rows) p) → Stepped next q result new → Stepped (counted form rows next) p result new
+stepped_counted form rows next {p = p} {q = q} {new = new} {result = result} same was = by_form (leaves_rows form) refl
+  where
+    by_form : (leaves : Bool) → leaves_rows form ≡ leaves → Stepped (if leaves then next else makes (tells_rows rows) next) p result new
+    by_form true is = subst (λ (x : SessionProgress). Stepped next x result new) (same ∙ ap (λ (b : Bool). if b then p else made (tells_rows rows) p) is) was
+    by_form false is = stepped_makes (same ∙ ap (λ (b : Bool). if b then p else made (tells_rows rows) p) is) was
+
+pub stepped_sends : (tokens : List Token) (next : Doing Exit) {p q new : SessionProgress} {result : Result Exit Memory} → q ≡ sent_some tokens p → Stepped next q result new → Stepped (sends_some tokens next) p result new
+stepped_sends [] next {new = new} {result = result} same was = subst (λ (x : SessionProgress). Stepped next x result new) same was
+stepped_sends (token ∷ tokens) next same was = stepped_makes same was
 
 -- these are as they were
 abbrev pub Stays : SessionProgress → SessionProgress → Type 0

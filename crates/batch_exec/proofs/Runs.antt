@@ -24,7 +24,7 @@ use Rattle.batch_meaning.specs.Progress.{SessionProgress, made, counts, sets, te
 use Rattle.batch_meaning.specs.Doing.{Doing, over, makes, ◌then◌, Came, Did, Leads}
 use Rattle.batch_meaning.specs.Meaning.{Meaning, concluded, concludes, decides, does, doomed_write, each_of, fails_for, goes_on, handled, is_refused_doomed, mean_by, mean_form, mean_of, set_by, sets_option, spends, succeeds, turned, turns, turns_again}
 use Rattle.batch_meaning.proofs.Composed.{does_over, does_reads, does_makes, does_then, does_yes, does_no, leads_here, leads_then, leads_to, leads_reads, leads_makes, leads_no}
-use Rattle.batch_exec.specs.Selected.{IsWhile, Loops, turning}
+use Rattle.batch_exec.specs.Running.{IsWhile, Loops, turning}
 
 -- ---- one after another
 

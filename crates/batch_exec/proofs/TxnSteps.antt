@@ -5,8 +5,6 @@ use Rattle.std.specs.List.{list_any}
 use Rattle.std.proofs.lemmas.List.Elements.{All-head, All-tail}
 use Rattle.value_types.specs.declared.memory.Memory.{Memory}
 use Rattle.value_types.specs.Units.{same_units}
-use Rattle.tsql_tree.specs.declared.statement.Statement.{Statement}
-use Rattle.bound_tree.specs.declared.write.Bound.{Bound}
 use Rattle.step_model.specs.Port.{PortPast}
 use Rattle.txn_rules.specs.declared.savepoints.Savepoint.{Savepoint}
 use Rattle.txn_rules.specs.declared.state.BackKind.{BackKind}
@@ -17,14 +15,14 @@ use Rattle.txn_rules.specs.State.{back_to, count_limit, is_called, is_closed, ro
 use Rattle.tds_tokens.specs.declared.token.Token.{Token}
 use Rattle.batch_meaning.specs.declared.failure.Failure.{Failure}
 use Rattle.batch_meaning.specs.Failures.{plain}
-use Rattle.batch_meaning.specs.Selecting.{Effect, bound_over, no_effect, result_full}
+use Rattle.batch_meaning.specs.Selecting.{no_effect, result_full}
 use Rattle.batch_meaning.specs.Settings.{outside_profile}
 use Rattle.batch_meaning.specs.Progress.{SessionProgress, AreLive, Ready, opens, size_of}
-use Rattle.batch_meaning.specs.Doing.{Doing, over, reads, makes, Held, Did}
-use Rattle.batch_meaning.specs.Asking.{◌>>=◌, fails, if_bytes_left, on_ok, with_room}
-use Rattle.batch_meaning.specs.Transactions.{begins_outermost, begins_over, bound_first, fails_of, goes_back, next_serial, nothing_open, rolls_back_to, rolls_back_whole}
-use Rattle.batch_meaning.proofs.Composed.{does_over, does_reads, does_room, does_then}
-use Rattle.batch_exec.specs.Selected.{BoundSo, IsAffordable, IsBoundFirst, IsNumbered, IsOrMemory}
+use Rattle.batch_meaning.specs.Doing.{Doing, over, makes, Did}
+use Rattle.batch_meaning.specs.Asking.{fails, if_bytes_left}
+use Rattle.batch_meaning.specs.Transactions.{begins_outermost, begins_over, fails_of, goes_back, next_serial, nothing_open, rolls_back_to, rolls_back_whole}
+use Rattle.batch_meaning.proofs.Composed.{does_over, does_reads, does_room}
+use Rattle.batch_exec.specs.Running.{IsAffordable, IsNumbered}
 
 -- ---- what is open
 
@@ -48,64 +46,7 @@ found_live name marks mark so_far (savepoint ∷ saves) known live is =
     by_name true m is = subst (λ (n : ℕ). IsTrue (list_any (λ live. nat_eq live n) marks)) (let same : savepoint.mark ≡ m = cc in same) (All-head (λ (s : Savepoint). IsTrue (list_any (λ live. nat_eq live s.mark) marks)) savepoint saves live)
     by_name false m is = known m is
 
--- ---- bound first
-
-pub bound_on : {past after : PortPast} (statement : Statement) (go : SessionProgress → Doing (Result Effect Failure)) {p new : SessionProgress} {result : Result Effect Failure}
-    → IsBoundFirst p statement (Ok tt) → Did past after (with_room (reads go)) p (Ok result) new → Did past after (bound_first statement go) p (Ok result) new
-bound_on {past = past} {after = after} statement go {p = p} {new = new} {result = result} is did = by_bound (bound_over [] p.vars statement) refl is
-  where
-    by_bound : (bound : Result Bound Failure) → bound_over [] p.vars statement ≡ bound → BoundSo bound (Ok tt) → Did past after ((reads λ q. with_room (over (bound_over [] q.vars statement))) >>= (λ of. with_room (reads go))) p (Ok result) new
-    by_bound (Ok of) same so = does_then (reads λ q. with_room (over (bound_over [] q.vars statement))) (on_ok (λ of. with_room (reads go))) {a = Ok of} (does_reads (does_room true (rw same (does_over refl)))) did
-    by_bound (Err failure) same (inl never) = absurd cc
-    by_bound (Err failure) same (inr never) = absurd cc
-
-pub bound_not : {past : PortPast} (statement : Statement) (go : SessionProgress → Doing (Result Effect Failure)) {p : SessionProgress} {failure : Failure}
-    → IsBoundFirst p statement (Err failure) → Did past past (bound_first statement go) p (Ok (Err failure)) p
-bound_not {past = past} statement go {p = p} {failure = failure} is = by_bound (bound_over [] p.vars statement) refl is
-  where
-    tree : Doing (Result Effect Failure)
-    tree = (reads λ q. with_room (over (bound_over [] q.vars statement))) >>= (λ of. with_room (reads go))
-
-    wanting : failure ≡ plain 701 → Did past past tree p (Ok (Err failure)) p
-    wanting none = subst (λ (f : Failure). Did past past tree p (Ok (Err f)) p) (sym none) (does_then (reads λ q. with_room (over (bound_over [] q.vars statement))) (on_ok (λ of. with_room (reads go))) {a = Err (plain 701)} (does_reads (does_room false (does_over refl))) (does_over refl))
-
-    by_bound : (bound : Result Bound Failure) → bound_over [] p.vars statement ≡ bound → BoundSo bound (Err failure) → Did past past tree p (Ok (Err failure)) p
-    by_bound (Ok of) same (inl never) = absurd cc
-    by_bound (Ok of) same (inr none) = wanting (let is : failure ≡ plain 701 = cc in is)
-    by_bound (Err why) same (inl so) = let is : why ≡ failure = cc in subst (λ (f : Failure). Did past past tree p (Ok (Err f)) p) is (does_then (reads λ q. with_room (over (bound_over [] q.vars statement))) (on_ok (λ of. with_room (reads go))) {a = Err why} (does_reads (does_room true (rw same (does_over refl)))) (does_over refl))
-    by_bound (Err why) same (inr none) = wanting (let is : failure ≡ plain 701 = cc in is)
-
--- ---- room
-
--- another thing is done where there is room
-pub does_roomed : {before after : PortPast} {A : Type 0} (tree other : Doing (Result A Failure)) {p new : SessionProgress} {result : Result A Failure}
-    → ((r : Result A Failure) → Did before after tree p (Ok r) new → Did before after other p (Ok r) new) → Did before after (with_room tree) p (Ok result) new → Did before after (with_room other) p (Ok result) new
-unfolding Held
-does_roomed {before = before} {after = after} tree other {p = p} {new = new} {result = result} goes did = by_room did.came.0 did.came.1
-  where
-    by_room : (enough : Bool) → Held (if enough then tree else fails 701) p did.exchanges result new → Did before after (with_room other) p (Ok result) new
-    by_room true held = does_room true (goes result (record { exchanges = did.exchanges; past = did.past; came = held }))
-    by_room false held = does_room false (record { exchanges = did.exchanges; past = did.past; came = held })
-
--- ---- what a statement is bound to first
-
-pub bound_so : (meant : Result Bound Failure) (of : Bound) → IsOrMemory meant (Ok of) → BoundSo meant (Ok tt)
-bound_so (Ok meant) of is = inl refl
-bound_so (Err why) of (inl same) = absurd cc
-bound_so (Err why) of (inr none) = absurd cc
-
-pub unbound_so : (meant : Result Bound Failure) (failure : Failure) → IsOrMemory meant (Err failure) → BoundSo meant (Err failure)
-unbound_so (Ok meant) failure (inl same) = absurd cc
-unbound_so (Ok meant) failure (inr none) = inr (let is : failure ≡ plain 701 = cc in ap Err is)
-unbound_so (Err why) failure (inl same) = inl (let is : failure ≡ why = cc in ap Err is)
-unbound_so (Err why) failure (inr none) = inr (let is : failure ≡ plain 701 = cc in ap Err is)
-
--- ---- what comes behind the binding
-
--- it goes on so, by how far the session has come
-pub does_go : {before after : PortPast} {A : Type 0} (tree : Doing (Result A Failure)) (go : SessionProgress → Doing (Result A Failure)) {p new : SessionProgress} {result : Result A Failure} → go p ≡ tree
-    → Did before after (with_room tree) p (Ok result) new → Did before after (with_room (reads go)) p (Ok result) new
-does_go {before = before} {after = after} {A = A} tree go {p = p} {new = new} same did = does_roomed tree (reads go) (λ r was. does_reads (subst (λ (t : Doing (Result A Failure)). Did before after t p (Ok r) new) (sym same) was)) did
+-- ---- what is sent
 
 -- tokens that the batch may still send, and what is sent then
 pub does_afforded : {past after : PortPast} {A : Type 0} (tokens : List Token) (made : Result (List Token) Memory) (next : Doing (Result A Failure)) {sent : List Token} {p new : SessionProgress} {result : Result (Result A Failure) Memory}

@@ -8,13 +8,12 @@ ghost use Rattle.batch_meaning.specs.Doing.{Did};
 ghost use Rattle.batch_meaning.specs.Meaning.{batch, ends, ends_doomed, has_failed, runs_text, vars_in_text};
 ghost use Rattle.batch_meaning.specs.Progress.{Ready, made, sends, statement_limit};
 
-use crate::around::Around;
 use crate::errors::roll_back_told;
-use crate::numbers::{DOOMED_AT_END, NOT_BUILT};
 use crate::running::run_statements;
-use crate::state::SessionState;
-use crate::tokens::{batch_end, error_tokens, raised_at};
 use batch_meaning::{Exit, Failure, ReadText};
+use session_state::{
+    Around, DOOMED_AT_END, NOT_BUILT, SessionState, batch_end, error_tokens, raised_at,
+};
 use session_vars::Vars;
 use std::alloc::Global;
 use step_model::Port;

@@ -7,17 +7,16 @@ ghost use Rattle.batch_meaning.specs.Doing.{Did, over};
 ghost use Rattle.batch_meaning.specs.Meaning.{caught_as, counted, ended_by, fails_for, leaves_rows, line_of, or_full, raises, rolls_back_open, rolls_back_told, spends, succeeds, told_as};
 ghost use Rattle.batch_meaning.specs.Progress.{Ready, made, tells_rows};
 ghost use Rattle.batch_meaning.specs.Tokens.{command_of};
-ghost use Rattle.batch_exec.specs.Selected.{SetsFit, Stepped, sent_some};
+ghost use Rattle.session_state.specs.Parts.{SetsFit, Stepped};
+ghost use Rattle.batch_exec.specs.Running.{sent_some};
 
-use crate::around::Around;
-use crate::effect::Effect;
-use crate::numbers::{RESULT_FULL, STATEMENTS_SPENT};
-use crate::sendable::TokenList;
-use crate::state::SessionState;
-use crate::tokens::{command_of, raised_at, rolled_back, told_tokens};
-use crate::working::line_of;
 use batch_meaning::{Exit, Failure, Raised};
 use error_table::Action;
+use session_state::{
+    Around, Effect, RESULT_FULL, STATEMENTS_SPENT, SessionState, TokenList, command_of, raised_at,
+    told_tokens, transaction_rolled_back,
+};
+use statement_exec::line_of;
 use std::alloc::Global;
 use step_model::{Op, Port, Reply};
 use tsql_tree::{Form, Statement};
@@ -54,7 +53,7 @@ pub(crate) fn roll_back_told<P: Port>(
     if !session.in_transaction() {
         return Ok(());
     }
-    let tokens = rolled_back(alloc, session.serial())?;
+    let tokens = transaction_rolled_back(alloc, session.serial())?;
     match session.ask(port, &Op::Rollback) {
         Reply::Ended { .. } => {
             session.send(tokens)?;
@@ -249,6 +248,7 @@ fn leaves_rows(form: &Form) -> bool
         Form::Block(_) => true,
         Form::TryCatch(_, _) => true,
         Form::Declare(_) => true,
+        Form::DeclareCursor(_, _) => true,
         _ => false,
     }
 }

@@ -5,9 +5,9 @@ ghost use Rattle.step_model.specs.Exchange.{IsPriority};
 ghost use Rattle.batch_meaning.specs.Settings.{at_level, outside_profile, priority_of, set_option, with_priority, with_timeout};
 ghost use Rattle.batch_meaning.specs.Failures.{plain};
 
-use crate::numbers::OUTSIDE_PROFILE;
 use batch_meaning::{Failure, Settings};
 use dml_exec::Level;
+use session_state::OUTSIDE_PROFILE;
 use step_model::{Manner, Patience};
 use tsql_tree::{IsolationLevel, PriorityWord, SessionOption};
 

@@ -10,22 +10,24 @@ ghost use Rattle.batch_meaning.specs.Raised.{again};
 ghost use Rattle.tsql_tree.specs.declared.statement.Form.{out-Form};
 ghost use Rattle.tsql_tree.specs.declared.statement.Statement.{Statement as Tree};
 ghost use Rattle.batch_meaning.specs.Progress.{Ready};
-ghost use Rattle.batch_exec.specs.Selected.{IsSimple, IsWhile, Loops, SetsFit, turning};
+ghost use Rattle.batch_exec.specs.Running.{IsSimple, IsWhile, Loops, turning};
+ghost use Rattle.session_state.specs.Parts.{SetsFit};
 
-use crate::around::Around;
-use crate::effect::Effect;
 use crate::errors::{fail, raise_counted, spend, succeed};
-use crate::numbers::{DOOMED_WRITE, OUTSIDE_PROFILE};
 use crate::options::set_option;
-use crate::state::SessionState;
-use crate::tokens::{is_message, messages};
 use crate::transactions::{
     begin_transaction, commit_transaction, roll_back_transaction, save_transaction,
 };
-use crate::working::{compose, create_table, test, work};
 use batch_meaning::{Exit, Failure, Raised};
 use error_table::RaisedBy;
+use session_state::{
+    Around, DOOMED_WRITE, Effect, OUTSIDE_PROFILE, SessionState, is_message, messages,
+};
 use sqlite_items::Boxed;
+use statement_exec::{
+    close_cursor, compose, create_table, declare_cursor, fetch, open_cursor, remove_cursor, test,
+    work,
+};
 use std::alloc::Global;
 use step_model::Port;
 use tsql_tree::{Form, SessionOption, Statement};
@@ -174,6 +176,26 @@ fn run_simple<P: Port>(
         Form::CreateTable(table, text) => {
             let name = &table.get().name;
             let came = create_table(alloc, session, port, statement, name, text);
+            conclude(alloc, session, port, statement, around, came, Exit::On)
+        }
+        Form::DeclareCursor(name, select) => {
+            let came = declare_cursor(alloc, session, statement, name, select.get());
+            conclude(alloc, session, port, statement, around, came, Exit::On)
+        }
+        Form::OpenCursor(name) => {
+            let came = open_cursor(alloc, session, port, statement, name, around);
+            conclude(alloc, session, port, statement, around, came, Exit::On)
+        }
+        Form::Fetch(name, variables) => {
+            let came = fetch(alloc, session, statement, name, variables.as_slice());
+            conclude(alloc, session, port, statement, around, came, Exit::On)
+        }
+        Form::CloseCursor(name) => {
+            let came = close_cursor(alloc, session, statement, name);
+            conclude(alloc, session, port, statement, around, came, Exit::On)
+        }
+        Form::Deallocate(name) => {
+            let came = remove_cursor(alloc, session, statement, name);
             conclude(alloc, session, port, statement, around, came, Exit::On)
         }
         _ => {

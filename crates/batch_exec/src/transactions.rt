@@ -7,36 +7,19 @@ ghost use Rattle.batch_meaning.specs.Doing.{Did};
 ghost use Rattle.batch_meaning.specs.Progress.{Ready};
 ghost use Rattle.batch_meaning.specs.Transactions.{begins_outermost, begins_transaction, commits_by, commits_transaction, goes_back, next_serial, rolls_back_transaction, rolls_back_whole, saves_transaction, saves_unless};
 ghost use Rattle.batch_meaning.specs.Asking.{with_room};
-ghost use Rattle.batch_exec.specs.Selected.{IsAffordable, IsBoundFirst, IsNumbered};
+ghost use Rattle.batch_exec.specs.Running.{IsAffordable, IsNumbered};
 
-use crate::changing::take_back;
-use crate::discard::discard;
-use crate::effect::Effect;
-use crate::failures::no_memory;
-use crate::numbers::{NOTHING_OPEN, OUTSIDE_PROFILE, RESULT_FULL};
-use crate::prepare::bound;
-use crate::sendable::TokenList;
-use crate::state::SessionState;
-use crate::tokens::{begun, committed, rolled_back};
 use batch_meaning::Failure;
+use session_state::{
+    Effect, NOTHING_OPEN, OUTSIDE_PROFILE, RESULT_FULL, SessionState, TokenList, no_memory,
+    transaction_begun, transaction_committed, transaction_rolled_back,
+};
+use statement_exec::{bind_first, take_back};
 use std::alloc::Global;
 use step_model::{Op, Port, Reply};
 use tsql_tree::Statement;
 use txn_rules::BackKind;
 use value_types::{Memory, Units};
-
-/// A statement on transactions is bound, over no definitions; it names nothing that is looked up.
-fn bind_first(alloc: Global, session: &SessionState, statement: &Statement) -> Result<(), Failure>
-    ensures { IsBoundFirst session.now statement.now result }
-{
-    match bound(alloc, statement, &[], session.vars()) {
-        Ok(of) => {
-            discard(of);
-            Ok(())
-        }
-        Err(failure) => Err(failure),
-    }
-}
 
 /// Tokens that the batch may still send.
 fn affordable(
@@ -106,7 +89,7 @@ fn begin_outermost<P: Port>(
     ensures ready { Ready session.new (P.past port.new) }
     ensures none { IfOk result (λ effect. effect.sets ≡ []) }
 {
-    let tokens = affordable(session, begun(alloc, session.next_serial()))?;
+    let tokens = affordable(session, transaction_begun(alloc, session.next_serial()))?;
     let Ok(name) = copy_of(alloc, name) else {
         return Err(no_memory());
     };
@@ -157,7 +140,7 @@ fn commit_outermost<P: Port>(
     ensures ready { Ready session.new (P.past port.new) }
     ensures none { IfOk result (λ effect. effect.sets ≡ []) }
 {
-    let tokens = affordable(session, committed(alloc, session.serial()))?;
+    let tokens = affordable(session, transaction_committed(alloc, session.serial()))?;
     match session.ask(port, &Op::Commit) {
         Reply::Ended { .. } => Ok(Effect::sending(alloc, tokens)),
         _ => unreachable!(),
@@ -234,7 +217,7 @@ fn roll_back_whole<P: Port>(
     ensures ready { Ready session.new (P.past port.new) }
     ensures none { IfOk result (λ effect. effect.sets ≡ []) }
 {
-    let tokens = affordable(session, rolled_back(alloc, session.serial()))?;
+    let tokens = affordable(session, transaction_rolled_back(alloc, session.serial()))?;
     match session.ask(port, &Op::Rollback) {
         Reply::Ended { .. } => Ok(Effect::sending(alloc, tokens)),
         _ => unreachable!(),

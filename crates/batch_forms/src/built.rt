@@ -31,11 +31,6 @@ fn is_built(statement: &Statement) -> bool
         Form::TryCatch(body, handler) => {
             are_built(body.as_slice()) && are_built(handler.as_slice())
         }
-        Form::DeclareCursor(_, _) => false,
-        Form::OpenCursor(_) => false,
-        Form::Fetch(_, _) => false,
-        Form::CloseCursor(_) => false,
-        Form::Deallocate(_) => false,
         Form::Execute(_, _, _) => false,
         _ => true,
     }

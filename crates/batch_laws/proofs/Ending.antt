@@ -1,9 +1,8 @@
 -- How a statement ends, and what it has sent.
-use Rattle.std.proofs.Common.{◌≡◌, ◌⊎◌, inl, inr, ℕ, ℤ, pos, Bool, true, false, if◌then◌else◌, List, [], ◌∷◌, ◌++◌, Result, Ok, Err, refl, sym, ap, ◌∙◌, subst, append_assoc, append-nil}
-use Rattle.std.specs.Prelude.{◌&&◌, min, nat_lt}
+use Rattle.std.proofs.Common.{◌≡◌, ◌⊎◌, inl, inr, ℕ, pos, Bool, true, false, if◌then◌else◌, List, [], ◌∷◌, ◌++◌, Result, Ok, Err, refl, sym, ap, ◌∙◌, subst, append_assoc, append-nil}
+use Rattle.std.specs.Prelude.{min}
 use Rattle.tsql_tree.specs.declared.statement.Statement.{Statement}
 use Rattle.binder.specs.Names.{Layer, form_of}
-use Rattle.error_table.specs.Table as table
 use Rattle.error_table.specs.declared.action.Action.{Action}
 use Rattle.error_table.specs.declared.action.Action.TheVariants as act
 use Rattle.step_model.specs.declared.change.Planned.{Planned}
@@ -21,11 +20,10 @@ use Rattle.batch_meaning.specs.declared.failure.Failure.{Failure}
 use Rattle.batch_meaning.specs.declared.raised.Raised.{Raised}
 use Rattle.batch_meaning.specs.Asking.{assigns_all, where_ended}
 use Rattle.batch_meaning.specs.Doing.{Doing, over, makes, asks, ◌then◌, Held}
-use Rattle.batch_meaning.specs.Failures.{plain}
 use Rattle.batch_meaning.specs.Meaning.{caught_as, concluded, concludes, counted, does, ended_by, fails_for, leaves_rows, line_of, or_full, raises, rolls_back_told, sends_some, strikes, succeeds, told_as, told_tokens}
-use Rattle.batch_meaning.specs.Progress.{SessionProgress, assigns, greatest_count, sends, tells_error, tells_rows, made, asked, size_of}
+use Rattle.batch_meaning.specs.Progress.{SessionProgress, assigns, greatest_count, sends, tells_error, tells_rows, made, asked}
 use Rattle.batch_meaning.specs.Raised.{Around, action_in, error_token, is_caught_in, raised_at}
-use Rattle.batch_meaning.specs.Selecting.{Effect, result_full}
+use Rattle.batch_meaning.specs.Selecting.{Effect}
 use Rattle.batch_meaning.specs.Tokens.{command_of, transaction_rolled_back}
 use Rattle.batch_meaning.specs.Values.{Assigned}
 use Rattle.statement_paths.specs.Paths.{replied, HasDone, work_of}
@@ -35,7 +33,7 @@ use Rattle.statement_paths.proofs.Owned.{nothing_more}
 use Rattle.statement_paths.proofs.Statements.{work_comes}
 use Rattle.statement_paths.proofs.Works.{Worked}
 use Rattle.reading_laws.proofs.Parts.{from_both}
-use Rattle.batch_laws.specs.Committing.{assigned_all, behind_effect, exit_for, rows_behind, Agrees, Ends, IsWithin, Leaves, Strikes, StrikesAs, StrikesBy}
+use Rattle.batch_laws.specs.Committing.{assigned_all, behind_effect, exit_for, rows_behind, Agrees, Ends, IsWithin, Leaves, StrikesAs, StrikesBy}
 use Rattle.batch_laws.specs.Laws.{StatementEnds}
 use Rattle.batch_laws.proofs.Idle.{does_keeps, work_serial}
 use Rattle.batch_laws.proofs.Leaving.{commits_both}
@@ -123,9 +121,9 @@ module _ (p new : SessionProgress) (exchanges : List Exchange) (exit : Exit) (co
       by_caught true was = caught_held (action_in around xact_abort raised) p.is_open was
       by_caught false was = told_held (action_in around xact_abort raised) was
 
--- where it is raised, at most the variables and counts of its session have changed
+-- where it is raised, at most the variables, cursors and counts of its session have changed
 abbrev pub Nearly : SessionProgress → SessionProgress → Type 0
-Nearly p q = q ≡ record p { vars = q.vars; touched = q.touched; txn = q.txn; row_count = q.row_count }
+Nearly p q = q ≡ record p { vars = q.vars; cursors = q.cursors; touched = q.touched; txn = q.txn; row_count = q.row_count }
 
 abbrev pub full_or : Around → SessionProgress → Statement → Raised → Raised
 full_or around p statement raised = or_full around p (command_of (form_of statement)) (line_of statement) raised
@@ -155,16 +153,20 @@ counted_held form rows next p new exchanges exit held = by_test (leaves_rows for
     by_test true was = (p, refl, was, refl)
     by_test false was = (made (tells_rows rows) p, refl, was, refl)
 
+-- behind its count
+pub counted_raises_held : (around : Around) (statement : Statement) (raised : Raised) (p q new : SessionProgress) (exchanges : List Exchange) (exit : Exit) → Worked p q → Held (counted (form_of statement) 0 (raises around statement raised)) q exchanges exit new
+    → Struck around p q.txn statement (full_or around p statement raised) exit exchanges new
+counted_raises_held around statement raised p q new exchanges exit worked held =
+    let on = counted_held (form_of statement) 0 (raises around statement raised) q new exchanges exit held in
+    subst (λ (t : TxnState). Struck around p t statement (full_or around p statement raised) exit exchanges new) (ap (λ (s : SessionProgress). s.txn) on.1) (raises_held around statement raised p on.0 new exchanges exit (near on.0 on.1) on.2)
+  where
+    near : (r : SessionProgress) → r ≡ record q { row_count = r.row_count } → Nearly p r
+    near r is = is ∙ ap (λ (s : SessionProgress). record s { row_count = r.row_count }) worked ∙ ap (λ (s : SessionProgress). record p { vars = s.vars; cursors = s.cursors; touched = s.touched; txn = s.txn; row_count = r.row_count }) (sym is)
+
 pub fails_held : (around : Around) (statement : Statement) (failure : Failure) (p q new : SessionProgress) (exchanges : List Exchange) (exit : Exit) → Worked p q → Held (fails_for around statement failure) q exchanges exit new
     → Struck around p q.txn statement (full_or around p statement (raised_at (line_of statement) failure)) exit exchanges new
 unfolding fails_for
-fails_held around statement failure p q new exchanges exit worked held =
-    let on = counted_held (form_of statement) 0 (raises around statement (raised_at (line_of statement) failure)) q new exchanges exit held in
-    subst (λ (t : TxnState). Struck around p t statement (full_or around p statement (raised_at (line_of statement) failure)) exit exchanges new) (ap (λ (s : SessionProgress). s.txn) on.1)
-    (raises_held around statement (raised_at (line_of statement) failure) p on.0 new exchanges exit (near on.0 on.1) on.2)
-  where
-    near : (r : SessionProgress) → r ≡ record q { row_count = r.row_count } → Nearly p r
-    near r is = is ∙ ap (λ (s : SessionProgress). record s { row_count = r.row_count }) worked ∙ ap (λ (s : SessionProgress). record p { vars = s.vars; touched = s.touched; txn = s.txn; row_count = r.row_count }) (sym is)
+fails_held around statement failure p q new exchanges exit worked held = counted_raises_held around statement (raised_at (line_of statement) failure) p q new exchanges exit worked held
 
 -- ---- it succeeded
 
@@ -201,47 +203,6 @@ succeeds_held statement effect exit came p new exchanges held =
     ended : SessionProgress → SessionProgress
     ended s = record s { error = pos 0; tokens = s.tokens ++ effect.tokens; bytes_left = new.bytes_left }
 
--- ---- an error that can't be told ends its transaction
-
-full_caught : (around : Around) (line : ℤ) → is_caught_in around (raised_at line (plain result_full)) ≡ false
-unfolding table.row_of table.error_lines
-full_caught around line = by_tries around.tries
-  where
-    by_tries : (tries : Bool) → tries && false ≡ false
-    by_tries true = refl
-    by_tries false = refl
-
-full_action : (around : Around) (xact_abort : Bool) (line : ℤ) → action_in around xact_abort (raised_at line (plain result_full)) ≡ act.BatchAndTransaction
-unfolding table.row_of table.error_lines
-full_action around true line = refl
-full_action around false line = refl
-
--- however much the batch may still send
-full_same : (around : Around) (p : SessionProgress) (statement : Statement) → full_or around p statement (raised_at (line_of statement) (plain result_full)) ≡ raised_at (line_of statement) (plain result_full)
-full_same around p statement = by_tests (is_caught_in around raised) (nat_lt p.bytes_left (size_of (told_tokens (action_in around p.settings.xact_abort raised) (command_of (form_of statement)) raised)))
-  where
-    raised : Raised
-    raised = raised_at (line_of statement) (plain result_full)
-
-    by_tests : (caught full : Bool) → (if caught then raised else if full then raised else raised) ≡ raised
-    by_tests true full = refl
-    by_tests false true = refl
-    by_tests false false = refl
-
--- so where a transaction is open, it asks something
-full_ends : (around : Around) (p new : SessionProgress) (txn : TxnState) (statement : Statement) (exit : Exit) (tokens : List Token) (exchanges : List Exchange) → p.is_open ≡ true → Strikes around p txn statement (raised_at (line_of statement) (plain result_full)) exit tokens exchanges new
-    → exchanges ≡ [] → ⊥
-full_ends around p new txn statement exit tokens exchanges opened strikes none =
-    let line : ℤ = line_of statement in
-    let told : StrikesAs around p txn statement (raised_at line (plain result_full)) exit tokens exchanges new = subst (λ (r : Raised). StrikesAs around p txn statement r exit tokens exchanges new) (full_same around p statement) strikes in
-    let by_caught : StrikesBy p.settings.manner false (action_in around p.settings.xact_abort (raised_at line (plain result_full))) p.is_open txn (command_of (form_of statement)) (raised_at line (plain result_full)) exit tokens exchanges new.txn =
-    subst (λ (b : Bool). StrikesBy p.settings.manner b (action_in around p.settings.xact_abort (raised_at line (plain result_full))) p.is_open txn (command_of (form_of statement)) (raised_at line (plain result_full)) exit tokens exchanges new.txn) (full_caught around line) told.0 in
-    let by_action : StrikesBy p.settings.manner false act.BatchAndTransaction p.is_open txn (command_of (form_of statement)) (raised_at line (plain result_full)) exit tokens exchanges new.txn =
-    subst (λ (a : Action). StrikesBy p.settings.manner false a p.is_open txn (command_of (form_of statement)) (raised_at line (plain result_full)) exit tokens exchanges new.txn) (full_action around p.settings.xact_abort line) by_caught in
-    let by_open : StrikesBy p.settings.manner false act.BatchAndTransaction true txn (command_of (form_of statement)) (raised_at line (plain result_full)) exit tokens exchanges new.txn =
-    subst (λ (b : Bool). StrikesBy p.settings.manner false act.BatchAndTransaction b txn (command_of (form_of statement)) (raised_at line (plain result_full)) exit tokens exchanges new.txn) opened by_action in
-    let no : [] ≡ _ ∷ [] = sym none ∙ by_open.1.1 in absurd (cc)
-
 -- ---- a statement
 
 -- behind its work
@@ -265,17 +226,12 @@ module _ (around : Around) (statement : Statement) (old new : SessionProgress) (
   open_commits true front planned opened leaves = leaves.2
   open_commits false front planned opened leaves = absurd (let same : false ≡ true = opened in cc)
 
-  pub fail_leaves : (failure : Failure) (front back : List Exchange) (tokens : List Token) (txn : TxnState) → exchanges ≡ front ++ back → Leaves old.is_open old.is_open before front [] ⊎ ((failure ≡ plain result_full) × (old.is_open ≡ true) × ((planned : List Planned) × Leaves true true before front planned))
-      → Strikes around old txn statement (raised_at (line_of statement) failure) exit tokens back new → StaysOpen old back new → Leaves old.is_open new.is_open before exchanges []
-  fail_leaves failure front back tokens txn parts (inl leaves) strikes (inl stays) =
+  pub fail_leaves : (front back : List Exchange) → exchanges ≡ front ++ back → Leaves old.is_open old.is_open before front [] → StaysOpen old back new → Leaves old.is_open new.is_open before exchanges []
+  fail_leaves front back parts leaves (inl stays) =
       let whole : exchanges ≡ front = parts ∙ ap (λ (l : List Exchange). front ++ l) stays.0 ∙ append-nil front in
       subst (λ (b : Bool). Leaves old.is_open b before exchanges []) (sym stays.1) (subst (λ (l : List Exchange). Leaves old.is_open old.is_open before l []) (sym whole) leaves)
-  fail_leaves failure front back tokens txn parts (inr full) strikes (inl stays) =
-      absurd (full_ends around old new txn statement exit tokens back full.1 (subst (λ (f : Failure). Strikes around old txn statement (raised_at (line_of statement) f) exit tokens back new) full.0 strikes) stays.0)
-  fail_leaves failure front back tokens txn parts (inl leaves) strikes (inr rolled) =
+  fail_leaves front back parts leaves (inr rolled) =
       rolled_leaves old.is_open rolled.1 front rolled.0.0 (parts ∙ ap (λ (l : List Exchange). front ++ l) rolled.0.1) (open_commits old.is_open front [] rolled.1 leaves) rolled.2
-  fail_leaves failure front back tokens txn parts (inr full) strikes (inr rolled) =
-      rolled_leaves old.is_open rolled.1 front rolled.0.0 (parts ∙ ap (λ (l : List Exchange). front ++ l) rolled.0.1) full.2.1.2 rolled.2
 
   is_within : (front : List Exchange) (mid : SessionProgress) (came : Result Effect Failure) → Held (work_of around statement) old front came mid → IsWithin old mid.txn
   is_within front mid came held = record { serial = work_serial around statement old mid front came held; opened = λ is. work_within around statement old mid front came is held }
@@ -311,7 +267,7 @@ module _ (around : Around) (statement : Statement) (old new : SessionProgress) (
         [],
         struck.sent,
         inr (refl, (failure, front, back, mid.txn, parts, failed.0, is_within front mid (Err failure) held, struck.strikes)),
-        fail_leaves failure front back struck.tokens mid.txn parts failed.1 struck.strikes struck.stays,
+        fail_leaves front back parts failed.1 struck.stays,
       )
 
   pub does_held : Held (does around statement (exit_for (form_of statement)) (work_of around statement)) old exchanges exit new → Ended

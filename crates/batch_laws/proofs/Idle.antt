@@ -1,6 +1,7 @@
--- Plain statements open no transaction of BEGIN TRANSACTION, so where there is none there is none behind them; and all that SET has set stays.
+-- Plain statements open no transaction of BEGIN TRANSACTION, so where there is none there is none behind them; and all that SET has set
+-- stays, and so do the cursors.
 use Rattle.std.proofs.Common.{◌≡◌, ℕ, zero, suc, Bool, true, false, if◌then◌else◌, is_ok, List, [], ◌∷◌, Result, Ok, Err, refl, sym, ◌∙◌, subst}
-use Rattle.std.specs.Prelude.{◌&&◌, ◌==◌, ◌-◌}
+use Rattle.std.specs.Prelude.{◌&&◌, ◌==◌}
 use Rattle.tsql_tree.specs.declared.definition.TableTree.{TableTree}
 use Rattle.tsql_tree.specs.declared.statement.Form.{Form-F}
 use Rattle.tsql_tree.specs.declared.statement.Statement.{Statement}
@@ -15,21 +16,20 @@ use Rattle.step_model.specs.declared.reply.Reply.TheVariants as replies
 use Rattle.step_model.specs.Dialog.{IsQuiet}
 use Rattle.step_model.specs.Exchange.{CanReply, Exchange}
 use Rattle.txn_rules.specs.declared.state.TxnState.{TxnState}
-use Rattle.txn_rules.specs.State.{after_commit, after_end, is_closed}
+use Rattle.txn_rules.specs.State.{is_closed}
 use Rattle.tds_tokens.specs.declared.token.Token.{Token}
 use Rattle.batch_meaning.specs.declared.exit.Exit.{Exit}
 use Rattle.batch_meaning.specs.declared.failure.Failure.{Failure}
 use Rattle.batch_meaning.specs.declared.home.Home.{Home}
 use Rattle.batch_meaning.specs.declared.home.Home.TheVariants.{Nowhere, Open, Own}
 use Rattle.batch_meaning.specs.declared.raised.Raised.{Raised}
-use Rattle.batch_meaning.specs.declared.settings.Settings.{Settings}
 use Rattle.catalog_rows.specs.Definitions.{is_objects}
 use Rattle.batch_meaning.specs.Changing.{object_present}
 use Rattle.batch_meaning.specs.Asking.{assigns_all, fails_naming, unless_refused, where_begun, where_done, where_ended}
 use Rattle.batch_meaning.specs.Doing.{Doing, over, makes, asks, ◌then◌, Held}
 use Rattle.batch_meaning.specs.Failures.{plain}
 use Rattle.batch_meaning.specs.Meaning.{caught_as, concluded, concludes, counted, does, doomed_write, ended_by, fails_for, is_refused_doomed, leaves_rows, line_of, mean_by, mean_form, mean_of, Meaning, or_full, raises, rolls_back_told, sends_some, spends, statements_spent, succeeds}
-use Rattle.batch_meaning.specs.Progress.{SessionProgress, SessionStep, after_doom, assigns, begins, closes_one, counts, dooms, made, opens, saves, sends, sets, tells_error, tells_rows, touches, asked}
+use Rattle.batch_meaning.specs.Progress.{SessionProgress, SessionStep, after_doom, assigns, begins, closes_one, counts, declares, dooms, fetches, fills, made, opens, removes, saves, sends, sets, shuts, tells_error, tells_fetch, tells_rows, touches, asked}
 use Rattle.batch_meaning.specs.Raised.{Around, action_in, is_caught_in, raised_at}
 use Rattle.batch_meaning.specs.Selecting.{Effect}
 use Rattle.batch_meaning.specs.Tokens.{command_of}
@@ -41,13 +41,20 @@ use Rattle.statement_paths.proofs.Owned.{nothing_more}
 use Rattle.statement_paths.proofs.Works.{IsWorkStep, Works, binds_work, creates_works, prepares_reads, reads_work, unless_works, worked_works}
 use Rattle.batch_laws.specs.Committing.{is_plain, Stays}
 
--- BEGIN TRANSACTION opens none, and SET sets nothing
+-- no transaction is opened by BEGIN TRANSACTION, or counted by COMMIT; SET sets nothing, and no cursor is changed
 abbrev pub IsPlainStep : SessionStep → Type 0
 IsPlainStep (opens name) = ⊥
+IsPlainStep closes_one = ⊥
 IsPlainStep (sets settings) = ⊥
+IsPlainStep (declares name select) = ⊥
+IsPlainStep (fills name kinds rows) = ⊥
+IsPlainStep (fetches name) = ⊥
+IsPlainStep (shuts name) = ⊥
+IsPlainStep (removes name) = ⊥
+IsPlainStep (tells_fetch status) = ⊥
 IsPlainStep step = Unit {0}
 
--- and ends or counts none
+-- a tree that makes such steps alone
 abbrev Shut : {A : Type 0} → Doing A → Type 0
 Shut tree = Only IsPlainStep AnyOp tree
 
@@ -59,49 +66,56 @@ work_shuts step is = absurd is
 works_shut : {A : Type 0} (tree : Doing A) → Works tree → Shut tree
 works_shut tree works = only_mono IsWorkStep IsPlainStep IsQuiet AnyOp work_shuts (λ op is. tt) tree works
 
--- ---- around the work
+-- ---- around the work nothing is made
 
-relaxes_shut : Shut relaxes
-unfolding relaxes
-relaxes_shut = λ p. only_if IsPlainStep AnyOp p.touched (asks ops.Relax (where_done nothing_more)) nothing_more (tt, by_reply) tt
-  where
-    by_reply : (reply : Reply) → CanReply ops.Relax reply → Shut (where_done nothing_more reply)
-    by_reply replies.Done can = tt
-    by_reply reply can = absurd can
+module _ (Steps : SessionStep → Type 0) where
+  abbrev Makes : {A : Type 0} → Doing A → Type 0
+  Makes tree = Only Steps AnyOp tree
 
-closes_shut : (succeeded : Bool) → Shut (closes succeeded)
-unfolding closes
-closes_shut true = (tt, by_reply)
-  where
-    by_reply : (reply : Reply) → CanReply ops.Commit reply → Shut (where_ended nothing_more reply)
-    by_reply (replies.Ended place) can = tt
-    by_reply reply can = absurd can
-closes_shut false = (tt, by_reply)
-  where
-    by_reply : (reply : Reply) → CanReply ops.Rollback reply → Shut (where_ended nothing_more reply)
-    by_reply (replies.Ended place) can = tt
-    by_reply reply can = absurd can
+  relaxes_make : Makes relaxes
+  unfolding relaxes
+  relaxes_make = λ p. only_if Steps AnyOp p.touched (asks ops.Relax (where_done nothing_more)) nothing_more (tt, by_reply) tt
+    where
+      by_reply : (reply : Reply) → CanReply ops.Relax reply → Makes (where_done nothing_more reply)
+      by_reply replies.Done can = tt
+      by_reply reply can = absurd can
 
-leaves_shut : (home : Home) (succeeded : Bool) → Shut (leaves home succeeded)
-unfolding leaves
-leaves_shut Nowhere succeeded = tt
-leaves_shut Open succeeded = relaxes_shut
-leaves_shut Own succeeded = only_then IsPlainStep AnyOp relaxes (λ done. closes succeeded) relaxes_shut (λ done. closes_shut succeeded)
+  closes_make : (succeeded : Bool) → Makes (closes succeeded)
+  unfolding closes
+  closes_make true = (tt, by_reply)
+    where
+      by_reply : (reply : Reply) → CanReply ops.Commit reply → Makes (where_ended nothing_more reply)
+      by_reply (replies.Ended place) can = tt
+      by_reply reply can = absurd can
+  closes_make false = (tt, by_reply)
+    where
+      by_reply : (reply : Reply) → CanReply ops.Rollback reply → Makes (where_ended nothing_more reply)
+      by_reply (replies.Ended place) can = tt
+      by_reply reply can = absurd can
 
-enters_shut : (asks_some : Bool) → Shut (enters asks_some)
-unfolding enters
-enters_shut false = tt
-enters_shut true = λ p. only_if IsPlainStep AnyOp p.is_open (over (Ok Open)) (asks ops.Begin (unless_refused (where_begun (over (Ok Own))))) tt (tt, by_reply)
-  where
-    by_reply : (reply : Reply) → CanReply ops.Begin reply → Shut {A = Result Home Failure} (unless_refused (where_begun (over (Ok Own))) reply)
-    by_reply replies.Began can = tt
-    by_reply replies.Memory can = tt
-    by_reply reply can = absurd can
+  pub leaves_make : (home : Home) (succeeded : Bool) → Makes (leaves home succeeded)
+  unfolding leaves
+  leaves_make Nowhere succeeded = tt
+  leaves_make Open succeeded = relaxes_make
+  leaves_make Own succeeded = only_then Steps AnyOp relaxes (λ done. closes succeeded) relaxes_make (λ done. closes_make succeeded)
+
+  pub enters_make : (asks_some : Bool) → Makes (enters asks_some)
+  unfolding enters
+  enters_make false = tt
+  enters_make true = λ p. only_if Steps AnyOp p.is_open (over (Ok Open)) (asks ops.Begin (unless_refused (where_begun (over (Ok Own))))) tt (tt, by_reply)
+    where
+      by_reply : (reply : Reply) → CanReply ops.Begin reply → Makes {A = Result Home Failure} (unless_refused (where_begun (over (Ok Own))) reply)
+      by_reply replies.Began can = tt
+      by_reply replies.Memory can = tt
+      by_reply reply can = absurd can
+
+  pub own_makes : {A : Type 0} (asks_some : Bool) (work : Doing (Result A Failure)) → Makes work → Makes (own asks_some work)
+  unfolding own
+  own_makes asks_some work makes_them = only_bind Steps AnyOp (enters asks_some) _ (enters_make asks_some)
+      (λ home. only_then Steps AnyOp work (λ came. leaves home (is_ok came) then λ done. over came) makes_them (λ came. only_then Steps AnyOp (leaves home (is_ok came)) (λ done. over came) (leaves_make home (is_ok came)) (λ done. tt)))
 
 own_shuts : {A : Type 0} (asks_some : Bool) (work : Doing (Result A Failure)) → Shut work → Shut (own asks_some work)
-unfolding own
-own_shuts asks_some work shut = only_bind IsPlainStep AnyOp (enters asks_some) _ (enters_shut asks_some)
-    (λ home. only_then IsPlainStep AnyOp work (λ came. leaves home (is_ok came) then λ done. over came) shut (λ came. only_then IsPlainStep AnyOp (leaves home (is_ok came)) (λ done. over came) (leaves_shut home (is_ok came)) (λ done. tt)))
+own_shuts asks_some work shut = own_makes IsPlainStep asks_some work shut
 
 binds_shut : (statement : Statement) (go : List TableTree → Bound → Doing (Result Effect Failure)) → ((shapes : List TableTree) (of : Bound) → Shut (go shapes of)) → Shut (binds statement go)
 unfolding binds
@@ -223,6 +237,11 @@ plain_shut one around p0 statement (Form-F.BeginTransaction name) is = absurd (l
 plain_shut one around p0 statement (Form-F.Commit name) is = absurd (let no : false ≡ true = is in cc)
 plain_shut one around p0 statement (Form-F.Rollback name) is = absurd (let no : false ≡ true = is in cc)
 plain_shut one around p0 statement (Form-F.Save name) is = absurd (let no : false ≡ true = is in cc)
+plain_shut one around p0 statement (Form-F.DeclareCursor name select) is = absurd (let no : false ≡ true = is in cc)
+plain_shut one around p0 statement (Form-F.OpenCursor name) is = absurd (let no : false ≡ true = is in cc)
+plain_shut one around p0 statement (Form-F.Fetch name variables) is = absurd (let no : false ≡ true = is in cc)
+plain_shut one around p0 statement (Form-F.CloseCursor name) is = absurd (let no : false ≡ true = is in cc)
+plain_shut one around p0 statement (Form-F.Deallocate name) is = absurd (let no : false ≡ true = is in cc)
 plain_shut one around p0 statement (Form-F.CreateTable table text) is = does_shut around p0 statement _ _ (creates_shut around p0 statement table.name text)
 plain_shut one around p0 statement form is = does_shut around p0 statement _ _ (works_of_shut around p0 statement)
 
@@ -244,9 +263,6 @@ IsShut p = (is_closed p.txn ≡ true) × (p.txn.doomed ≡ false)
 doom_none : (txn : TxnState) → is_closed txn ≡ true → (if is_closed txn then txn else record txn { doomed = true }) ≡ txn
 doom_none txn is = rw is refl
 
-close_none : (txn : TxnState) → is_closed txn ≡ true → after_commit txn ≡ txn
-close_none txn is = rw is refl
-
 by_step : (step : SessionStep) (p : SessionProgress) → IsPlainStep step → IsShut p → IsShut (made step p)
 by_step (begins vars) p is shut = shut
 by_step counts p is shut = shut
@@ -255,31 +271,20 @@ by_step (sends tokens) p is shut = shut
 by_step (tells_rows rows) p is shut = shut
 by_step (tells_error number) p is shut = shut
 by_step (assigns place value) p is shut = shut
-by_step (sets settings) p is shut = absurd is
-by_step (opens name) p is shut = absurd is
-by_step closes_one p is shut = subst (λ (t : TxnState). (is_closed t ≡ true) × (t.doomed ≡ false)) (sym (close_none p.txn shut.0)) shut
 by_step (saves name mark) p is shut = shut
 by_step dooms p is shut = subst (λ (t : TxnState). (is_closed t ≡ true) × (t.doomed ≡ false)) (sym (doom_none p.txn shut.0)) shut
+by_step step p is shut = absurd is
 
-by_op : (op : Op) (reply : Reply) (p : SessionProgress) → AnyOp op → CanReply op reply → IsShut p → IsShut (asked op reply p)
-by_op op (replies.Ended place) p is can shut = (refl, refl)
-by_op (ops.BackTo mark) replies.Done p is can shut = shut
-by_op (ops.BackTo mark) reply p is can shut = shut
-by_op op reply p is can shut = shut
+pub shut_op : (op : Op) (reply : Reply) (p : SessionProgress) → AnyOp op → CanReply op reply → IsShut p → IsShut (asked op reply p)
+shut_op op (replies.Ended place) p is can shut = (refl, refl)
+shut_op (ops.BackTo mark) replies.Done p is can shut = shut
+shut_op (ops.BackTo mark) reply p is can shut = shut
+shut_op op reply p is can shut = shut
 
 pub mean_stays : (levels : ℕ) (around : Around) (statement : Statement) (p new : SessionProgress) (exchanges : List Exchange) (exit : Exit) → is_plain (form_of statement) ≡ true → Held (mean_of levels statement around) p exchanges exit new → IsShut p → IsShut new
-mean_stays levels around statement p new exchanges exit is held shut = held_keeps IsPlainStep AnyOp IsShut by_step by_op (mean_of levels statement around) p new exchanges exit (mean_shut levels around p statement is) held shut
+mean_stays levels around statement p new exchanges exit is held shut = held_keeps IsPlainStep AnyOp IsShut by_step shut_op (mean_of levels statement around) p new exchanges exit (mean_shut levels around p statement is) held shut
 
 -- ---- the number of the transaction stays
-
-serial_closes : (txn : TxnState) → (after_commit txn).serial ≡ txn.serial
-serial_closes txn = by_tests (is_closed txn) txn.doomed (txn.count == 1)
-  where
-    by_tests : (closed doomed last : Bool) → (if closed then txn else if doomed then txn else if last then after_end txn else record txn { count = txn.count - 1 }).serial ≡ txn.serial
-    by_tests true doomed last = refl
-    by_tests false true last = refl
-    by_tests false false true = refl
-    by_tests false false false = refl
 
 serial_dooms : (txn : TxnState) → (after_doom txn).serial ≡ txn.serial
 serial_dooms txn = by_test (is_closed txn)
@@ -300,11 +305,9 @@ module _ (number : ℕ) where
   number_step (tells_rows rows) p is same = same
   number_step (tells_error error) p is same = same
   number_step (assigns place value) p is same = same
-  number_step (sets settings) p is same = absurd is
-  number_step (opens name) p is same = absurd is
-  number_step closes_one p is same = serial_closes p.txn ∙ same
   number_step (saves name mark) p is same = same
   number_step dooms p is same = serial_dooms p.txn ∙ same
+  number_step step p is same = absurd is
 
   number_op : (op : Op) (reply : Reply) (p : SessionProgress) → AnyOp op → CanReply op reply → IsNumber p → IsNumber (asked op reply p)
   number_op op (replies.Ended place) p is can same = same
@@ -312,35 +315,36 @@ module _ (number : ℕ) where
   number_op (ops.BackTo mark) reply p is can same = same
   number_op op reply p is can same = same
 
--- ---- all that SET has set stays
+-- ---- all that SET has set stays, and so do the cursors
 
-module _ (settings : Settings) where
-  abbrev IsSet : SessionProgress → Type 0
-  IsSet p = p.settings ≡ settings
+module _ (p : SessionProgress) where
+  abbrev IsKept : SessionProgress → Type 0
+  IsKept q = (q.settings ≡ p.settings) × (q.cursors ≡ p.cursors) × (q.fetch_status ≡ p.fetch_status)
 
-  set_step : (step : SessionStep) (p : SessionProgress) → IsPlainStep step → IsSet p → IsSet (made step p)
-  set_step (begins vars) p is same = same
-  set_step counts p is same = same
-  set_step touches p is same = same
-  set_step (sends tokens) p is same = same
-  set_step (tells_rows rows) p is same = same
-  set_step (tells_error error) p is same = same
-  set_step (assigns place value) p is same = same
-  set_step (sets other) p is same = absurd is
-  set_step (opens name) p is same = absurd is
-  set_step closes_one p is same = same
-  set_step (saves name mark) p is same = same
-  set_step dooms p is same = same
+  kept_step : (step : SessionStep) (q : SessionProgress) → IsPlainStep step → IsKept q → IsKept (made step q)
+  kept_step (begins vars) q is same = same
+  kept_step counts q is same = same
+  kept_step touches q is same = same
+  kept_step (sends tokens) q is same = same
+  kept_step (tells_rows rows) q is same = same
+  kept_step (tells_error error) q is same = same
+  kept_step (assigns place value) q is same = same
+  kept_step (saves name mark) q is same = same
+  kept_step dooms q is same = same
+  kept_step step q is same = absurd is
 
-  set_op : (op : Op) (reply : Reply) (p : SessionProgress) → AnyOp op → CanReply op reply → IsSet p → IsSet (asked op reply p)
-  set_op op reply p is can same = same
+  kept_op : (op : Op) (reply : Reply) (q : SessionProgress) → AnyOp op → CanReply op reply → IsKept q → IsKept (asked op reply q)
+  kept_op op reply q is can same = same
 
--- both stay
 shut_stays : {A : Type 0} (tree : Doing A) (p new : SessionProgress) (exchanges : List Exchange) (a : A) → Shut tree → Held tree p exchanges a new → Stays p new
-shut_stays tree p new exchanges a shut held = record {
-  settings = held_keeps IsPlainStep AnyOp (IsSet p.settings) (set_step p.settings) (set_op p.settings) tree p new exchanges a shut held refl;
-  serial = held_keeps IsPlainStep AnyOp (IsNumber p.txn.serial) (number_step p.txn.serial) (number_op p.txn.serial) tree p new exchanges a shut held refl;
-}
+shut_stays tree p new exchanges a shut held =
+    let kept = held_keeps IsPlainStep AnyOp (IsKept p) (kept_step p) (kept_op p) tree p new exchanges a shut held (refl, refl, refl) in
+    record {
+      settings = kept.0;
+      serial = held_keeps IsPlainStep AnyOp (IsNumber p.txn.serial) (number_step p.txn.serial) (number_op p.txn.serial) tree p new exchanges a shut held refl;
+      cursors = kept.1;
+      fetched = kept.2;
+    }
 
 pub mean_keeps : (levels : ℕ) (around : Around) (statement : Statement) (p new : SessionProgress) (exchanges : List Exchange) (exit : Exit) → is_plain (form_of statement) ≡ true → Held (mean_of levels statement around) p exchanges exit new → Stays p new
 mean_keeps levels around statement p new exchanges exit is held = shut_stays (mean_of levels statement around) p new exchanges exit (mean_shut levels around p statement is) held

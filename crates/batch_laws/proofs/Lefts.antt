@@ -27,7 +27,7 @@ use Rattle.batch_meaning.specs.Failures.{plain}
 use Rattle.batch_meaning.specs.Meaning.{Meaning, batch, caught_as, concluded, concludes, does, doomed_write, each_of, ended_by, ends, ends_doomed, fails_for, goes_on, has_failed, is_refused_doomed, leaves_rows, line_of, mean_by, mean_form, mean_of, meaning, or_full, raises, rolls_back_told, sends_some, spends, statements_spent, succeeds}
 use Rattle.batch_meaning.specs.Progress.{SessionProgress, begins, counts, made, sends, statement_limit, tells_rows}
 use Rattle.batch_meaning.specs.Raised.{Around, action_in, around_batch, is_caught_in, raised_at}
-use Rattle.batch_meaning.specs.Selecting.{Effect, result_full}
+use Rattle.batch_meaning.specs.Selecting.{Effect}
 use Rattle.batch_meaning.specs.Statements.{vars_of}
 use Rattle.batch_meaning.specs.Tokens.{batch_done, command_of}
 use Rattle.batch_meaning.specs.Values.{Assigned}
@@ -147,10 +147,6 @@ module _ (around : Around) (statement : Statement) (p : SessionProgress) (shut :
   unfolding does concludes
   does_left new exchanges left = by_left (left_apart (work_of around statement) (concluded around statement (λ effect. succeeds statement effect (over (exit_for (form_of statement))))) p new exchanges left)
     where
-      failed_commits : (front : List Exchange) (failure : Failure) → Leaves p.is_open p.is_open none_open front [] ⊎ ((failure ≡ plain result_full) × (p.is_open ≡ true) × ((planned : List Planned) × Leaves true true none_open front planned)) → commits_of front ≡ []
-      failed_commits front failure (inl leaves) = shut_commits p.is_open front [] shut leaves
-      failed_commits front failure (inr full) = full.2.1.2
-
       by_came : (front back : List Exchange) (mid : SessionProgress) (came : Result Effect Failure) → exchanges ≡ front ++ back → Held (work_of around statement) p front came mid
           → Left (concluded around statement (λ effect. succeeds statement effect (over (exit_for (form_of statement)))) came) mid back new → LeftAt around p statement (commits_of exchanges) exchanges
       by_came front back mid (Ok effect) parts held rest =
@@ -160,7 +156,7 @@ module _ (around : Around) (statement : Statement) (p : SessionProgress) (shut :
           inr (done.0, effect, subst (λ (l : List Exchange). HasDone around p statement done.0 effect l) whole done.1, subst (λ (l : List Exchange). commits_of l ≡ commit_of (Net done.0)) whole (shut_commits p.is_open front done.0 shut done.2))
       by_came front back mid (Err failure) parts held rest =
           let failed = err_leaves around statement p mid front none_open (shut_agrees p.is_open shut) failure held in
-          inl (ap commits_of parts ∙ commits_both none_open front back ∙ ap (λ (c : Commits). c ++ commits_from (progress_of front) back) (failed_commits front failure failed.1)
+          inl (ap commits_of parts ∙ commits_both none_open front back ∙ ap (λ (c : Commits). c ++ commits_from (progress_of front) back) (shut_commits p.is_open front [] shut failed.1)
           ∙ none_commits back (progress_of front) (calm_left (fails_for around statement failure) mid new back (fails_calm around statement failure) rest))
 
       by_left : Left (work_of around statement) p exchanges new ⊎ Apart (work_of around statement) p exchanges (λ came mid back. Left (concluded around statement (λ effect. succeeds statement effect (over (exit_for (form_of statement)))) came) mid back new)
@@ -186,6 +182,11 @@ plain_left one around statement (Form-F.BeginTransaction name) p new exchanges i
 plain_left one around statement (Form-F.Commit name) p new exchanges is left = absurd (let no : false ≡ true = is in cc)
 plain_left one around statement (Form-F.Rollback name) p new exchanges is left = absurd (let no : false ≡ true = is in cc)
 plain_left one around statement (Form-F.Save name) p new exchanges is left = absurd (let no : false ≡ true = is in cc)
+plain_left one around statement (Form-F.DeclareCursor name select) p new exchanges is left = absurd (let no : false ≡ true = is in cc)
+plain_left one around statement (Form-F.OpenCursor name) p new exchanges is left = absurd (let no : false ≡ true = is in cc)
+plain_left one around statement (Form-F.Fetch name variables) p new exchanges is left = absurd (let no : false ≡ true = is in cc)
+plain_left one around statement (Form-F.CloseCursor name) p new exchanges is left = absurd (let no : false ≡ true = is in cc)
+plain_left one around statement (Form-F.Deallocate name) p new exchanges is left = absurd (let no : false ≡ true = is in cc)
 plain_left one around statement form p new exchanges is left = left
 
 calm_at : (around : Around) (statement : Statement) (p q new : SessionProgress) (exchanges : List Exchange) (tree : Doing Exit) → Calm tree → Left tree q exchanges new → LeftAt around p statement (commits_of exchanges) exchanges

@@ -12,5 +12,8 @@ pub mod Batches  -- a batch of plain statements
 pub mod Transactions  -- BEGIN TRANSACTION, COMMIT, ROLLBACK and SAVE TRANSACTION
 pub mod Lefts  -- plain statements that were left
 pub mod Telling  -- what a statement tells, and what only reads
+pub mod Control  -- what a statement does by its form
+pub mod Cursors  -- the statements on cursors
+pub mod Settled  -- whether a transaction is open between two statements
 pub mod Paths  -- each commit ends the transaction of a statement
 mod StandardFacts  -- worked exchanges

@@ -22,45 +22,48 @@ use Rattle.batch_meaning.specs.declared.home.Home.TheVariants.{Nowhere, Open, Ow
 use Rattle.batch_meaning.specs.Changing.{object_present}
 use Rattle.batch_meaning.specs.Asking.{◌>>=◌, fails, fails_naming, on_ok, unless_refused, where_begun, where_done, with_room}
 use Rattle.batch_meaning.specs.Doing.{Doing, over, reads, makes, defines, asks, room, never, ◌then◌, Held}
-use Rattle.batch_meaning.specs.Progress.{SessionProgress, SessionStep, asked, assigns, made, touches}
+use Rattle.batch_meaning.specs.Progress.{SessionProgress, SessionStep, asked, assigns, fills, made, touches}
 use Rattle.batch_meaning.specs.Raised.{Around}
 use Rattle.batch_meaning.specs.Selecting.{Effect}
 use Rattle.batch_meaning.specs.Working.{asks_any, binds, creates, creates_table, enters, leaves, own, prepares, relaxes, unless_objects, within, works, works_bound}
 use Rattle.statement_paths.specs.Paths.{work_for, work_of}
 use Rattle.statement_paths.proofs.Owned.{nothing_more}
-use Rattle.statement_paths.proofs.Works.{IsWorkStep, Works, binds_work, creates_works, prepares_reads, reads_work, unless_works, worked_works}
+use Rattle.statement_paths.proofs.Works.{IsOwnStep, Owns, Works, binds_work, creates_works, prepares_reads, reads_work, unless_works, worked_works, works_own}
 
 -- an operation that neither begins nor ends a transaction
-abbrev IsInside : Op → Type 0
+abbrev pub IsInside : Op → Type 0
 IsInside ops.Begin = ⊥
 IsInside ops.Commit = ⊥
 IsInside ops.Rollback = ⊥
 IsInside op = Unit {0}
 
 -- a tree that asks only such where a transaction is open
-abbrev Inside : {A : Type 0} → Doing A → Type 0
+abbrev pub Inside : {A : Type 0} → Doing A → Type 0
 Inside (over a) = Unit {0}
 Inside (reads look) = (p : SessionProgress) → p.is_open ≡ true → Inside (look p)
-Inside (makes step next) = IsWorkStep step × Inside next
+Inside (makes step next) = IsOwnStep step × Inside next
 Inside (defines row go) = (found : Option Definition) → Inside (go found)
 Inside (asks op go) = IsInside op × ((reply : Reply) → CanReply op reply → Inside (go reply))
 Inside (room go) = (enough : Bool) → Inside (go enough)
 Inside never = Unit {0}
 
-quiet_inside : (op : Op) → IsQuiet op → IsInside op
+pub quiet_inside : (op : Op) → IsQuiet op → IsInside op
 quiet_inside ops.Begin quiet = quiet
 quiet_inside ops.Commit quiet = quiet
 quiet_inside ops.Rollback quiet = quiet
 quiet_inside op quiet = tt
 
+pub owns_inside : {A : Type 0} (tree : Doing A) → Owns tree → Inside tree
+owns_inside (over a) owns = tt
+owns_inside (reads look) owns = λ p is. owns_inside (look p) (owns p)
+owns_inside (makes step next) owns = (owns.0, owns_inside next owns.1)
+owns_inside (defines row go) owns = λ found. owns_inside (go found) (owns found)
+owns_inside (asks op go) owns = (quiet_inside op owns.0, λ reply can. owns_inside (go reply) (owns.1 reply can))
+owns_inside (room go) owns = λ enough. owns_inside (go enough) (owns enough)
+owns_inside never owns = tt
+
 works_inside : {A : Type 0} (tree : Doing A) → Works tree → Inside tree
-works_inside (over a) works = tt
-works_inside (reads look) works = λ p is. works_inside (look p) (works p)
-works_inside (makes step next) works = (works.0, works_inside next works.1)
-works_inside (defines row go) works = λ found. works_inside (go found) (works found)
-works_inside (asks op go) works = (quiet_inside op works.0, λ reply can. works_inside (go reply) (works.1 reply can))
-works_inside (room go) works = λ enough. works_inside (go enough) (works enough)
-works_inside never works = tt
+works_inside tree works = owns_inside tree (works_own tree works)
 
 inside_then : {A B : Type 0} (tree : Doing A) (go : A → Doing B) → Inside tree → ((a : A) → Inside (go a)) → Inside (tree then go)
 unfolding ◌then◌
@@ -111,7 +114,7 @@ module _ {A : Type 0} (work : Doing (Result A Failure)) (inside : Inside work) w
   unfolding leaves ◌then◌
   nowhere_inside = inside_then work (λ came. leaves Nowhere (is_ok came) then λ done. over came) inside (λ came. tt)
 
-  own_inside : (asks_some : Bool) → Inside (own asks_some work)
+  pub own_inside : (asks_some : Bool) → Inside (own asks_some work)
   unfolding own enters ◌then◌
   own_inside false = nowhere_inside
   own_inside true = λ p is. by_test p.is_open is
@@ -150,7 +153,7 @@ module _ (around : Around) (p0 : SessionProgress) (statement : Statement) where
       second_inside = inside_bind (prepares statement) (λ made. later made.0 made.1) (works_inside (prepares statement) (reads_work (prepares statement) (prepares_reads statement)))
           (λ made. inside_if (is_objects name) (fails_naming object_present name) (own true (creates name text)) (inside_naming Effect object_present name) (own_inside (creates name text) (works_inside (creates name text) (creates_works name text)) true))
 
-  form_inside : (form : Layer) → Inside (work_for around statement form)
+  pub form_inside : (form : Layer) → Inside (work_for around statement form)
   form_inside (Form-F.CreateTable table text) = creates_inside table.name text
   form_inside form = works_of_inside
 
@@ -160,9 +163,10 @@ module _ (txn : TxnState) where
   abbrev IsIn : SessionProgress → Type 0
   IsIn q = (q.is_open ≡ true) × (q.txn ≡ record txn { saves = q.txn.saves })
 
-  in_step : (step : SessionStep) (q : SessionProgress) → IsWorkStep step → IsIn q → IsIn (made step q)
+  in_step : (step : SessionStep) (q : SessionProgress) → IsOwnStep step → IsIn q → IsIn (made step q)
   in_step touches q is now = now
   in_step (assigns place value) q is now = now
+  in_step (fills name kinds rows) q is now = now
   in_step step q is now = absurd is
 
   in_op : (op : Op) (reply : Reply) (q : SessionProgress) → IsInside op → CanReply op reply → IsIn q → IsIn (asked op reply q)
@@ -179,7 +183,7 @@ module _ (txn : TxnState) where
   in_op ops.Rollback reply q is can now = absurd is
   in_op op reply q is can now = now
 
-  inside_keeps : {A : Type 0} (tree : Doing A) (q new : SessionProgress) (exchanges : List Exchange) (a : A) → Inside tree → Held tree q exchanges a new → IsIn q → IsIn new
+  pub inside_keeps : {A : Type 0} (tree : Doing A) (q new : SessionProgress) (exchanges : List Exchange) (a : A) → Inside tree → Held tree q exchanges a new → IsIn q → IsIn new
   unfolding Held
   inside_keeps (over c) q new exchanges a inside held now = subst IsIn (sym held.2) now
   inside_keeps (reads look) q new exchanges a inside held now = inside_keeps (look q) q new exchanges a (inside q now.0) held now

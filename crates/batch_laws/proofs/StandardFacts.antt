@@ -1,5 +1,5 @@
 -- What known exchanges leave and commit.
-use Rattle.std.proofs.Common.{◌≡◌, ℕ, Bool, true, false, List, [], ◌∷◌, ◌++◌, Some, None, Ok, refl}
+use Rattle.std.proofs.Common.{◌≡◌, ℕ, Bool, true, false, negsuc, List, [], ◌∷◌, ◌++◌, Some, None, Ok, Err, refl}
 use Rattle.catalog_rows.specs.Definitions.{objects_name, object_key, row_of}
 use Rattle.tsql_tree.specs.declared.definition.TableTree.{TableTree}
 use Rattle.tsql_tree.specs.declared.statement.Form.{Form-F}
@@ -14,16 +14,19 @@ use Rattle.step_model.specs.Net.{Net}
 use Rattle.step_model.specs.Own.{MarkedAt, Progress as Stand, none_open}
 use Rattle.constraint_check.specs.Reads.{rows_table}
 use Rattle.txn_rules.specs.declared.state.TxnState.{TxnState}
-use Rattle.txn_rules.specs.State.{is_closed}
+use Rattle.session_cursors.specs.declared.fault.CursorFault.{CursorFault}
+use Rattle.txn_rules.specs.State.{is_closed, no_transaction}
 use Rattle.batch_meaning.specs.declared.exit.Exit.TheVariants.{On, End, Return, Raise}
 use Rattle.batch_meaning.specs.declared.raised.Raised.{Raised}
 use Rattle.batch_meaning.specs.Changing.{created}
-use Rattle.batch_meaning.specs.Progress.{first_progress}
+use Rattle.batch_meaning.specs.Progress.{SessionProgress, fetches, first_progress, made, tells_fetch}
 use Rattle.batch_meaning.specs.Raised.{error_token}
 use Rattle.batch_meaning.specs.Selecting.{no_effect}
 use Rattle.batch_meaning.specs.Tokens.{statement_failed}
 use Rattle.statement_paths.specs.Paths.{definition_put, replied}
 use Rattle.batch_laws.specs.Committing.{exit_for, is_plain, IsIdle, Leaves, StrikesBy}
+use Rattle.batch_laws.specs.Cursors.{Fetches}
+use Rattle.batch_laws.specs.Settled.{IsSteady}
 use Rattle.batch_laws.specs.Transactions.{CommitsBy, LeavesAll}
 
 -- a SELECT commits nothing
@@ -37,6 +40,25 @@ created_commits name text = refl
 -- before its first batch a session is idle
 first_idle : IsIdle first_progress
 first_idle = record { shut = refl; closed = refl; sound = refl }
+
+-- and steady
+first_steady : IsSteady first_progress
+first_steady = (refl, λ closed. refl)
+
+-- one that BEGIN TRANSACTION has opened and that is not open at the port is not
+unopened : IsSteady (record first_progress { txn = record no_transaction { count = 1 } }) → ⊥
+unopened steady = let no : false ≡ true = steady.0 in absurd (cc)
+
+-- the statements on cursors are not plain
+open_names : (name : List ℕ) → is_plain (Form-F.OpenCursor name) ≡ false
+open_names name = refl
+
+-- behind the last row FETCH sets @@FETCH_STATUS to -1, and a row that there is not can't be fetched
+behind_last : (p : SessionProgress) (name : List ℕ) (variables : List (List ℕ)) → Fetches p name variables (Ok None) (Ok no_effect) (made (tells_fetch (negsuc 0)) (made (fetches name) p))
+behind_last p name variables = (refl, refl)
+
+none_fetched : (p new : SessionProgress) (name : List ℕ) (variables : List (List ℕ)) (fault : CursorFault) → Fetches p name variables (Err fault) (Ok no_effect) new → ⊥
+none_fetched p new name variables fault fetched = fetched
 
 -- CREATE TABLE is plain, and a block is not; RETURN leaves the batch
 create_plain : (table : TableTree) (text : List ℕ) → is_plain (Form-F.CreateTable table text) ≡ true

@@ -1,5 +1,5 @@
 -- What a statement that is done with its effect leaves of its transaction.
-use Rattle.std.proofs.Common.{◌≡◌, ◌⊎◌, inl, inr, ℕ, Bool, true, false, if◌then◌else◌, List, [], ◌∷◌, ◌++◌, None, Some, Ok, Err, refl, sym, ap, ◌∙◌, subst, append-nil}
+use Rattle.std.proofs.Common.{◌≡◌, inl, inr, ℕ, Bool, true, false, if◌then◌else◌, List, [], ◌∷◌, ◌++◌, None, Some, Ok, Err, refl, sym, ap, ◌∙◌, subst, append-nil}
 use Rattle.tsql_tree.specs.declared.definition.TableTree.{TableTree}
 use Rattle.tsql_tree.specs.declared.statement.DropKind.{DropKind}
 use Rattle.tsql_tree.specs.declared.statement.DropKind.TheVariants as drop
@@ -18,13 +18,12 @@ use Rattle.step_model.specs.Fits.{commit_of, commits_from}
 use Rattle.step_model.specs.Net.{Net}
 use Rattle.step_model.specs.Own.{Progress as Stand, none_open, progress_from}
 use Rattle.batch_meaning.specs.declared.failure.Failure.{Failure}
-use Rattle.batch_meaning.specs.Failures.{plain}
 use Rattle.batch_meaning.specs.Progress.{SessionProgress}
 use Rattle.batch_meaning.specs.Raised.{Around}
-use Rattle.batch_meaning.specs.Selecting.{Effect, result_full}
+use Rattle.batch_meaning.specs.Selecting.{Effect}
 use Rattle.batch_meaning.specs.Doing.{Held}
 use Rattle.batch_meaning.specs.Working.{asks_any}
-use Rattle.statement_paths.specs.Paths.{replied, end_of, FailsBy, HasDone, HasFailed, IsAround, IsChange, IsDone, IsDrop, IsRelaxed, IsSelect, IsWorked, asks_for, asks_of, work_of}
+use Rattle.statement_paths.specs.Paths.{replied, end_of, HasDone, HasFailed, IsAround, IsChange, IsDone, IsDrop, IsRelaxed, IsSelect, IsWorked, asks_for, asks_of, work_of}
 use Rattle.statement_paths.proofs.Laws.{work_done, work_failed}
 use Rattle.statement_paths.proofs.Unasked.{found_none, work_silent}
 use Rattle.batch_laws.specs.Committing.{Agrees, Leaves}
@@ -72,12 +71,10 @@ module _ (statement : Statement) (before : Stand) (manner : Manner) (exchanges w
       let is = own_leaves manner true exchanges worked here.0 here.1 more here.2 here.3 wrote in
       subst (λ (s : Stand). Leaves false false s exchanges more) (sym agrees) (is.0, is.1)
 
-  pub fails_leave : (is_open : Bool) → Agrees is_open before → IsAround true is_open false manner worked exchanges → (more ≡ [] → Leaves is_open is_open before exchanges []) × (Leaves is_open is_open before exchanges [] ⊎ ((is_open ≡ true) × Leaves true true before exchanges more))
-  fails_leave true agrees here =
-      let is = open_leaves before manner exchanges worked here.0 more agrees here.1 here.2 wrote in (λ none. subst (λ (l : List Planned). Leaves true true before exchanges l) none is, inr (refl, is))
-  fails_leave false agrees here =
-      let is = own_leaves manner false exchanges worked here.0 here.1 more here.2 here.3 wrote in
-      let leaves : Leaves false false before exchanges [] = subst (λ (s : Stand). Leaves false false s exchanges []) (sym agrees) (is.0, is.1) in (λ none. leaves, inl leaves)
+  pub fails_leave : (is_open : Bool) → Agrees is_open before → more ≡ [] → IsAround true is_open false manner worked exchanges → Leaves is_open is_open before exchanges []
+  fails_leave true agrees none here = subst (λ (l : List Planned). Leaves true true before exchanges l) none (open_leaves before manner exchanges worked here.0 more agrees here.1 here.2 wrote)
+  fails_leave false agrees none here =
+      let is = own_leaves manner false exchanges worked here.0 here.1 more here.2 here.3 wrote in subst (λ (s : Stand). Leaves false false s exchanges []) (sym agrees) (is.0, is.1)
 
 -- ---- where nothing is asked
 
@@ -129,28 +126,18 @@ module _ (around : Around) (statement : Statement) (old new : SessionProgress) (
       let done = work_done around statement old new exchanges effect held in
       (done.0, done.1, has_leaves (asks_of statement) refl effect done.0 done.1.0 held done.1.1 done.1.2)
 
-  abbrev pub Failed : Failure → Type 0
-  Failed failure = Leaves old.is_open old.is_open before exchanges [] ⊎ ((failure ≡ plain result_full) × (old.is_open ≡ true) × ((planned : List Planned) × Leaves true true before exchanges planned))
-
-  pub err_leaves : (failure : Failure) → Held (work_of around statement) old exchanges (Err failure) new → HasFailed around old statement failure exchanges × Failed failure
+  pub err_leaves : (failure : Failure) → Held (work_of around statement) old exchanges (Err failure) new → HasFailed old statement exchanges × Leaves old.is_open old.is_open before exchanges []
   err_leaves failure held = (failed, by_asks (asks_of statement) refl failed)
     where
-      failed : HasFailed around old statement failure exchanges
+      failed : HasFailed old statement exchanges
       failed = work_failed around statement old new exchanges failure held
 
-      by_work : (worked : List Exchange) → IsAround true old.is_open false old.settings.manner worked exchanges → FailsBy failure old.settings.manner (IsDone around old statement) worked → Failed failure
-      by_work worked here (inl f) = inl ((fails_leave statement before old.settings.manner exchanges worked [] (λ stand. wrote_failed stand old.settings.manner worked f) old.is_open agrees here).0 refl)
-      by_work worked here (inr (full, planned, effect, done)) = by_ways (fails_leave statement before old.settings.manner exchanges worked planned (λ stand. wrote_done stand around old statement planned effect worked done) old.is_open agrees here).1
-        where
-          by_ways : Leaves old.is_open old.is_open before exchanges [] ⊎ ((old.is_open ≡ true) × Leaves true true before exchanges planned) → Failed failure
-          by_ways (inl leaves) = inl leaves
-          by_ways (inr on) = inr (full, on.0, (planned, on.1))
-
-      by_asks : (asks_some : Bool) → asks_of statement ≡ asks_some → HasFailed around old statement failure exchanges → Failed failure
-      by_asks false none f = inl (none_leaves old.is_open before exchanges agrees (work_silent around statement old new exchanges (Err failure) none held))
-      by_asks true asks_it (inl nothing) = inl (none_leaves old.is_open before exchanges agrees nothing)
-      by_asks true asks_it (inr (inl refused)) = inl (begin_refused old.settings.manner before exchanges old.is_open agrees refused)
-      by_asks true asks_it (inr (inr (worked, f, here))) = by_work worked (subst (λ (b : Bool). IsAround b old.is_open false old.settings.manner worked exchanges) asks_it here) f
+      by_asks : (asks_some : Bool) → asks_of statement ≡ asks_some → HasFailed old statement exchanges → Leaves old.is_open old.is_open before exchanges []
+      by_asks false none f = none_leaves old.is_open before exchanges agrees (work_silent around statement old new exchanges (Err failure) none held)
+      by_asks true asks_it (inl nothing) = none_leaves old.is_open before exchanges agrees nothing
+      by_asks true asks_it (inr (inl refused)) = begin_refused old.settings.manner before exchanges old.is_open agrees refused
+      by_asks true asks_it (inr (inr (worked, f, here))) = fails_leave statement before old.settings.manner exchanges worked [] (λ stand. wrote_failed stand old.settings.manner worked f) old.is_open agrees refl
+          (subst (λ (b : Bool). IsAround b old.is_open false old.settings.manner worked exchanges) asks_it here)
 
 pub work_leaves : WorkLeaves
 work_leaves around statement old new exchanges effect before agrees held = ok_leaves around statement old new exchanges before agrees effect held

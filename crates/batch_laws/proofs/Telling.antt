@@ -24,7 +24,8 @@ use Rattle.statement_paths.proofs.Still.{Reads}
 use Rattle.statement_paths.proofs.Apart.{held_apart}
 use Rattle.statement_paths.proofs.Owned.{Owned, Refused, entered, own_held}
 use Rattle.statement_paths.proofs.Working.{values_read}
-use Rattle.statement_paths.proofs.Works.{prepares_reads, reads_work}
+use Rattle.statement_paths.proofs.Cursors.{IsLookStep, Looks, looks_own, reads_look}
+use Rattle.statement_paths.proofs.Works.{prepares_reads}
 use Rattle.batch_laws.specs.Committing.{Agrees, Leaves}
 use Rattle.batch_laws.specs.Laws.{EffectTells, ErrorStrikes, GoesBy, MessageLeaves, TestLeaves, WorkTells}
 use Rattle.batch_laws.proofs.Ending.{fails_held, raises_held, succeeds_held}
@@ -52,11 +53,11 @@ effect_tells statement effect exit came old new exchanges held = let end = succe
 
 -- ---- what only reads
 
-binds_reads : {A : Type 0} (statement : Statement) (go : List TableTree → Bound → Doing (Result A Failure)) → ((shapes : List TableTree) (of : Bound) → Reads (go shapes of)) → Reads (binds statement go)
+pub binds_look : {A : Type 0} (statement : Statement) (go : List TableTree → Bound → Doing (Result A Failure)) → ((shapes : List TableTree) (of : Bound) → Looks (go shapes of)) → Looks (binds statement go)
 unfolding binds
-binds_reads statement go more = only_bind IsTouch IsFetch (prepares statement) (λ made. go made.0 made.1) (prepares_reads statement) (λ made. more made.0 made.1)
+binds_look statement go more = only_bind IsLookStep IsFetch (prepares statement) (λ made. go made.0 made.1) (reads_look (prepares statement) (prepares_reads statement)) (λ made. more made.0 made.1)
 
-module _ {A : Type 0} (statement : Statement) (go : List TableTree → Bound → Doing (Result A Failure)) (more : (shapes : List TableTree) (of : Bound) → Reads (go shapes of)) (old new : SessionProgress) (exchanges : List Exchange) (came : Result A Failure) (before : Stand)
+module _ {A : Type 0} (statement : Statement) (go : List TableTree → Bound → Doing (Result A Failure)) (more : (shapes : List TableTree) (of : Bound) → Looks (go shapes of)) (old new : SessionProgress) (exchanges : List Exchange) (came : Result A Failure) (before : Stand)
     (agrees : Agrees old.is_open before) where
   abbrev work : Doing (Result A Failure)
   work = binds statement go
@@ -69,26 +70,26 @@ module _ {A : Type 0} (statement : Statement) (go : List TableTree → Bound →
       let is = fetch_stand worked before fetches in
       subst (λ (l : List Exchange). Leaves false false before l []) (sym here) (is.0 ∙ agree, is.1)
   around_leaves true true is_open agree worked fetches here = done_leaves statement before old.settings.manner exchanges worked [] (λ stand. wrote_fetches stand worked fetches) is_open agree here
-  around_leaves true false is_open agree worked fetches here = (fails_leave statement before old.settings.manner exchanges worked [] (λ stand. wrote_fetches stand worked fetches) is_open agree here).0 refl
+  around_leaves true false is_open agree worked fetches here = fails_leave statement before old.settings.manner exchanges worked [] (λ stand. wrote_fetches stand worked fetches) is_open agree refl here
 
-  within_leaves : Held (within statement go) old exchanges came new → Leaves old.is_open old.is_open before exchanges []
+  pub within_leaves : Held (within statement go) old exchanges came new → Leaves old.is_open old.is_open before exchanges []
   unfolding within Held
   within_leaves held = by_room held.0 held.1
     where
       by_ways : Refused old came exchanges new ⊎ Owned (asks_any (looked_up statement)) old.is_open work old came exchanges new → Leaves old.is_open old.is_open before exchanges []
       by_ways (inl refused) = begin_refused old.settings.manner before exchanges old.is_open agrees refused.asks
       by_ways (inr owned) = around_leaves (asks_any (looked_up statement)) (is_ok came) old.is_open agrees owned.worked
-          (held_asks IsTouch IsFetch work (entered (asks_any (looked_up statement)) old.is_open old) owned.mid owned.worked came (binds_reads statement go more) owned.held) owned.around
+          (held_asks IsLookStep IsFetch work (entered (asks_any (looked_up statement)) old.is_open old) owned.mid owned.worked came (binds_look statement go more) owned.held) owned.around
 
       by_room : (enough : Bool) → Held (if enough then own (asks_any (looked_up statement)) work else fails no_memory) old exchanges came new → Leaves old.is_open old.is_open before exchanges []
-      by_room true was = by_ways (own_held work (reads_work work (binds_reads statement go more)) old new exchanges came (asks_any (looked_up statement)) was)
+      by_room true was = by_ways (own_held work (looks_own work (binds_look statement go more)) old new exchanges came (asks_any (looked_up statement)) was)
       by_room false was = none_leaves old.is_open before exchanges agrees was.0
 
-tests_read : (around : Around) (p : SessionProgress) (shapes : List TableTree) (of : Bound) → Reads (tests_bound around shapes of)
+pub tests_read : (around : Around) (p : SessionProgress) (shapes : List TableTree) (of : Bound) → Reads (tests_bound around shapes of)
 unfolding tests_bound
 tests_read around p shapes of = only_bind IsTouch IsFetch (values_bound around shapes of) (λ rows. over (Ok (is_one (first_of (first_row rows))))) (values_read around p shapes of) (λ rows. tt)
 
-composes_read : (around : Around) (p : SessionProgress) (statement : Statement) (shapes : List TableTree) (of : Bound) → Reads (composes_bound around statement shapes of)
+pub composes_read : (around : Around) (p : SessionProgress) (statement : Statement) (shapes : List TableTree) (of : Bound) → Reads (composes_bound around statement shapes of)
 unfolding composes_bound
 composes_read around p statement shapes of = only_bind IsTouch IsFetch (values_bound around shapes of) _ (values_read around p shapes of) (λ rows.
     only_bind IsTouch IsFetch _ _ (only_comes IsTouch IsFetch (raised_by (form_of statement) (pos (out-Statement statement).line) (first_row rows))) (λ raised.
@@ -96,8 +97,8 @@ composes_read around p statement shapes of = only_bind IsTouch IsFetch (values_b
 
 pub test_leaves : TestLeaves
 unfolding tests
-test_leaves around statement old new exchanges came before agrees held = within_leaves statement (tests_bound around) (tests_read around old) old new exchanges came before agrees held
+test_leaves around statement old new exchanges came before agrees held = within_leaves statement (tests_bound around) (λ shapes of. reads_look (tests_bound around shapes of) (tests_read around old shapes of)) old new exchanges came before agrees held
 
 pub message_leaves : MessageLeaves
 unfolding composes
-message_leaves around statement old new exchanges came before agrees held = within_leaves statement (composes_bound around statement) (composes_read around old statement) old new exchanges came before agrees held
+message_leaves around statement old new exchanges came before agrees held = within_leaves statement (composes_bound around statement) (λ shapes of. reads_look (composes_bound around statement shapes of) (composes_read around old statement shapes of)) old new exchanges came before agrees held

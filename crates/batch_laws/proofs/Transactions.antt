@@ -30,12 +30,12 @@ use Rattle.batch_laws.specs.Committing.{Agrees}
 use Rattle.batch_laws.specs.Transactions.{back_for, BeginLeaves, Begins, Closes, CommitLeaves, CommitsBy, LeavesAll, LeavesBack, RollbackLeaves, RollsBack, SaveLeaves, Saves}
 
 module _ (p new : SessionProgress) (exchanges : List Exchange) (came : Result Effect Failure) where
-  abbrev Failed : Type 0
+  abbrev pub Failed : Type 0
   Failed = (failure : Failure) × (came ≡ Err failure) × (exchanges ≡ []) × (new ≡ p)
 
   -- ---- its parts
 
-  room_or : (tree : Doing (Result Effect Failure)) → Held (with_room tree) p exchanges came new → Failed ⊎ Held tree p exchanges came new
+  pub room_or : (tree : Doing (Result Effect Failure)) → Held (with_room tree) p exchanges came new → Failed ⊎ Held tree p exchanges came new
   unfolding Held
   room_or tree held = by_enough held.0 held.1
     where
@@ -52,7 +52,7 @@ module _ (p new : SessionProgress) (exchanges : List Exchange) (came : Result Ef
       by_test false was = inr was
 
   -- it is bound first
-  first_or : (statement : Statement) (go : SessionProgress → Doing (Result Effect Failure)) → Held (bound_first statement go) p exchanges came new → Failed ⊎ Held (go p) p exchanges came new
+  pub first_or : (statement : Statement) (go : SessionProgress → Doing (Result Effect Failure)) → Held (bound_first statement go) p exchanges came new → Failed ⊎ Held (go p) p exchanges came new
   unfolding Held ◌then◌
   first_or statement go held = by_enough held.0 held.1
     where
@@ -112,7 +112,7 @@ module _ (p new : SessionProgress) (exchanges : List Exchange) (came : Result Ef
       by_open true was = by_count (nat_le count_limit p.txn.count) was
       by_open false was = by_bytes (bytes_or _ _ was)
 
-  begin_held : (statement : Statement) (name : Option (List ℕ)) → Held (begins_transaction statement name) p exchanges came new → Begins p name p.is_open came exchanges new
+  pub begin_held : (statement : Statement) (name : Option (List ℕ)) → Held (begins_transaction statement name) p exchanges came new → Begins p name p.is_open came exchanges new
   unfolding begins_transaction
   begin_held statement name held = by_first (first_or statement (begins_over name) held)
     where
@@ -153,7 +153,7 @@ module _ (p new : SessionProgress) (exchanges : List Exchange) (came : Result Ef
       by_bytes (inl failed) = close_refused (Ok true) failed
       by_bytes (inr here) = close_asks here
 
-  close_held : (statement : Statement) → Held (commits_transaction statement) p exchanges came new → Closes p (commit_answer p.txn) came exchanges new
+  pub close_held : (statement : Statement) → Held (commits_transaction statement) p exchanges came new → Closes p (commit_answer p.txn) came exchanges new
   unfolding commits_transaction
   close_held statement held = by_first (first_or statement (λ q. commits_by q.txn (commit_answer q.txn)) held)
     where
@@ -224,7 +224,7 @@ module _ (p new : SessionProgress) (exchanges : List Exchange) (came : Result Ef
       by_closed false was = whole_back was
   back_to (Some name) held = back_by name (rollback_answer name p.txn) held
 
-  back_held : (statement : Statement) (name : Option (List ℕ)) → Held (rolls_back_transaction statement name) p exchanges came new → RollsBack p (back_for name p.txn) came exchanges new
+  pub back_held : (statement : Statement) (name : Option (List ℕ)) → Held (rolls_back_transaction statement name) p exchanges came new → RollsBack p (back_for name p.txn) came exchanges new
   unfolding rolls_back_transaction
   back_held statement name held = by_first (first_or statement (λ q. rolls_back_to name q.txn) held)
     where
@@ -270,7 +270,7 @@ module _ (p new : SessionProgress) (exchanges : List Exchange) (came : Result Ef
       by_room (inl failed) = save_refused name None failed
       by_room (inr here) = save_asks name here
 
-  save_held : (statement : Statement) (name : List ℕ) → Held (saves_transaction statement name) p exchanges came new → Saves p name (save_refusal p.txn) came exchanges new
+  pub save_held : (statement : Statement) (name : List ℕ) → Held (saves_transaction statement name) p exchanges came new → Saves p name (save_refusal p.txn) came exchanges new
   unfolding saves_transaction
   save_held statement name held = by_first (first_or statement (λ q. saves_unless name (save_refusal q.txn)) held)
     where

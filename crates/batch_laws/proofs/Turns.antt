@@ -68,6 +68,11 @@ plain_form one around statement (Form-F.BeginTransaction name) p new exchanges e
 plain_form one around statement (Form-F.Commit name) p new exchanges exit is held = absurd (let no : false ≡ true = is in cc)
 plain_form one around statement (Form-F.Rollback name) p new exchanges exit is held = absurd (let no : false ≡ true = is in cc)
 plain_form one around statement (Form-F.Save name) p new exchanges exit is held = absurd (let no : false ≡ true = is in cc)
+plain_form one around statement (Form-F.DeclareCursor name select) p new exchanges exit is held = absurd (let no : false ≡ true = is in cc)
+plain_form one around statement (Form-F.OpenCursor name) p new exchanges exit is held = absurd (let no : false ≡ true = is in cc)
+plain_form one around statement (Form-F.Fetch name variables) p new exchanges exit is held = absurd (let no : false ≡ true = is in cc)
+plain_form one around statement (Form-F.CloseCursor name) p new exchanges exit is held = absurd (let no : false ≡ true = is in cc)
+plain_form one around statement (Form-F.Deallocate name) p new exchanges exit is held = absurd (let no : false ≡ true = is in cc)
 plain_form one around statement form p new exchanges exit is held = held
 
 module _ (around : Around) (statement : Statement) (p new : SessionProgress) (exchanges : List Exchange) (exit : Exit) (before : Stand) (agrees : Agrees p.is_open before) where
@@ -78,7 +83,7 @@ module _ (around : Around) (statement : Statement) (p new : SessionProgress) (ex
     [],
     struck.sent,
     inr (refl, (failure, [], exchanges, p.txn, refl, inl refl, record { serial = refl; opened = λ is. refl }, struck.strikes)),
-    fail_leaves around statement p new exchanges exit before agrees failure [] exchanges struck.tokens p.txn refl (inl (none_leaves p.is_open before [] agrees refl)) struck.strikes struck.stays,
+    fail_leaves around statement p new exchanges exit before agrees [] exchanges refl (none_leaves p.is_open before [] agrees refl) struck.stays,
   )
 
   -- as it begins

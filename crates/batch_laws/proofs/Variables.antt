@@ -30,19 +30,18 @@ use Rattle.batch_meaning.specs.Selecting.{Effect, no_effect}
 use Rattle.batch_meaning.specs.Progress.{SessionProgress, SessionStep, assigned, assigns, made, touches}
 use Rattle.batch_meaning.specs.Values.{Assigned, rows_assigned}
 use Rattle.batch_meaning.specs.Doing.{Doing, over, reads, asks, Held, ◌then◌}
-use Rattle.batch_meaning.specs.Asking.{◌>>=◌, fails_naming, with_room, comes_to, unless_refused, reads_at, reads_definitions, reads_images, unless_broken, applies, assigns_all, takes_back, where_done, marked, where_begun, where_ended}
-use Rattle.batch_meaning.specs.Working.{answers, assigns_rows, binds, change_bound, changes, computes, creates, drops, drops_in, drops_kind, if_it_fits, inserted, prepares, select_bound, selects, selects_into, unless_objects, works_bound, asks_any, closes, creates_table, enters, leaves, own, relaxes, within, works}
-use Rattle.statement_paths.proofs.Only.{IsTouch, Only, held_keeps, only_bind, only_comes, only_gives, only_if, only_mono, only_naming, only_room, says_quiet, AnyOp, only_then}
+use Rattle.batch_meaning.specs.Asking.{◌>>=◌, fails_naming, with_room, comes_to, unless_refused, reads_at, reads_definitions, reads_images, unless_broken, applies, assigns_all, takes_back, where_done, marked}
+use Rattle.batch_meaning.specs.Working.{answers, assigns_rows, binds, change_bound, changes, computes, creates, drops, drops_in, drops_kind, if_it_fits, inserted, prepares, select_bound, selects, selects_into, unless_objects, works_bound, asks_any, creates_table, enters, leaves, own, within, works}
+use Rattle.statement_paths.proofs.Only.{IsTouch, Only, held_keeps, only_bind, only_comes, only_gives, only_mono, only_naming, only_room, says_quiet, AnyOp}
 use Rattle.statement_paths.proofs.Still.{Reads}
 use Rattle.statement_paths.proofs.Looking.{definitions_read}
 use Rattle.statement_paths.proofs.Working.{answers_read, at_level_reads, images_read}
 use Rattle.statement_paths.proofs.Failing.{computes_read, fits_read, selects_read}
 use Rattle.batch_meaning.specs.declared.home.Home.{Home}
-use Rattle.batch_meaning.specs.declared.home.Home.TheVariants.{Nowhere, Open, Own}
 use Rattle.statement_paths.specs.Paths.{work_for, work_of}
-use Rattle.statement_paths.proofs.Owned.{nothing_more}
 use Rattle.statement_paths.proofs.Works.{prepares_reads}
 use Rattle.batch_laws.specs.Committing.{assigned_all}
+use Rattle.batch_laws.proofs.Idle.{enters_make, leaves_make}
 use Rattle.statement_paths.proofs.Apart.{bind_apart, held_apart, room_apart}
 use Rattle.step_model.specs.Ranges.{Rows}
 
@@ -100,8 +99,8 @@ module _ (around : Around) (p0 : SessionProgress) where
       only_bind IsTouch AnyOp (reads_images shapes (bound.Write write)) _ (reads_still (reads_images shapes (bound.Write write)) (images_read shapes (bound.Write write))) (λ images.
       only_bind IsTouch AnyOp (reads λ p. comes_to (planned_over around p shapes write images)) _ (λ p. only_comes IsTouch AnyOp (planned_over around p shapes write images)) (λ planned.
       only_bind IsTouch AnyOp (reads λ p. comes_to (Ok (told_by p.settings.no_count write planned))) _ (λ p. only_comes IsTouch AnyOp (Ok (told_by p.settings.no_count write planned))) (λ effect.
-      only_bind IsTouch AnyOp (with_room (applies (tables_of definitions) planned)) (λ put. if_it_fits effect) (only_room IsTouch AnyOp (applies (tables_of definitions) planned) (applies_still (tables_of definitions) planned))
-      (λ put. reads_still (if_it_fits effect) (fits_read around p0 effect))))))
+      only_bind IsTouch AnyOp (if_it_fits effect) _ (reads_still (if_it_fits effect) (fits_read around p0 effect)) (λ fitting.
+      only_bind IsTouch AnyOp (with_room (applies (tables_of definitions) planned)) (λ put. over (Ok fitting)) (only_room IsTouch AnyOp (applies (tables_of definitions) planned) (applies_still (tables_of definitions) planned)) (λ put. tt))))))
 
   change_still : (shapes : List TableTree) (of : Bound) → Still (change_bound around shapes of)
   change_still [] of = tt
@@ -127,45 +126,6 @@ module _ (around : Around) (p0 : SessionProgress) where
   drop_still : (kind : DropKind) (shapes : List TableTree) (name : List ℕ) → Still (drops_kind around kind shapes name)
   drop_still drop.Table shapes name = drops_in_still (shape_of (rows_table name) shapes) shapes name
   drop_still other shapes name = only_naming IsTouch AnyOp Effect not_there name
-
--- ---- around the work
-
-relaxes_still : Still relaxes
-unfolding relaxes
-relaxes_still = λ p. only_if IsTouch AnyOp p.touched (asks ops.Relax (where_done nothing_more)) nothing_more (tt, by_reply) tt
-  where
-    by_reply : (reply : Reply) → CanReply ops.Relax reply → Still (where_done nothing_more reply)
-    by_reply replies.Done can = tt
-    by_reply reply can = absurd can
-
-closes_still : (succeeded : Bool) → Still (closes succeeded)
-unfolding closes
-closes_still true = (tt, by_reply)
-  where
-    by_reply : (reply : Reply) → CanReply ops.Commit reply → Still (where_ended nothing_more reply)
-    by_reply (replies.Ended place) can = tt
-    by_reply reply can = absurd can
-closes_still false = (tt, by_reply)
-  where
-    by_reply : (reply : Reply) → CanReply ops.Rollback reply → Still (where_ended nothing_more reply)
-    by_reply (replies.Ended place) can = tt
-    by_reply reply can = absurd can
-
-leaves_still : (home : Home) (succeeded : Bool) → Still (leaves home succeeded)
-unfolding leaves
-leaves_still Nowhere succeeded = tt
-leaves_still Open succeeded = relaxes_still
-leaves_still Own succeeded = only_then IsTouch AnyOp relaxes (λ done. closes succeeded) relaxes_still (λ done. closes_still succeeded)
-
-enters_still : (asks_some : Bool) → Still (enters asks_some)
-unfolding enters
-enters_still false = tt
-enters_still true = λ p. only_if IsTouch AnyOp p.is_open (over (Ok Open)) (asks ops.Begin (unless_refused (where_begun (over (Ok Own))))) tt (tt, by_reply)
-  where
-    by_reply : (reply : Reply) → CanReply ops.Begin reply → Still {A = Result Home Failure} (unless_refused (where_begun (over (Ok Own))) reply)
-    by_reply replies.Began can = tt
-    by_reply replies.Memory can = tt
-    by_reply reply can = absurd can
 
 -- ---- the variables
 
@@ -193,12 +153,12 @@ unfolding Held
 home_stay {A = A} work stay home p new exchanges a held =
     let on = held_apart work (λ came. leaves home (is_ok came) then λ done. over came) p new exchanges (Ok a) held in
     let last = held_apart (leaves home (is_ok on.came)) (λ done. over on.came) on.mid new on.back (Ok a) on.rest in
-    ap (λ (q : SessionProgress). q.vars) last.rest.2 ∙ still_vars (leaves home (is_ok on.came)) on.mid last.mid last.front last.came (leaves_still home (is_ok on.came)) last.held
+    ap (λ (q : SessionProgress). q.vars) last.rest.2 ∙ still_vars (leaves home (is_ok on.came)) on.mid last.mid last.front last.came (leaves_make IsTouch home (is_ok on.came)) last.held
     ∙ stay p on.mid on.front a (subst (λ (r : Result A Failure). Held work p on.front r on.mid) (sym last.rest.1) on.held)
 
 own_stay : {A : Type 0} (asks_some : Bool) (work : Doing (Result A Failure)) → Stay work → Stay (own asks_some work)
 unfolding own
-own_stay asks_some work stay = bind_stay (enters asks_some) (λ home. work then λ came. leaves home (is_ok came) then λ done. over came) (enters_still asks_some) (home_stay work stay)
+own_stay asks_some work stay = bind_stay (enters asks_some) (λ home. work then λ came. leaves home (is_ok came) then λ done. over came) (enters_make IsTouch asks_some) (home_stay work stay)
 
 room_stay : {A : Type 0} (tree : Doing (Result A Failure)) → Stay tree → Stay (with_room tree)
 room_stay tree stay p new exchanges a held = stay p new exchanges a (room_apart tree p new exchanges a held)

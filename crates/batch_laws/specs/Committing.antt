@@ -131,15 +131,15 @@ Succeeds around p statement exit tokens planned exchanges new = (exit ≡ exit_f
 -- it failed, and its error struck
 abbrev pub Fails : Around → SessionProgress → Statement → Exit → List Token → List Exchange → SessionProgress → Type 0
 Fails around p statement exit tokens exchanges new = (failure : Failure) × (work behind : List Exchange) × (struck : TxnState) × (exchanges ≡ work ++ behind)
-    × HasFailed around p statement failure work × IsWithin p struck × Strikes around p struck statement (raised_at (line_of statement) failure) exit tokens behind new
+    × HasFailed p statement work × IsWithin p struck × Strikes around p struck statement (raised_at (line_of statement) failure) exit tokens behind new
 
 -- what it planned stays where it succeeded
 abbrev pub Ends : Around → SessionProgress → Statement → Exit → List Token → List Planned → List Exchange → SessionProgress → Type 0
 Ends around p statement exit tokens planned exchanges new = Succeeds around p statement exit tokens planned exchanges new ⊎ ((planned ≡ []) × Fails around p statement exit tokens exchanges new)
 
 -- The forms of statements that are done with their effect: SELECT, INSERT, UPDATE, DELETE, CREATE TABLE, DROP, DECLARE, SET of a variable and
--- RETURN; and EXEC and the statements of cursors, which are not built. The others hold statements, begin or end transactions, set options,
--- or raise errors and send messages of their own.
+-- RETURN; and EXEC, which is not built. The others hold statements, begin or end transactions, set options, change cursors, or raise errors
+-- and send messages of their own.
 abbrev pub is_plain : Layer → Bool
 is_plain (Form-F.If test so otherwise) = false
 is_plain (Form-F.While test body) = false
@@ -156,6 +156,11 @@ is_plain (Form-F.BeginTransaction name) = false
 is_plain (Form-F.Commit name) = false
 is_plain (Form-F.Rollback name) = false
 is_plain (Form-F.Save name) = false
+is_plain (Form-F.DeclareCursor name select) = false
+is_plain (Form-F.OpenCursor name) = false
+is_plain (Form-F.Fetch name variables) = false
+is_plain (Form-F.CloseCursor name) = false
+is_plain (Form-F.Deallocate name) = false
 is_plain form = true
 
 abbrev pub ArePlain : List Statement → Type 0
@@ -169,10 +174,13 @@ pub record IsIdle (p : SessionProgress) : Type 0 where
   pub closed : is_closed p.txn ≡ true
   pub sound : p.txn.doomed ≡ false
 
--- what a plain statement leaves as it was: all that SET has set, with its manner and its level, and the number of the transaction
+-- what a plain statement leaves as it was: all that SET has set, with its manner and its level; the number of the transaction; its cursors,
+-- and @@FETCH_STATUS
 pub record Stays (p new : SessionProgress) : Type 0 where
   pub settings : new.settings ≡ p.settings
   pub serial : new.txn.serial ≡ p.txn.serial
+  pub cursors : new.cursors ≡ p.cursors
+  pub fetched : new.fetch_status ≡ p.fetch_status
 
 -- ---- statements one after another
 

@@ -25,7 +25,7 @@ use Rattle.batch_meaning.specs.declared.settings.Settings.{Settings}
 use Rattle.batch_meaning.specs.Meaning.{Meaning, batch, concludes, does, each_of, has_failed, line_of, mean_of, meaning, raises, succeeds}
 use Rattle.batch_meaning.specs.Progress.{SessionProgress, begins, counts, made}
 use Rattle.batch_meaning.specs.Raised.{Around, around_batch, error_token, raised_at}
-use Rattle.batch_meaning.specs.Selecting.{Effect, not_built, result_full}
+use Rattle.batch_meaning.specs.Selecting.{Effect, not_built}
 use Rattle.batch_meaning.specs.Statements.{vars_of}
 use Rattle.batch_meaning.specs.Tokens.{batch_done}
 use Rattle.batch_meaning.specs.Working.{composes, tests}
@@ -42,10 +42,10 @@ abbrev pub WorkLeaves : Type 0
 WorkLeaves = (around : Around) (statement : Statement) (old new : SessionProgress) (exchanges : List Exchange) (effect : Effect) (before : Progress) → Agrees old.is_open before → Held (work_of around statement) old exchanges (Ok effect) new
     → (planned : List Planned) × HasDone around old statement planned effect exchanges × Leaves old.is_open old.is_open before exchanges planned
 
--- one that failed has left its transaction as it was, but where it can't be told
+-- one that failed has left its transaction as it was
 abbrev pub FailureLeaves : Type 0
 FailureLeaves = (around : Around) (statement : Statement) (old new : SessionProgress) (exchanges : List Exchange) (failure : Failure) (before : Progress) → Agrees old.is_open before → Held (work_of around statement) old exchanges (Err failure) new
-    → HasFailed around old statement failure exchanges × (Leaves old.is_open old.is_open before exchanges [] ⊎ ((failure ≡ plain result_full) × (old.is_open ≡ true) × ((planned : List Planned) × Leaves true true before exchanges planned)))
+    → HasFailed old statement exchanges × Leaves old.is_open old.is_open before exchanges []
 
 -- a statement that is done with its effect has ended, sent what it came to, and left its changes where it succeeded; all that SET has set stays
 abbrev pub StatementEnds : Type 0

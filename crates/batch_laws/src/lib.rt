@@ -2,8 +2,8 @@
 //! open transaction has left its changes behind what that had written; one in a transaction of its own has committed them, as one
 //! commit. One that failed has left its transaction as it was, or its error has ended it.
 //!
-//! Read `specs/Committing.antt` first, then `specs/Laws.antt` and `specs/Transactions.antt`; what a statement has asked is in
-//! `statement_paths`. The functions do nothing: each one's contract is a law of the trees of `batch_meaning` and of the dialogs of
+//! Read `specs/Committing.antt` first, then `specs/Laws.antt` and the others in the order of `specs/Lib.antt`; what a statement has
+//! asked is in `statement_paths`. The functions do nothing: each one's contract is a law of the trees of `batch_meaning` and of the dialogs of
 //! `dml_exec`, for every reply that may come. They ask nothing of their caller; only the definitions that they cite say what they
 //! mean. That the commits of exchanges are those in the log is no part of it (`commits_once` of `step_model`).
 #![tactic(auto)]
@@ -11,7 +11,10 @@
 ghost use Rattle.std.specs.Prelude.{Bool};
 ghost use Rattle.batch_meaning.specs.declared.raised.Raised.{Raised};
 ghost use Rattle.batch_meaning.specs.Selecting.{Effect};
+ghost use Rattle.batch_laws.specs.Control.{DoomedStrikes, FormControls, NamedDoes, SpentStrikes};
+ghost use Rattle.batch_laws.specs.Cursors.{CloseMoves, DeclareMoves, FetchMoves, OpenLeaves, OpenMoves, RemoveMoves};
 ghost use Rattle.batch_laws.specs.Laws.{BatchCommits, BatchRuns, EachInTurn, EffectTells, ErrorStrikes, FailureLeaves, LeftRun, MessageLeaves, PlainEnds, PlainRun, RefusedEnds, StatementEnds, TestLeaves, UnbuiltEnds, WorkLeaves, WorkTells, WritesWhole};
+ghost use Rattle.batch_laws.specs.Settled.{BatchSettles, StatementSettles, SteadyIdle};
 ghost use Rattle.batch_laws.specs.Transactions.{BeginLeaves, CommitLeaves, RollbackLeaves, SaveLeaves};
 
 /// The changes of a write stay whole or not at all: where they were made and checked they stand behind what the
@@ -22,7 +25,7 @@ pub fn law_writes()
 {}
 
 /// The work of a statement that succeeded leaves its changes in the open transaction, or they are committed in its own; where
-/// it failed, the transaction is as it was, or its error is that it can't be told.
+/// it failed, the transaction is as it was.
 #[tactic(auto, using(crate::proofs::Statements::work_leaves, crate::proofs::Statements::failure_leaves))]
 pub fn law_work()
     ensures done { WorkLeaves }
@@ -31,7 +34,7 @@ pub fn law_work()
 
 /// A statement that is done with its effect has done its work, sent what that came to and left its changes; or it has
 /// failed, its error has struck, and the transaction is as it was, or rolled back. What is assigned and counted is told of its
-/// session, and so is the state of its transaction; all that SET has set stays.
+/// session, and so is the state of its transaction; all that SET has set stays, and so do its cursors.
 #[tactic(auto, using(crate::proofs::Ending::statement_ends, crate::proofs::Turns::plain_ends))]
 pub fn law_statement()
     ensures ends { StatementEnds }
@@ -67,6 +70,31 @@ pub fn law_transactions()
     ensures saves { SaveLeaves }
 {}
 
+/// DECLARE of a cursor, FETCH, CLOSE and DEALLOCATE ask nothing, and change the cursors and `@@FETCH_STATUS` alone, by what is
+/// answered of the cursor that they name. OPEN only reads, and leaves its transaction as it was; where it fails it leaves the
+/// cursors, too.
+#[tactic(auto, using(crate::proofs::Cursors::declare_moves, crate::proofs::Cursors::fetch_moves, crate::proofs::Cursors::close_moves, crate::proofs::Cursors::remove_moves, crate::proofs::Cursors::open_moves, crate::proofs::Cursors::open_leaves))]
+pub fn law_cursors()
+    ensures declares { DeclareMoves }
+    ensures fetches { FetchMoves }
+    ensures closes { CloseMoves }
+    ensures removes { RemoveMoves }
+    ensures opens { OpenMoves }
+    ensures leaves { OpenLeaves }
+{}
+
+/// A statement that may begin, and is not refused since its transaction is doomed, does what its form says: one on transactions
+/// or cursors its own work; IF the statement that its test says, WHILE its body and then the same again, TRY its statements and,
+/// where an error of theirs was caught, those of CATCH, and a block its statements; PRINT, RAISERROR and THROW send their message,
+/// or it strikes, and SET sets. Of one that may not begin, or is refused, an error strikes at once.
+#[tactic(auto, using(crate::proofs::Control::named_does, crate::proofs::Control::form_controls, crate::proofs::Control::spent_strikes, crate::proofs::Control::doomed_strikes))]
+pub fn law_forms()
+    ensures works { NamedDoes }
+    ensures controls { FormControls }
+    ensures spent { SpentStrikes }
+    ensures doomed { DoomedStrikes }
+{}
+
 /// Of statements one after another each did what it means, from where the one before it had left its session, until one left
 /// the others.
 #[tactic(auto, using(crate::proofs::Turns::each_in_turn))]
@@ -99,4 +127,13 @@ pub fn law_left()
 /// work, and at whose beginning none was open; all that SET has set is then as at the batch's beginning.
 pub fn law_commits()
     ensures { BatchCommits }
+{}
+
+/// Between two statements a transaction is open at the port exactly where BEGIN TRANSACTION has opened one, whatever statements
+/// they are; behind a batch that was done none is doomed, and where none is open the session is idle.
+#[tactic(auto, using(crate::proofs::Settled::statement_settles, crate::proofs::Settled::batch_settles, crate::proofs::Settled::steady_idle))]
+pub fn law_settled()
+    ensures statement { StatementSettles }
+    ensures batch { BatchSettles }
+    ensures idle { SteadyIdle }
 {}

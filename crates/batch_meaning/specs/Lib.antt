@@ -12,4 +12,5 @@ pub mod Changing  -- planned_over: what a write comes to, apart from what is ask
 pub mod Asking  -- looks_up, reads_images, applies: what the parts of a statement ask
 pub mod Working  -- works_form: what a statement that reads or writes tables asks, and what comes of it
 pub mod Transactions  -- begins_transaction: what the statements on transactions ask
+pub mod Cursors  -- opens_cursor: what the statements on cursors ask, and what comes of them
 pub mod Meaning  -- batch: what statements ask, what they end, and what comes of the replies

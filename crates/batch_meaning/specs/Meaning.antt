@@ -29,6 +29,7 @@ use Rattle.batch_meaning.specs.Values.{is_message}
 use Rattle.session_vars.specs.declared.Variable.{Variable}
 use Rattle.batch_meaning.specs.Asking.{assigns_all, where_ended}
 use Rattle.batch_meaning.specs.Working.{composes, creates_table, tests, works}
+use Rattle.batch_meaning.specs.Cursors.{closes_cursor, declares_cursor, fetches_cursor, opens_cursor, removes_cursor}
 use Rattle.batch_meaning.specs.Transactions.{begins_transaction, commits_transaction, rolls_back_transaction, saves_transaction}
 
 abbrev pub Meaning : Type 0
@@ -105,6 +106,7 @@ leaves_rows Form-F.Continue = true
 leaves_rows (Form-F.Block body) = true
 leaves_rows (Form-F.TryCatch body handler) = true
 leaves_rows (Form-F.Declare declarations) = true
+leaves_rows (Form-F.DeclareCursor name select) = true
 leaves_rows form = false
 
 abbrev pub counted : Layer → ℕ → Doing Exit → Doing Exit
@@ -244,6 +246,11 @@ module _ (one : Statement → Meaning) where
   mean_form around statement (Form-F.Rollback name) = does around statement On (rolls_back_transaction statement name)
   mean_form around statement (Form-F.Save name) = does around statement On (saves_transaction statement name)
   mean_form around statement (Form-F.CreateTable table text) = does around statement On (creates_table statement table.name text)
+  mean_form around statement (Form-F.DeclareCursor name select) = does around statement On (declares_cursor statement name select)
+  mean_form around statement (Form-F.OpenCursor name) = does around statement On (opens_cursor around statement name)
+  mean_form around statement (Form-F.Fetch name variables) = does around statement On (fetches_cursor statement name variables)
+  mean_form around statement (Form-F.CloseCursor name) = does around statement On (closes_cursor statement name)
+  mean_form around statement (Form-F.Deallocate name) = does around statement On (removes_cursor statement name)
   mean_form around statement form = does around statement On (works around statement)
 
   -- what is refused in a doomed transaction is, before it is bound or asks anything

@@ -3,8 +3,12 @@
 use Rattle.std.specs.Prelude.{◌≡◌, ℕ, ℤ, pos, ◌-◌, Bool, true, false, IsTrue, List, [], ◌∷◌, ◌++◌, length, map, min, Option, if◌then◌else◌, ◌==◌, not, Some, None, slice_get, slice_set}
 use Rattle.std.specs.List.{All}
 use Rattle.std.specs.List.{list_any}
+use Rattle.tsql_tree.specs.declared.query.Select.{Select}
+use Rattle.value_types.specs.declared.sql_type.SqlType.{SqlType}
 use Rattle.value_types.specs.declared.value.Value.{Value}
 use Rattle.value_types.specs.declared.value.Value.TheVariants.{Whole}
+use Rattle.session_cursors.specs.declared.cursor.Cursor.{Cursor}
+use Rattle.session_cursors.specs.Cursors.{declared, filled, fetched, closed, removed}
 use Rattle.session_vars.specs.declared.Variable.{Variable}
 use Rattle.step_model.specs.declared.op.Op.{Op}
 use Rattle.step_model.specs.declared.op.Op.TheVariants.{Begin, Fetch, Insert, Replace, Erase, Mark, BackTo, Relax, Commit, Rollback}
@@ -34,6 +38,10 @@ pub record SessionProgress : Type 0 where
   -- @@ROWCOUNT and @@ERROR
   pub row_count : ℕ
   pub error : ℤ
+  -- @@FETCH_STATUS
+  pub fetch_status : ℤ
+  -- its cursors, each with its select
+  pub cursors : List (Cursor Select)
   -- what SET has set
   pub settings : Settings
   -- BEGIN TRANSACTION and what belongs to it
@@ -52,6 +60,8 @@ first_progress = record {
   vars = [];
   row_count = 0;
   error = pos 0;
+  fetch_status = pos 0;
+  cursors = [];
   settings = first_settings;
   txn = no_transaction;
   is_open = false;
@@ -61,7 +71,8 @@ first_progress = record {
 -- ---- steps
 
 -- A batch begins, with its variables; a statement of it begins; it asks what its end has to relax; it sends tokens; @@ROWCOUNT and @@ERROR
--- are set; the variable at a place is assigned; SET sets; a transaction is begun, counted, given up or named in a savepoint.
+-- are set; the variable at a place is assigned; SET sets; a transaction is begun, counted, given up or named in a savepoint; a cursor is
+-- declared, filled, fetched from, closed or removed, and @@FETCH_STATUS is set.
 pub data SessionStep : Type 0 where
   begins : List Variable → SessionStep
   counts : SessionStep
@@ -75,6 +86,12 @@ pub data SessionStep : Type 0 where
   closes_one : SessionStep
   saves : List ℕ → ℕ → SessionStep
   dooms : SessionStep
+  declares : List ℕ → Select → SessionStep
+  fills : List ℕ → List SqlType → List (List Value) → SessionStep
+  fetches : List ℕ → SessionStep
+  shuts : List ℕ → SessionStep
+  removes : List ℕ → SessionStep
+  tells_fetch : ℤ → SessionStep
 
 -- how many statements a batch may begin
 abbrev pub statement_limit : ℕ
@@ -125,6 +142,12 @@ made (opens name) p = record p { txn = after_begin name p.txn }
 made closes_one p = record p { txn = after_commit p.txn }
 made (saves name mark) p = record p { txn = after_save name mark p.txn }
 made dooms p = record p { txn = after_doom p.txn }
+made (declares name select) p = record p { cursors = declared name select p.cursors }
+made (fills name kinds rows) p = record p { cursors = filled name kinds rows p.cursors }
+made (fetches name) p = record p { cursors = fetched name p.cursors }
+made (shuts name) p = record p { cursors = closed name p.cursors }
+made (removes name) p = record p { cursors = removed name p.cursors }
+made (tells_fetch status) p = record p { fetch_status = status }
 
 -- ---- exchanges
 
@@ -165,14 +188,10 @@ asked_all (x ∷ later) p = asked_all later (asked x.op x.reply p)
 abbrev pub values_of : List Variable → List Value
 values_of vars = map (λ variable. variable.value) vars
 
--- no cursor has been fetched from
-abbrev pub first_fetch_status : Value
-first_fetch_status = Whole (pos 0)
-
 -- @@TRANCOUNT, @@ERROR, @@ROWCOUNT, @@FETCH_STATUS, XACT_STATE(), and the values of the error of the CATCH around
 abbrev pub system_in : Around → SessionProgress → List Value
 system_in around p =
-    Whole (pos p.txn.count) ∷ Whole p.error ∷ Whole (pos p.row_count) ∷ first_fetch_status ∷ Whole (xact_state p.txn) ∷ error_values around.caught
+    Whole (pos p.txn.count) ∷ Whole p.error ∷ Whole (pos p.row_count) ∷ Whole p.fetch_status ∷ Whole (xact_state p.txn) ∷ error_values around.caught
 
 -- ---- the port
 

@@ -1,5 +1,5 @@
 -- Own: what a text is read as: statements, all of which are built; or it is not built yet; or it is refused. Definitions of procedures
--- and triggers, cursors and calls are not built. And the variables that a batch declares, in the order of the text.
+-- and triggers, and calls, are not built. And the variables that a batch declares, in the order of the text.
 use Rattle.std.specs.Prelude.{◌≡◌, ℕ, pos, ◌&&◌, Bool, true, false, if◌then◌else◌, List, [], ◌∷◌, ◌++◌, length, map, nat_lt, Option, Some, None, Result, Ok, Err}
 use Rattle.std.specs.List.{list_all}
 use Rattle.tsql_tree.specs.declared.statement.Batch.{Batch}
@@ -30,11 +30,6 @@ built_form (Form-F.If test so otherwise) = so && or_built otherwise
 built_form (Form-F.While test body) = body
 built_form (Form-F.Block body) = all_built body
 built_form (Form-F.TryCatch body handler) = all_built body && all_built handler
-built_form (Form-F.DeclareCursor name select) = false
-built_form (Form-F.OpenCursor name) = false
-built_form (Form-F.Fetch name variables) = false
-built_form (Form-F.CloseCursor name) = false
-built_form (Form-F.Deallocate name) = false
 built_form (Form-F.Execute status name arguments) = false
 built_form form = true
 

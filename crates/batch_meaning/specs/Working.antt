@@ -151,15 +151,16 @@ module _ (around : Around) where
 
   -- ---- INSERT, UPDATE, DELETE
 
-  -- the definitions are read, and the tables of a write; what it changes is planned, and asked
+  -- the definitions are read, and the tables of a write; what it changes is planned, and asked where it can be told
   unfoldable pub changes : List TableTree → BoundWrite → Doing (Result Effect Failure)
   changes shapes write = do
     definitions ← reads_definitions
     images ← reads_images shapes (bound.Write write)
     planned ← (reads λ p. comes_to (planned_over around p shapes write images))
     effect ← (reads λ p. comes_to (Ok (told_by p.settings.no_count write planned)))
+    fitting ← if_it_fits effect
     put ← with_room (applies (tables_of definitions) planned)
-    if_it_fits effect
+    over (Ok fitting)
 
   abbrev pub change_bound : List TableTree → Bound → Doing (Result Effect Failure)
   change_bound [] of = fails not_built

@@ -10,7 +10,7 @@ use Rattle.tds_tokens.specs.declared.token.DoneKind.TheVariants.{Done}
 use Rattle.tds_tokens.specs.declared.token.Token.{Token}
 use Rattle.tds_tokens.specs.declared.token.Token.TheVariants.{Finished}
 use Rattle.batch_meaning.specs.Raised.{error_token, raised_at}
-use Rattle.batch_exec.proofs.Fitting.{done_fit, fit_both, told_fits}
+use Rattle.session_state.proofs.Fitting.{done_fit, fit_both, told_fits}
 use Rattle.session_server.specs.Response.{refusal_tokens}
 
 pub refusal_fits : (number : ℤ) (result : Result (Vec Token Global) Memory) → IfOk result (λ tokens. tokens.items ≡ refusal_tokens number) → IfOk result (λ tokens. FitTokens [] tokens.items)

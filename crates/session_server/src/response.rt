@@ -4,7 +4,7 @@ ghost use Rattle.std.specs.Prelude.{◌≡◌, [], ◌∷◌, IfOk};
 ghost use Rattle.tds_tokens.specs.Fit.{FitTokens};
 ghost use Rattle.session_server.specs.Response.{attention_tokens, refusal_tokens};
 
-use batch_exec::error_of;
+use session_state::error_of;
 use std::alloc::Global;
 use tds_tokens::{COMMAND_NONE, DONE_ATTN, DONE_ERROR, DoneKind, Token};
 use value_types::{Memory, Units};

@@ -9,8 +9,9 @@ ghost use Rattle.tds_packets.specs.Reading.{byte_limit};
 
 use crate::end::End;
 use crate::message::{Handling, ServerState, handle};
-use batch_exec::{SessionState, roll_back_open};
+use batch_exec::roll_back_open;
 use outside_io::{Sink, Source};
+use session_state::SessionState;
 use std::alloc::Global;
 use step_model::Port;
 use tds_login::Config;

@@ -40,6 +40,7 @@ use Rattle.batch_meaning.specs.Working.{changes, drops, if_it_fits}
 use Rattle.statement_paths.proofs.Apart.{comes_apart, holds_apart, room_apart}
 use Rattle.statement_paths.proofs.Looking.{definitions_apart, definitions_read, ok_same}
 use Rattle.statement_paths.proofs.Only.{AnyStep, IsTouch, only_comes, only_if, only_room}
+use Rattle.statement_paths.proofs.Still.{Reads}
 use Rattle.statement_paths.proofs.Working.{at_level_reads, images_read as images_fetched}
 use Rattle.integrity_laws.specs.Laws.{AreTables}
 use Rattle.integrity_laws.specs.Plans.{IsDropPlanned, IsPlanned}
@@ -59,6 +60,10 @@ use Rattle.sound_laws.proofs.Writing.{MayWrite, applies_bring}
 pub fits_still : (effect : Effect) → WritesNothing (if_it_fits effect)
 unfolding if_it_fits
 fits_still effect = λ p. only_if AnyStep IsStill (nat_lt p.bytes_left (size_of effect.tokens)) (fails result_full) (over (Ok effect)) tt tt
+
+fits_fetch : (effect : Effect) → Reads (if_it_fits effect)
+unfolding if_it_fits
+fits_fetch effect = λ p. only_if IsTouch IsFetch (nat_lt p.bytes_left (size_of effect.tokens)) (fails result_full) (over (Ok effect)) tt tt
 
 -- ---- images
 
@@ -150,38 +155,43 @@ module _ (session : ℕ) (begin log : List Logged) (mine : List Exchange) (tied 
     abbrev Telling : List Planned → Doing (Result Effect Failure)
     Telling planned = reads λ p. comes_to (Ok (told_by p.settings.no_count write planned))
 
-    put_bring : (definitions : List Definition) (planned : List Planned) (effect : Effect) → Brings log mine (StandsWith log (MayPut definitions planned)) (with_room (applies (tables_of definitions) planned) >>= λ put. if_it_fits effect) To
-    put_bring definitions planned effect =
-        brings_bind log mine (StandsWith log (MayPut definitions planned)) (with_room (applies (tables_of definitions) planned)) (λ (put : Result (Unit {0}) Failure). Stands log) (λ put. if_it_fits effect) To
+    put_last : (definitions : List Definition) (planned : List Planned) (fitting : Effect) → Brings log mine (StandsWith log (MayPut definitions planned)) (with_room (applies (tables_of definitions) planned) >>= λ put. over (Ok fitting)) To
+    put_last definitions planned fitting =
+        brings_bind log mine (StandsWith log (MayPut definitions planned)) (with_room (applies (tables_of definitions) planned)) (λ (put : Result (Unit {0}) Failure). Stands log) (λ put. over (Ok fitting)) To
         (brings_room log mine (StandsWith log (MayPut definitions planned)) (λ enough. if enough then applies (tables_of definitions) planned else fails no_memory) (λ (put : Result (Unit {0}) Failure). Stands log) by_room)
-        (λ put. carries_still (if_it_fits effect) (fits_still effect) session begin log mine tied) (λ failure before later is stands. stands)
+        (λ put. carries_still (over (Ok fitting)) tt session begin log mine tied) (λ failure before later is stands. stands)
       where
         by_room : (enough : Bool) → Brings log mine (StandsWith log (MayPut definitions planned)) (if enough then applies (tables_of definitions) planned else fails no_memory) (λ (put : Result (Unit {0}) Failure). Stands log)
         by_room true = applies_bring session begin log mine tied (tables_of definitions) planned
         by_room false = brings_over log mine (StandsWith log (MayPut definitions planned)) (Err (plain no_memory)) (λ (put : Result (Unit {0}) Failure). Stands log) (λ before later is from. from.0)
 
+    put_bring : (definitions : List Definition) (planned : List Planned) (effect : Effect) → Brings log mine (StandsWith log (MayPut definitions planned)) (if_it_fits effect >>= λ fitting. with_room (applies (tables_of definitions) planned) >>= λ put. over (Ok fitting)) To
+    put_bring definitions planned effect =
+        reads_bind session begin log mine tied (MayPut definitions planned) (if_it_fits effect) (λ fitting. MayPut definitions planned) (λ fitting. with_room (applies (tables_of definitions) planned) >>= λ put. over (Ok fitting))
+        (fits_fetch effect) (λ before part later p new fitting is held intact may. may) (put_last definitions planned)
+
     pub changes_bring : Brings log mine (StandsWith log (λ db. AllByRecursion (IsTableOf db) shapes)) (changes around shapes write) To
     unfolding changes Held reads_at reads_images
     changes_bring =
         reads_bind session begin log mine tied (λ db. AllByRecursion (IsTableOf db) shapes) reads_definitions (Defined shapes)
-        (λ definitions. reads_images shapes (bound.Write write) >>= λ images. Planning images >>= λ planned. Telling planned >>= λ effect. with_room (applies (tables_of definitions) planned) >>= λ put. if_it_fits effect)
+        (λ definitions. reads_images shapes (bound.Write write) >>= λ images. Planning images >>= λ planned. Telling planned >>= λ effect. if_it_fits effect >>= λ fitting. with_room (applies (tables_of definitions) planned) >>= λ put. over (Ok fitting))
         definitions_read (all_defined shapes) on_definitions
       where
-        on_planned : (definitions : List Definition) (planned : List Planned) → Brings log mine (StandsWith log (MayPut definitions planned)) (Telling planned >>= λ effect. with_room (applies (tables_of definitions) planned) >>= λ put. if_it_fits effect) To
+        on_planned : (definitions : List Definition) (planned : List Planned) → Brings log mine (StandsWith log (MayPut definitions planned)) (Telling planned >>= λ effect. if_it_fits effect >>= λ fitting. with_room (applies (tables_of definitions) planned) >>= λ put. over (Ok fitting)) To
         on_planned definitions planned =
-            reads_bind session begin log mine tied (MayPut definitions planned) (Telling planned) (λ effect. MayPut definitions planned) (λ effect. with_room (applies (tables_of definitions) planned) >>= λ put. if_it_fits effect)
+            reads_bind session begin log mine tied (MayPut definitions planned) (Telling planned) (λ effect. MayPut definitions planned) (λ effect. if_it_fits effect >>= λ fitting. with_room (applies (tables_of definitions) planned) >>= λ put. over (Ok fitting))
             (λ p. only_comes IsTouch IsFetch (Ok (told_by p.settings.no_count write planned))) (λ before part later p new effect is held intact may. may) (put_bring definitions planned)
 
-        on_images : (definitions : List Definition) (images : List Rows) → Brings log mine (StandsWith log (λ db. Defined shapes definitions db × HaveAll shapes write images)) (Planning images >>= λ planned. Telling planned >>= λ effect. with_room (applies (tables_of definitions) planned) >>= λ put. if_it_fits effect) To
+        on_images : (definitions : List Definition) (images : List Rows) → Brings log mine (StandsWith log (λ db. Defined shapes definitions db × HaveAll shapes write images)) (Planning images >>= λ planned. Telling planned >>= λ effect. if_it_fits effect >>= λ fitting. with_room (applies (tables_of definitions) planned) >>= λ put. over (Ok fitting)) To
         on_images definitions images =
-            reads_bind session begin log mine tied (λ db. Defined shapes definitions db × HaveAll shapes write images) (Planning images) (MayPut definitions) (λ planned. Telling planned >>= λ effect. with_room (applies (tables_of definitions) planned) >>= λ put. if_it_fits effect)
+            reads_bind session begin log mine tied (λ db. Defined shapes definitions db × HaveAll shapes write images) (Planning images) (MayPut definitions) (λ planned. Telling planned >>= λ effect. if_it_fits effect >>= λ fitting. with_room (applies (tables_of definitions) planned) >>= λ put. over (Ok fitting))
             (λ p. only_comes IsTouch IsFetch (planned_over around p shapes write images))
             (λ before part later p new planned is held intact known. may_write definitions images planned p (at_place log before (part ++ later)) intact known.0 known.1 (comes_apart (planned_over around p shapes write images) p new part planned held).1)
             (on_planned definitions)
 
-        on_definitions : (definitions : List Definition) → Brings log mine (StandsWith log (Defined shapes definitions)) (reads_images shapes (bound.Write write) >>= λ images. Planning images >>= λ planned. Telling planned >>= λ effect. with_room (applies (tables_of definitions) planned) >>= λ put. if_it_fits effect) To
+        on_definitions : (definitions : List Definition) → Brings log mine (StandsWith log (Defined shapes definitions)) (reads_images shapes (bound.Write write) >>= λ images. Planning images >>= λ planned. Telling planned >>= λ effect. if_it_fits effect >>= λ fitting. with_room (applies (tables_of definitions) planned) >>= λ put. over (Ok fitting)) To
         on_definitions definitions =
-            reads_bind session begin log mine tied (Defined shapes definitions) (reads_images shapes (bound.Write write)) (λ images db. Defined shapes definitions db × HaveAll shapes write images) (λ images. Planning images >>= λ planned. Telling planned >>= λ effect. with_room (applies (tables_of definitions) planned) >>= λ put. if_it_fits effect)
+            reads_bind session begin log mine tied (Defined shapes definitions) (reads_images shapes (bound.Write write)) (λ images db. Defined shapes definitions db × HaveAll shapes write images) (λ images. Planning images >>= λ planned. Telling planned >>= λ effect. if_it_fits effect >>= λ fitting. with_room (applies (tables_of definitions) planned) >>= λ put. over (Ok fitting))
             (images_fetched shapes (bound.Write write))
             (λ before part later p new images is held intact known. (known, all_columns p.settings.manner p.settings.level shapes write part images (image_apart p.settings.level shapes (bound.Write write) p new part images held)))
             (on_images definitions)

@@ -12,6 +12,7 @@ pub mod Writing  -- where changes are asked, what stands goes on
 pub mod Creating  -- where a definition is put, what stands goes on
 pub mod Changing  -- what a write and DROP TABLE ask keeps what stands
 pub mod Statements  -- the work of each statement keeps what stands
+pub mod Cursors  -- what the statements on cursors ask writes nothing
 pub mod Meanings  -- and so does each batch
 pub mod Serving  -- each commit of connections keeps its database intact
 pub mod Logs  -- the databases of a log

@@ -25,6 +25,7 @@ use Rattle.batch_meaning.specs.declared.form.ReadText.TheVariants as text
 use Rattle.batch_meaning.specs.declared.raised.Raised.{Raised}
 use Rattle.batch_meaning.specs.declared.settings.Settings.{Settings}
 use Rattle.batch_meaning.specs.Asking.{comes_to, fails, marked, unless_refused, where_begun, where_ended, with_room}
+use Rattle.batch_meaning.specs.Cursors.{closes_cursor, declares_cursor, fetches_cursor, opens_cursor, removes_cursor}
 use Rattle.batch_meaning.specs.Doing.{Doing, asks, makes, over, reads, ◌then◌}
 use Rattle.batch_meaning.specs.Failures.{plain}
 use Rattle.batch_meaning.specs.Meaning.{Meaning, batch, branch, caught_as, concluded, concludes, counted, decides, does, doomed_write, each_of, ended_by, ends, ends_doomed, fails_for, goes_on, handled, is_refused_doomed, mean_by, mean_form, mean_of, raises, raises_again, raises_or_tells, rolls_back_open, rolls_back_told, runs_text, sends_some, set_by, sets_option, spends, strikes, succeeds, tells, told_as, tries, turned, turns, turns_again, leaves_rows}
@@ -41,6 +42,7 @@ use Rattle.statement_paths.proofs.Only.{AnyStep, only_bind, only_comes, only_if,
 use Rattle.sound_laws.specs.Laws.{BatchSound, RollbackSound, StatementSound}
 use Rattle.sound_laws.specs.Stands.{Carries}
 use Rattle.text_laws.specs.Laws.{EachIn, Everywhere, ReadsBack, ReadsBackAs, TextReadsBack, Within}
+use Rattle.sound_laws.proofs.Cursors.{closes_still, declares_still, fetches_still, opens_still, removes_still}
 use Rattle.sound_laws.proofs.Statements.{begun_still, bytes_still, carries_if, carries_makes, carries_reads, carries_then, composes_carry, creates_carry, done_still, ended_still, tests_carry, works_carry}
 use Rattle.sound_laws.proofs.Steps.{IsStill}
 use Rattle.sound_laws.proofs.Trees.{WritesNothing, carries_still, only_assigns, only_refused}
@@ -273,6 +275,11 @@ module _ (one : Statement → Meaning) (around : Around) (statement : Statement)
   form_carry (Form-F.Rollback name) is back each self = does_carry around statement On (rolls_back_transaction statement name) (carries_still (rolls_back_transaction statement name) (rolls_still statement name))
   form_carry (Form-F.Save name) is back each self = does_carry around statement On (saves_transaction statement name) (carries_still (saves_transaction statement name) (saves_still statement name))
   form_carry (Form-F.CreateTable table text) is back each self = does_carry around statement On (creates_table statement table.name text) (creates_carry statement table text is back)
+  form_carry (Form-F.DeclareCursor name select) is back each self = does_carry around statement On (declares_cursor statement name select) (carries_still (declares_cursor statement name select) (declares_still statement name select))
+  form_carry (Form-F.OpenCursor name) is back each self = does_carry around statement On (opens_cursor around statement name) (carries_still (opens_cursor around statement name) (opens_still around statement name))
+  form_carry (Form-F.Fetch name variables) is back each self = does_carry around statement On (fetches_cursor statement name variables) (carries_still (fetches_cursor statement name variables) (fetches_still statement name variables))
+  form_carry (Form-F.CloseCursor name) is back each self = does_carry around statement On (closes_cursor statement name) (carries_still (closes_cursor statement name) (closes_still statement name))
+  form_carry (Form-F.Deallocate name) is back each self = does_carry around statement On (removes_cursor statement name) (carries_still (removes_cursor statement name) (removes_still statement name))
   form_carry form is back each self = does_carry around statement On (works around statement) (works_carry around statement)
 
   by_carry : ReadsBack statement → EachIn (AllCarry one) (form_of statement) → AllCarry one statement → Carries (mean_by one statement around)

@@ -102,7 +102,7 @@ unfolding closes
 closes_still true = (tt, λ reply can. ended_still (over tt) tt reply)
 closes_still false = (tt, λ reply can. ended_still (over tt) tt reply)
 
-enters_still : (asking : Bool) → WritesNothing (enters asking)
+pub enters_still : (asking : Bool) → WritesNothing (enters asking)
 unfolding enters
 enters_still false = tt
 enters_still true = λ p. only_if AnyStep IsStill p.is_open (over (Ok Open)) (asks ops.Begin (unless_refused (where_begun (over (Ok Own))))) tt
@@ -114,7 +114,7 @@ leaves_still Nowhere succeeded = tt
 leaves_still Open succeeded = relaxes_still
 leaves_still Own succeeded = only_then AnyStep IsStill relaxes (λ done. closes succeeded) relaxes_still (λ done. closes_still succeeded)
 
-left_still : {A : Type 0} (home : Home) (came : Result A Failure) → WritesNothing (leaves home (is_ok came) then λ done. over came)
+pub left_still : {A : Type 0} (home : Home) (came : Result A Failure) → WritesNothing (leaves home (is_ok came) then λ done. over came)
 left_still home came = only_then AnyStep IsStill (leaves home (is_ok came)) (λ done. over came) (leaves_still home (is_ok came)) (λ done. tt)
 
 -- in whatever transaction the work is done

@@ -51,7 +51,7 @@ only_more Steps P Q more (asks op go) only = (more op only.0, λ reply can. only
 only_more Steps P Q more (room go) only = λ enough. only_more Steps P Q more (go enough) (only enough)
 only_more Steps P Q more never only = tt
 
-fetch_still : (op : Op) → IsFetch op → IsStill op
+pub fetch_still : (op : Op) → IsFetch op → IsStill op
 fetch_still (ops.Fetch table start stop hold part) fetch = tt
 fetch_still op fetch = absurd fetch
 

@@ -1,5 +1,4 @@
--- What each statement has asked within its transaction, where it failed: it read, and what it wrote behind that is undone; but where the
--- room is wanting to tell a write, that was done.
+-- What each statement has asked within its transaction, where it failed: it read, and what it wrote behind that is undone.
 use Rattle.std.proofs.Common.{◌≡◌, ◌⊎◌, inl, inr, ℕ, Bool, true, false, if◌then◌else◌, List, [], ◌∷◌, ◌++◌, length, Option, None, Some, Result, Ok, Err, refl, sym, ap, ◌∙◌, subst, append-nil, append_assoc}
 use Rattle.std.specs.Prelude.{nat_lt}
 use Rattle.tsql_tree.specs.declared.definition.Definition.{Definition}
@@ -20,7 +19,7 @@ use Rattle.step_model.specs.declared.op.Op.TheVariants as ops
 use Rattle.step_model.specs.declared.reply.Reply.{Reply}
 use Rattle.step_model.specs.declared.reply.Reply.TheVariants as replies
 use Rattle.step_model.specs.Exchange.{Exchange, CanReply}
-use Rattle.step_model.specs.Ranges.{Rows, no_memory}
+use Rattle.step_model.specs.Ranges.{no_memory}
 use Rattle.constraint_check.specs.Reads.{rows_table, shape_of}
 use Rattle.dml_exec.specs.declared.refusal.Level.TheVariants.{Serializable}
 use Rattle.dml_exec.specs.declared.refusal.Refusal.{Refusal}
@@ -38,13 +37,13 @@ use Rattle.batch_meaning.specs.Values.{Assigned, first_row, rows_assigned}
 use Rattle.batch_meaning.specs.Doing.{Doing, over, reads, asks, ◌then◌, Held}
 use Rattle.batch_meaning.specs.Asking.{fails, fails_naming, ◌>>=◌, with_room, comes_to, unless_refused, reads_at, reads_definitions, reads_images, unless_broken, applies, assigns_all, takes_back, where_done, marked}
 use Rattle.batch_meaning.specs.Working.{answers, assigns_rows, change_bound, changes, computes, creates, drops, drops_in, drops_kind, if_it_fits, inserted, select_bound, selects, selects_into, values_bound, works_bound}
-use Rattle.statement_paths.specs.Paths.{replied, FailsBy, IsChange, IsFailed, IsForward, IsUndone, IsWorked, IsWritten}
+use Rattle.statement_paths.specs.Paths.{replied, IsFailed, IsForward, IsUndone}
 use Rattle.statement_paths.proofs.Only.{IsTouch, held_asks, only_bind, only_comes, only_if, only_naming, only_room}
 use Rattle.statement_paths.proofs.Still.{Reads, Still, reads_still, still_then, still_manner}
 use Rattle.statement_paths.proofs.Apart.{bind_failed, comes_apart, holds_apart}
 use Rattle.statement_paths.proofs.Dialogs.{undone_apart, is_replied}
 use Rattle.statement_paths.proofs.Looking.{definitions_read}
-use Rattle.statement_paths.proofs.Working.{answers_read, at_level_reads, images_read, values_read, written_of, some_cons}
+use Rattle.statement_paths.proofs.Working.{answers_read, bytes_apart, at_level_reads, images_read, values_read, some_cons}
 
 -- ---- what only reads
 
@@ -122,14 +121,6 @@ module _ (p0 : SessionProgress) where
       none back (Ok (written.Done mark)) mid rest = rest.0
       none back (Ok (written.Refused number name)) mid rest = rest.0
       none back (Err why) mid rest = rest.0
-
-  fits_failed : (effect : Effect) (p new : SessionProgress) (exchanges : List Exchange) (failure : Failure) → Held (if_it_fits effect) p exchanges (Err failure) new → (exchanges ≡ []) × (failure ≡ plain result_full)
-  unfolding Held if_it_fits
-  fits_failed effect p new exchanges failure held = by_test (nat_lt p.bytes_left (size_of effect.tokens)) held
-    where
-      by_test : (test : Bool) → Held (if test then fails result_full else over (Ok effect)) p exchanges (Err failure) new → (exchanges ≡ []) × (failure ≡ plain result_full)
-      by_test true was = (was.0, let same : Err failure ≡ Err (plain result_full) = was.1 in cc)
-      by_test false was = absurd (let no : Err failure ≡ Ok effect = was.1 in cc)
 
   -- ---- CREATE TABLE
 
@@ -239,39 +230,36 @@ module _ (around : Around) (p0 : SessionProgress) where
   computes_failed form shapes of p new exchanges failure held = reads_failed manner (computes around form shapes of) p new exchanges (Err failure) (computes_read form shapes of) held
 
   changes_failed : (shapes : List TableTree) (write : BoundWrite) (p new : SessionProgress) (exchanges : List Exchange) (failure : Failure) → (shapes ≡ [] → ⊥) → Still p0 p → Held (changes around shapes write) p exchanges (Err failure) new
-      → FailsBy failure manner (IsWritten around p0 shapes write) exchanges
+      → IsFailed manner exchanges
   unfolding changes Held ◌then◌
   changes_failed shapes write p new exchanges failure some still held =
-      bind_or p0 reads_definitions _ p new exchanges failure definitions_read still held (λ fetches. inl (read_failed manner exchanges fetches)) (λ defined behind definitions q parts defines fetches same rest.
-      bind_or p0 (reads_images shapes (bound.Write write)) _ q new behind failure (images_read shapes (bound.Write write)) same rest (λ more. inl (failed_more manner exchanges defined behind parts fetches (read_failed manner behind more))) (λ read later images r more fetched too so others.
-      comes_or p0 (planned_over around r shapes write images) _ r new later failure others (λ none. inl (failed_more manner exchanges defined behind parts fetches (failed_more manner behind read later more too (read_failed manner later none)))) (λ planned plans last.
-      comes_or p0 (Ok (told_by r.settings.no_count write planned)) _ r new later failure last (λ none. inl (failed_more manner exchanges defined behind parts fetches (failed_more manner behind read later more too (read_failed manner later none)))) (λ told tells work.
-      by_put definitions images planned told defined read q r behind later parts defines fetches same more fetched too so plans (bind_failed (with_room (applies (tables_of definitions) planned)) (λ put. if_it_fits told) r new later failure work)))))
+      bind_or p0 reads_definitions _ p new exchanges failure definitions_read still held (λ fetches. (read_failed manner exchanges fetches)) (λ defined behind definitions q parts defines fetches same rest.
+      bind_or p0 (reads_images shapes (bound.Write write)) _ q new behind failure (images_read shapes (bound.Write write)) same rest (λ more. (failed_more manner exchanges defined behind parts fetches (read_failed manner behind more))) (λ read later images r more fetched too so others.
+      comes_or p0 (planned_over around r shapes write images) _ r new later failure others (λ none. (failed_more manner exchanges defined behind parts fetches (failed_more manner behind read later more too (read_failed manner later none)))) (λ planned plans last.
+      comes_or p0 (Ok (told_by r.settings.no_count write planned)) _ r new later failure last (λ none. (failed_more manner exchanges defined behind parts fetches (failed_more manner behind read later more too (read_failed manner later none)))) (λ told tells work.
+      failed_more manner exchanges defined behind parts fetches (failed_more manner behind read later more too
+      (by_fits definitions planned told r later so (bind_failed (if_it_fits told) (λ fitting. with_room (applies (tables_of definitions) planned) >>= λ put. over (Ok fitting)) r new later failure work)))))))
     where
-      by_put : (definitions : List Definition) (images : List Rows) (planned : List Planned) (told : Effect) (defined read : List Exchange) (q r : SessionProgress) (behind later : List Exchange)
-          → exchanges ≡ defined ++ behind → Held reads_definitions p defined (Ok definitions) q → AskOnly IsFetch defined → Still p0 q → behind ≡ read ++ later → Held (reads_images shapes (bound.Write write)) q read (Ok images) r → AskOnly IsFetch read → Still p0 r
-          → planned_over around r shapes write images ≡ Ok planned
-          → Held (with_room (applies (tables_of definitions) planned)) r later (Err failure) new
-          ⊎ ((front back : List Exchange) × (a : Unit {0}) × (mid : SessionProgress) × (later ≡ front ++ back) × Held (with_room (applies (tables_of definitions) planned)) r front (Ok a) mid × Held (if_it_fits told) mid back (Err failure) new)
-          → FailsBy failure manner (IsWritten around p0 shapes write) exchanges
-      by_put definitions images planned told defined read q r behind later parts defines fetches same more fetched too so plans (inl first) =
-          inl (failed_more manner exchanges defined behind parts fetches (failed_more manner behind read later more too (room_failed p0 (applies (tables_of definitions) planned) r new later failure first (λ none. undone_failed manner later (inl none))
-          (λ was. undone_failed manner later (applies_failed p0 (tables_of definitions) planned r new later failure so was)))))
-      by_put definitions images planned told defined read q r behind later parts defines fetches same more fetched too so plans (inr was) =
-          let end = fits_failed p0 told was.3 new was.1 failure was.6 in
-          inr (
-            end.1,
-            planned,
-            told_by r.settings.no_count write planned,
-            written_of around p0 shapes write definitions images planned defined read was.0 p q r was.3 exchanges behind later was.1 was.2 some still parts defines same more fetched so plans was.4 was.5 end.0,
-          )
+      by_put : (definitions : List Definition) (planned : List Planned) (fitting : Effect) (r : SessionProgress) (later : List Exchange) → Still p0 r → Held (with_room (applies (tables_of definitions) planned)) r later (Err failure) new
+          ⊎ ((front back : List Exchange) × (a : Unit {0}) × (mid : SessionProgress) × (later ≡ front ++ back) × Held (with_room (applies (tables_of definitions) planned)) r front (Ok a) mid × Held {A = Result Effect Failure} (over (Ok fitting)) mid back (Err failure) new) → IsFailed manner later
+      by_put definitions planned fitting r later so (inl first) = room_failed p0 (applies (tables_of definitions) planned) r new later failure first (λ none. undone_failed manner later (inl none))
+          (λ was. undone_failed manner later (applies_failed p0 (tables_of definitions) planned r new later failure so was))
+      by_put definitions planned fitting r later so (inr was) = absurd (let no : Err failure ≡ Ok fitting = was.6.1 in cc)
 
-  change_failed : (shapes : List TableTree) (of : Bound) (p new : SessionProgress) (exchanges : List Exchange) (failure : Failure) → Still p0 p → Held (change_bound around shapes of) p exchanges (Err failure) new → FailsBy failure manner (IsChange around p0 shapes of) exchanges
-  change_failed [] of p new exchanges failure still held = inl (reads_failed manner (fails {A = Effect} not_built) p new exchanges (Err failure) tt held)
+      by_fits : (definitions : List Definition) (planned : List Planned) (told : Effect) (r : SessionProgress) (later : List Exchange) → Still p0 r → Held (if_it_fits told) r later (Err failure) new
+          ⊎ ((front back : List Exchange) × (fitting : Effect) × (mid : SessionProgress) × (later ≡ front ++ back) × Held (if_it_fits told) r front (Ok fitting) mid × Held (with_room (applies (tables_of definitions) planned) >>= λ put. over (Ok fitting)) mid back (Err failure) new) → IsFailed manner later
+      by_fits definitions planned told r later so (inl first) = reads_failed manner (if_it_fits told) r new later (Err failure) (fits_read told) first
+      by_fits definitions planned told r later so (inr was) =
+          let fit = bytes_apart around p0 told was.2 r was.3 was.0 was.5 in
+          failed_more manner later was.0 was.1 was.4 (subst (AskOnly IsFetch) (sym fit.0) tt)
+          (by_put definitions planned was.2 was.3 was.1 (subst (Still p0) (sym fit.2) so) (bind_failed (with_room (applies (tables_of definitions) planned)) (λ put. over (Ok was.2)) was.3 new was.1 failure was.6))
+
+  change_failed : (shapes : List TableTree) (of : Bound) (p new : SessionProgress) (exchanges : List Exchange) (failure : Failure) → Still p0 p → Held (change_bound around shapes of) p exchanges (Err failure) new → IsFailed manner exchanges
+  change_failed [] of p new exchanges failure still held = (reads_failed manner (fails {A = Effect} not_built) p new exchanges (Err failure) tt held)
   change_failed (shape ∷ shapes) (bound.Write write) p new exchanges failure still held = changes_failed (shape ∷ shapes) write p new exchanges failure (some_cons shape shapes) still held
-  change_failed (shape ∷ shapes) (bound.Query query) p new exchanges failure still held = inl (reads_failed manner (fails {A = Effect} not_built) p new exchanges (Err failure) tt held)
-  change_failed (shape ∷ shapes) (bound.Assign query places) p new exchanges failure still held = inl (reads_failed manner (fails {A = Effect} not_built) p new exchanges (Err failure) tt held)
-  change_failed (shape ∷ shapes) bound.Plain p new exchanges failure still held = inl (reads_failed manner (fails {A = Effect} not_built) p new exchanges (Err failure) tt held)
+  change_failed (shape ∷ shapes) (bound.Query query) p new exchanges failure still held = (reads_failed manner (fails {A = Effect} not_built) p new exchanges (Err failure) tt held)
+  change_failed (shape ∷ shapes) (bound.Assign query places) p new exchanges failure still held = (reads_failed manner (fails {A = Effect} not_built) p new exchanges (Err failure) tt held)
+  change_failed (shape ∷ shapes) bound.Plain p new exchanges failure still held = (reads_failed manner (fails {A = Effect} not_built) p new exchanges (Err failure) tt held)
 
   drops_failed : (shapes : List TableTree) (shape : TableTree) (name : List ℕ) (p new : SessionProgress) (exchanges : List Exchange) (failure : Failure) → Still p0 p → Held (drops around shapes shape name) p exchanges (Err failure) new → IsFailed manner exchanges
   unfolding drops Held ◌then◌
@@ -300,11 +288,11 @@ module _ (around : Around) (p0 : SessionProgress) where
   -- ---- by its form
 
   pub worked_failed : (form : Layer) (shapes : List TableTree) (of : Bound) (p new : SessionProgress) (exchanges : List Exchange) (failure : Failure) → Still p0 p → Held (works_bound around form shapes of) p exchanges (Err failure) new
-      → FailsBy failure manner (IsWorked around p0 form shapes of) exchanges
-  worked_failed (Form-F.Select select) shapes of p new exchanges failure still held = inl (select_failed shapes of p new exchanges failure still held)
+      → IsFailed manner exchanges
+  worked_failed (Form-F.Select select) shapes of p new exchanges failure still held = (select_failed shapes of p new exchanges failure still held)
   worked_failed (Form-F.Insert table columns rows) shapes of p new exchanges failure still held = change_failed shapes of p new exchanges failure still held
   worked_failed (Form-F.Update table sets filter) shapes of p new exchanges failure still held = change_failed shapes of p new exchanges failure still held
   worked_failed (Form-F.Delete table filter) shapes of p new exchanges failure still held = change_failed shapes of p new exchanges failure still held
-  worked_failed (Form-F.Drop kind name) shapes of p new exchanges failure still held = inl (drop_failed kind shapes name p new exchanges failure still held)
-  worked_failed (Form-F.CreateTable table text) shapes of p new exchanges failure still held = inl (computes_failed (Form-F.CreateTable table text) shapes of p new exchanges failure held)
-  worked_failed form shapes of p new exchanges failure still held = inl (computes_failed form shapes of p new exchanges failure held)
+  worked_failed (Form-F.Drop kind name) shapes of p new exchanges failure still held = (drop_failed kind shapes name p new exchanges failure still held)
+  worked_failed (Form-F.CreateTable table text) shapes of p new exchanges failure still held = (computes_failed (Form-F.CreateTable table text) shapes of p new exchanges failure held)
+  worked_failed form shapes of p new exchanges failure still held = (computes_failed form shapes of p new exchanges failure held)

@@ -11,5 +11,7 @@ pub mod Works  -- what the work of a statement leaves of its session
 pub mod Owned  -- in the open transaction, or in one of its own
 pub mod Statements  -- what a statement that is done with its effect has asked
 pub mod Unasked  -- where a statement asks nothing
+pub mod Cursors  -- what the statements on cursors ask
+pub mod Opening  -- what OPEN of a cursor has asked
 pub mod Laws  -- the laws
 mod StandardFacts  -- worked parts

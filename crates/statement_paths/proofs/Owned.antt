@@ -20,7 +20,7 @@ use Rattle.statement_paths.specs.Paths.{replied, end_of, IsAround, IsRelaxed, No
 use Rattle.statement_paths.proofs.Only.{AnyStep, NoCommit, Only, left_asks, only_mono, only_then, quiet_commits}
 use Rattle.statement_paths.proofs.Apart.{Apart, held_apart, held_left, left_apart}
 use Rattle.statement_paths.proofs.Dialogs.{is_replied}
-use Rattle.statement_paths.proofs.Works.{IsWorkStep, Works, Worked, works_leave}
+use Rattle.statement_paths.proofs.Works.{IsOwnStep, Owns, Works, Worked, owns_leave, works_own}
 
 abbrev pub nothing_more : Doing (Unit {0})
 nothing_more = over tt
@@ -45,8 +45,11 @@ calm_left tree p new exchanges calm left = by_asked exchanges (left_asks AnyStep
     by_asked [] is = tt
     by_asked (x ∷ later) is = (is.0.0, by_asked later is.1)
 
+pub owns_calm : {A : Type 0} (tree : Doing A) → Owns tree → Calm tree
+owns_calm tree owns = only_mono IsOwnStep AnyStep IsQuiet NoCommit (λ step is. tt) quiet_commits tree owns
+
 pub works_calm : {A : Type 0} (tree : Doing A) → Works tree → Calm tree
-works_calm tree works = only_mono IsWorkStep AnyStep IsQuiet NoCommit (λ step is. tt) quiet_commits tree works
+works_calm tree works = owns_calm tree (works_own tree works)
 
 -- ---- the end of a statement
 
@@ -131,6 +134,13 @@ entered asks_some is_open p = p
 abbrev pub behind : {A : Type 0} → Home → Result A Failure → Doing (Result A Failure)
 behind home came = leaves home (is_ok came) then λ done. over came
 
+-- behind it all else is as the work has left it
+abbrev pub IsEnded : SessionProgress → SessionProgress → Type 0
+IsEnded mid new = new ≡ record mid { is_open = new.is_open; touched = new.touched; txn = new.txn }
+
+ended_as : (mid new r : SessionProgress) → new ≡ r → IsEnded mid r → IsEnded mid new
+ended_as mid new r is so = is ∙ so ∙ ap (λ (q : SessionProgress). record mid { is_open = q.is_open; touched = q.touched; txn = q.txn }) (sym is)
+
 -- the work was done there
 pub record Owned {A : Type 0} (asks_some is_open : Bool) (work : Doing (Result A Failure)) (p : SessionProgress) (came : Result A Failure) (exchanges : List Exchange) (new : SessionProgress) : Type 0 where
   pub worked : List Exchange
@@ -138,6 +148,7 @@ pub record Owned {A : Type 0} (asks_some is_open : Bool) (work : Doing (Result A
   pub held : Held work (entered asks_some is_open p) worked came mid
   pub around : IsAround asks_some is_open (is_ok came) p.settings.manner worked exchanges
   pub leaves : Worked p new
+  pub ended : IsEnded mid new
 
 -- or no transaction could be begun for it
 pub record Refused {A : Type 0} (p : SessionProgress) (came : Result A Failure) (exchanges : List Exchange) (new : SessionProgress) : Type 0 where
@@ -145,12 +156,12 @@ pub record Refused {A : Type 0} (p : SessionProgress) (came : Result A Failure) 
   pub failed : came ≡ Err (plain no_memory)
   pub leaves : Worked p new
 
-module _ {A : Type 0} (work : Doing (Result A Failure)) (works : Works work) (p new : SessionProgress) (exchanges : List Exchange) (came : Result A Failure) where
+module _ {A : Type 0} (work : Doing (Result A Failure)) (owns : Owns work) (p new : SessionProgress) (exchanges : List Exchange) (came : Result A Failure) where
   abbrev Ways : Bool → Bool → Type 0
   Ways asks_some is_open = Refused p came exchanges new ⊎ Owned asks_some is_open work p came exchanges new
 
   left_as : (q mid : SessionProgress) (worked : List Exchange) (c : Result A Failure) → Held work q worked c mid → Worked q mid
-  left_as q mid worked c held = works_leave q work mid worked c works held
+  left_as q mid worked c held = owns_leave q work mid worked c owns held
 
   -- nothing is asked
   nowhere_held : Held (work then behind Nowhere) p exchanges came new → Ways false p.is_open
@@ -163,6 +174,7 @@ module _ {A : Type 0} (work : Doing (Result A Failure)) (works : Works work) (p 
         held = subst (λ (c : Result A Failure). Held work p on.front c on.mid) (sym on.rest.1) on.held;
         around = on.parts ∙ ap (λ (l : List Exchange). on.front ++ l) on.rest.0 ∙ append-nil on.front;
         leaves = subst (Worked p) (sym on.rest.2) (left_as p on.mid on.front on.came on.held);
+        ended = ended_as on.mid new on.mid on.rest.2 refl;
       })
 
   -- in the open one
@@ -180,10 +192,11 @@ module _ {A : Type 0} (work : Doing (Result A Failure)) (works : Works work) (p 
         held = subst (λ (c : Result A Failure). Held work p on.front c on.mid) (sym end.rest.1) on.held;
         around = (end.front, on.parts ∙ ap (λ (l : List Exchange). on.front ++ l) (end.parts ∙ ap (λ (l : List Exchange). end.front ++ l) end.rest.0 ∙ append-nil end.front), subst (λ (m : Manner). IsRelaxed m end.front) manner relaxed.0);
         leaves = subst (Worked p) (sym end.rest.2) (relaxed.1 ∙ ap (λ (q : SessionProgress). record q { touched = end.mid.touched }) worked ∙ spread end.mid on.mid relaxed.1);
+        ended = ended_as on.mid new end.mid end.rest.2 (ended_as on.mid end.mid (record on.mid { touched = end.mid.touched }) relaxed.1 refl);
       })
     where
-      spread : (r q : SessionProgress) → r ≡ record q { touched = r.touched } → record p { vars = q.vars; touched = r.touched; txn = q.txn } ≡ record p { vars = r.vars; touched = r.touched; txn = r.txn }
-      spread r q is = ap (λ (s : SessionProgress). record p { vars = s.vars; touched = r.touched; txn = s.txn }) (sym is)
+      spread : (r q : SessionProgress) → r ≡ record q { touched = r.touched } → record p { vars = q.vars; cursors = q.cursors; touched = r.touched; txn = q.txn } ≡ record p { vars = r.vars; cursors = r.cursors; touched = r.touched; txn = r.txn }
+      spread r q is = ap (λ (s : SessionProgress). record p { vars = s.vars; cursors = s.cursors; touched = r.touched; txn = s.txn }) (sym is)
 
   -- in one of its own
   own_parts : (x : Exchange) (front relaxed back : List Exchange) (place : ℕ) (succeeded : Bool) (later : List Exchange) (manner : Manner) → x ≡ replied manner ops.Begin replies.Began → later ≡ front ++ back → back ≡ relaxed ++ replied manner (end_of succeeded) (replies.Ended place) ∷ []
@@ -213,15 +226,16 @@ module _ {A : Type 0} (work : Doing (Result A Failure)) (works : Works work) (p 
         held = subst (λ (c : Result A Failure). Held work q on.front c on.mid) (sym end.rest.1) on.held;
         around = subst (λ (c : Result A Failure). IsAround true false (is_ok c) p.settings.manner on.front exchanges) (sym end.rest.1) around;
         leaves = subst (Worked p) (sym end.rest.2) (ends q on.mid parts.mid end.mid shut refl worked relaxed.1 close.2);
+        ended = ended_as on.mid new end.mid end.rest.2 (ended_as on.mid end.mid (record on.mid { is_open = false; touched = end.mid.touched; txn = end.mid.txn }) (close.2 ∙ ap (λ (t : SessionProgress). record t { is_open = false; touched = end.mid.touched; txn = end.mid.txn }) relaxed.1) refl);
       })
     where
       ends : (q mid r s : SessionProgress) → p.is_open ≡ false → q ≡ asked ops.Begin replies.Began p → Worked q mid → r ≡ record mid { touched = r.touched } → s ≡ record r { is_open = false; touched = s.touched; txn = s.txn } → Worked p s
       ends q mid r s shut begun worked relaxed close =
-          let vars : s.vars ≡ mid.vars = ap (λ (t : SessionProgress). t.vars) close ∙ ap (λ (t : SessionProgress). t.vars) relaxed in
-          close ∙ ap (λ (t : SessionProgress). record t { is_open = false; touched = s.touched; txn = s.txn }) relaxed ∙ ap (λ (t : SessionProgress). record t { is_open = false; touched = s.touched; txn = s.txn }) worked
-          ∙ ap (λ (t : SessionProgress). record t { is_open = false; vars = mid.vars; touched = s.touched; txn = s.txn }) begun
-          ∙ ap (λ (b : Bool). record p { is_open = b; vars = mid.vars; touched = s.touched; txn = s.txn }) (sym shut)
-          ∙ ap (λ (v : List _). record p { vars = v; touched = s.touched; txn = s.txn }) (sym vars)
+          let close_to : s ≡ record mid { is_open = false; touched = s.touched; txn = s.txn } = close ∙ ap (λ (t : SessionProgress). record t { is_open = false; touched = s.touched; txn = s.txn }) relaxed in
+          close_to ∙ ap (λ (t : SessionProgress). record t { is_open = false; touched = s.touched; txn = s.txn }) worked
+          ∙ ap (λ (t : SessionProgress). record t { is_open = false; vars = mid.vars; cursors = mid.cursors; touched = s.touched; txn = s.txn }) begun
+          ∙ ap (λ (b : Bool). record p { is_open = b; vars = mid.vars; cursors = mid.cursors; touched = s.touched; txn = s.txn }) (sym shut)
+          ∙ ap (λ (t : SessionProgress). record p { vars = t.vars; cursors = t.cursors; touched = s.touched; txn = s.txn }) (sym close_to)
 
   pub own_held : (asks_some : Bool) → Held (own asks_some work) p exchanges came new → Ways asks_some p.is_open
   unfolding own enters ◌then◌ Held
@@ -237,7 +251,7 @@ module _ {A : Type 0} (work : Doing (Result A Failure)) (works : Works work) (p 
           by_reply replies.Memory told can so = inl (record {
             asks = is ∙ ap (λ (y : Exchange). y ∷ later) (is_replied x p.settings.manner ops.Begin replies.Memory was.0 was.1 told) ∙ ap (λ (l : List Exchange). replied p.settings.manner ops.Begin replies.Memory ∷ l) so.0;
             failed = so.1;
-            leaves = so.2 ∙ ap (λ (q : SessionProgress). record p { vars = q.vars; touched = q.touched; txn = q.txn }) (sym so.2);
+            leaves = so.2 ∙ ap (λ (q : SessionProgress). record p { vars = q.vars; cursors = q.cursors; touched = q.touched; txn = q.txn }) (sym so.2);
           })
           by_reply reply told can so = absurd can
 
@@ -280,7 +294,7 @@ end_left succeeded p new exchanges left = by_left (left_apart relaxes (λ done. 
     by_left (inl here) = inl (calm_left relaxes p new exchanges relax_calm here)
     by_left (inr on) = by_end on.front on.back on.mid on.parts (calm_left relaxes p on.mid on.front relax_calm (held_left relaxes p on.mid on.front on.came on.held)) (relax_held p on.mid on.front on.came on.held) (close_left succeeded on.mid new on.back on.rest)
 
-module _ {A : Type 0} (work : Doing (Result A Failure)) (works : Works work) (p new : SessionProgress) where
+module _ {A : Type 0} (work : Doing (Result A Failure)) (owns : Owns work) (p new : SessionProgress) where
   abbrev Leaves : List Exchange → Type 0
   Leaves exchanges = NoneCommits exchanges ⊎ Committed work p exchanges
 
@@ -288,7 +302,7 @@ module _ {A : Type 0} (work : Doing (Result A Failure)) (works : Works work) (p 
   begin_first x later asked calm = (λ is. let no : ops.Begin ≡ ops.Commit = sym asked ∙ is in cc, calm)
 
   front_calm : (q mid : SessionProgress) (front : List Exchange) (came : Result A Failure) → Held work q front came mid → NoneCommits front
-  front_calm q mid front came held = calm_left work q mid front (works_calm work works) (held_left work q mid front came held)
+  front_calm q mid front came held = calm_left work q mid front (owns_calm work owns) (held_left work q mid front came held)
 
   -- behind the work
   rest_left : (x : Exchange) (later front back : List Exchange) (came : Result A Failure) (mid : SessionProgress) → p.is_open ≡ false → x ≡ replied p.settings.manner ops.Begin replies.Began → x.op ≡ ops.Begin → later ≡ front ++ back
@@ -318,7 +332,7 @@ module _ {A : Type 0} (work : Doing (Result A Failure)) (works : Works work) (p 
     where
       ended : (came : Result A Failure) (mid : SessionProgress) (front back : List Exchange) → later ≡ front ++ back → Held work (asked ops.Begin replies.Began p) front came mid → (q : SessionProgress) → Left (relaxes then λ done. closes (is_ok came)) mid back q → Leaves (x ∷ later)
       ended came mid front back parts held q here =
-          let manner : mid.settings.manner ≡ p.settings.manner = ap (λ (s : SessionProgress). s.settings.manner) (works_leave (asked ops.Begin replies.Began p) work mid front came works held) in
+          let manner : mid.settings.manner ≡ p.settings.manner = ap (λ (s : SessionProgress). s.settings.manner) (owns_leave (asked ops.Begin replies.Began p) work mid front came owns held) in
           rest_left x later front back came mid shut begun first parts held
           (subst (λ (m : Manner). NoneCommits back ⊎ ((relaxed : List Exchange) × (place : ℕ) × (back ≡ relaxed ++ replied m (end_of (is_ok came)) (replies.Ended place) ∷ []) × IsRelaxed m relaxed)) manner (end_left (is_ok came) mid q back here))
 
@@ -330,12 +344,12 @@ module _ {A : Type 0} (work : Doing (Result A Failure)) (works : Works work) (p 
           (held_left (relaxes then λ done. closes (is_ok came)) mid on.mid on.front on.came on.held))
 
       by_work : Left work (asked ops.Begin replies.Began p) later new ⊎ Apart work (asked ops.Begin replies.Began p) later (λ came mid back. Left (behind Own came) mid back new) → Leaves (x ∷ later)
-      by_work (inl here) = inl (begin_first x later first (calm_left work (asked ops.Begin replies.Began p) new later (works_calm work works) here))
+      by_work (inl here) = inl (begin_first x later first (calm_left work (asked ops.Begin replies.Began p) new later (owns_calm work owns) here))
       by_work (inr on) = by_end on.came on.mid on.front on.back on.parts on.held (left_apart (relaxes then λ done. closes (is_ok on.came)) (λ done. over on.came) on.mid new on.back on.rest)
 
   pub own_left : (asks_some : Bool) (exchanges : List Exchange) → Left (own asks_some work) p exchanges new → NoneCommits exchanges ⊎ ((asks_some ≡ true) × Committed work p exchanges)
   unfolding own enters ◌then◌ Left
-  own_left false exchanges left = inl (calm_left (work then behind Nowhere) p new exchanges (only_then AnyStep NoCommit work (behind Nowhere) (works_calm work works) nowhere_calm) left)
+  own_left false exchanges left = inl (calm_left (work then behind Nowhere) p new exchanges (only_then AnyStep NoCommit work (behind Nowhere) (owns_calm work owns) nowhere_calm) left)
   own_left true exchanges left = by_open p.is_open refl left
     where
       on_true : {xs : List Exchange} → Leaves xs → NoneCommits xs ⊎ ((true ≡ true) × Committed work p xs)
@@ -352,5 +366,5 @@ module _ {A : Type 0} (work : Doing (Result A Failure)) (works : Works work) (p 
           by_reply reply told can so = absurd can
 
       by_open : (test : Bool) → p.is_open ≡ test → Left ((if test then over (Ok Open) else asks ops.Begin (unless_refused (where_begun (over (Ok Own))))) then on_ok (λ home. work then behind home)) p exchanges new → NoneCommits exchanges ⊎ ((true ≡ true) × Committed work p exchanges)
-      by_open true is was = inl (calm_left (work then behind Open) p new exchanges (only_then AnyStep NoCommit work (behind Open) (works_calm work works) open_calm) was)
+      by_open true is was = inl (calm_left (work then behind Open) p new exchanges (only_then AnyStep NoCommit work (behind Open) (owns_calm work owns) open_calm) was)
       by_open false is was = by_begin exchanges is was

@@ -26,14 +26,14 @@ use Rattle.batch_meaning.specs.Progress.{SessionProgress, asked}
 use Rattle.batch_meaning.specs.Doing.{Doing, over, reads, asks, ◌then◌, Held, Left}
 use Rattle.batch_meaning.specs.Asking.{fails, fails_naming, on_ok, with_room, with_found, comes_to, definition_fetch, is_table, known, look_up, looks_up, unless_refused}
 use Rattle.batch_meaning.specs.Working.{asks_any, binds, creates, creates_table, own, prepares, unless_objects, within, works, works_bound}
-use Rattle.statement_paths.specs.Paths.{definition_put, replied, AreLookedUp, FailsBy, IsAround, IsCreated, IsDone, IsFailed, IsLookedUp, IsWorked, NoneCommits, asks_for, asks_of, work_for, work_of}
+use Rattle.statement_paths.specs.Paths.{definition_put, replied, AreLookedUp, IsAround, IsCreated, IsDone, IsFailed, IsLookedUp, IsWorked, NoneCommits, asks_for, asks_of, work_for, work_of}
 use Rattle.statement_paths.proofs.Only.{AnyStep, IsTouch, NoCommit, Only, held_asks, only_bind, only_comes, only_naming}
 use Rattle.statement_paths.proofs.Still.{Still, reads_still, still_manner, still_then}
 use Rattle.statement_paths.proofs.Apart.{Apart, bind_apart, bind_failed, comes_apart, held_left, left_apart}
 use Rattle.statement_paths.proofs.Looking.{ok_same, looks_apart, looks_read}
 use Rattle.statement_paths.proofs.Working.{bind_reads, creates_apart, naming_never, worked_apart}
 use Rattle.statement_paths.proofs.Failing.{creates_failed, failed_more, read_failed, worked_failed}
-use Rattle.statement_paths.proofs.Works.{IsWorkStep, Works, Worked, binds_work, creates_works, prepares_reads, unless_works, reads_work, worked_works, works_leave}
+use Rattle.statement_paths.proofs.Works.{IsWorkStep, Works, Worked, binds_work, creates_works, prepares_reads, unless_works, reads_work, worked_works, works_leave, works_own}
 use Rattle.statement_paths.proofs.Owned.{Committed, Owned, Refused, calm_left, entered, none_append, none_nil, own_held, own_left, works_calm}
 
 -- ---- where nothing is asked
@@ -140,17 +140,12 @@ module _ (around : Around) (p0 : SessionProgress) (statement : Statement) where
       let work = worked_apart around p0 (form_of statement) (tables_of on.definitions) on.of on.mid new on.worked effect on.still on.rest in
       (work.0, record { definitions = on.definitions; of = on.of; looked = on.looked; worked = on.worked; parts = on.parts; looks = on.looks; binds = on.binds; works = work.1 })
 
-  pub bound_failed : (p new : SessionProgress) (exchanges : List Exchange) (failure : Failure) → Still p0 p → Held bound_work p exchanges (Err failure) new → FailsBy failure p0.settings.manner (IsDone around p0 statement) exchanges
+  pub bound_failed : (p new : SessionProgress) (exchanges : List Exchange) (failure : Failure) → Still p0 p → Held bound_work p exchanges (Err failure) new → IsFailed p0.settings.manner exchanges
   bound_failed p new exchanges failure still held = by_failed (binds_failed (works_bound around (form_of statement)) p new exchanges failure still held)
     where
-      by_work : (on : Bound_by p (λ shapes of q worked. Held (works_bound around (form_of statement) shapes of) q worked (Err failure) new) exchanges) → FailsBy failure p0.settings.manner (IsWorked around p0 (form_of statement) (tables_of on.definitions) on.of) on.worked
-          → FailsBy failure p0.settings.manner (IsDone around p0 statement) exchanges
-      by_work on (inl failed) = inl (failed_more p0.settings.manner exchanges on.looked on.worked on.parts on.fetches failed)
-      by_work on (inr (full, planned, effect, work)) = inr (full, planned, effect, record { definitions = on.definitions; of = on.of; looked = on.looked; worked = on.worked; parts = on.parts; looks = on.looks; binds = on.binds; works = work })
-
-      by_failed : AskOnly IsFetch exchanges ⊎ Bound_by p (λ shapes of q worked. Held (works_bound around (form_of statement) shapes of) q worked (Err failure) new) exchanges → FailsBy failure p0.settings.manner (IsDone around p0 statement) exchanges
-      by_failed (inl fetches) = inl (read_failed p0.settings.manner exchanges fetches)
-      by_failed (inr on) = by_work on (worked_failed around p0 (form_of statement) (tables_of on.definitions) on.of on.mid new on.worked failure on.still on.rest)
+      by_failed : AskOnly IsFetch exchanges ⊎ Bound_by p (λ shapes of q worked. Held (works_bound around (form_of statement) shapes of) q worked (Err failure) new) exchanges → IsFailed p0.settings.manner exchanges
+      by_failed (inl fetches) = read_failed p0.settings.manner exchanges fetches
+      by_failed (inr on) = failed_more p0.settings.manner exchanges on.looked on.worked on.parts on.fetches (worked_failed around p0 (form_of statement) (tables_of on.definitions) on.of on.mid new on.worked failure on.still on.rest)
 
 -- where its work begins
 pub begun_still : (asks_some is_open : Bool) (p : SessionProgress) → Still p (entered asks_some is_open p)
@@ -207,8 +202,8 @@ module _ (around : Around) (p0 : SessionProgress) (statement : Statement) (table
       let was = another_held (creates name text) on.mid new on.worked effect on.rest in
       (definition_put name text ∷ [], done_as on.definitions on.of on.looked on.worked exchanges effect on.parts on.looks on.binds (creates_apart around p0 name text on.mid new on.worked effect was.0 on.still was.1))
 
-  created_failed : (p new : SessionProgress) (exchanges : List Exchange) (failure : Failure) → Still p0 p → Held created_work p exchanges (Err failure) new → FailsBy failure p0.settings.manner (IsDone around p0 statement) exchanges
-  created_failed p new exchanges failure still held = inl (by_failed (binds_failed around p0 statement putting p new exchanges failure still held))
+  created_failed : (p new : SessionProgress) (exchanges : List Exchange) (failure : Failure) → Still p0 p → Held created_work p exchanges (Err failure) new → IsFailed p0.settings.manner exchanges
+  created_failed p new exchanges failure still held = by_failed (binds_failed around p0 statement putting p new exchanges failure still held)
     where
       by_failed : AskOnly IsFetch exchanges ⊎ Bound_by around p0 statement p (λ shapes of q worked. Held (putting shapes of) q worked (Err failure) new) exchanges → IsFailed p0.settings.manner exchanges
       by_failed (inl fetches) = read_failed p0.settings.manner exchanges fetches
@@ -222,7 +217,7 @@ module _ (around : Around) (statement : Statement) (p : SessionProgress) where
   abbrev pub HasCome : Bool → Result Effect Failure → List Exchange → Type 0
   HasCome asks_some (Ok effect) exchanges = (planned : List Planned) × (worked : List Exchange) × IsDone around p statement planned effect worked × IsAround asks_some p.is_open true p.settings.manner worked exchanges
   HasCome asks_some (Err failure) exchanges = (exchanges ≡ []) ⊎ ((exchanges ≡ replied p.settings.manner ops.Begin replies.Memory ∷ [])
-      ⊎ ((worked : List Exchange) × FailsBy failure p.settings.manner (IsDone around p statement) worked × IsAround asks_some p.is_open false p.settings.manner worked exchanges))
+      ⊎ ((worked : List Exchange) × IsFailed p.settings.manner worked × IsAround asks_some p.is_open false p.settings.manner worked exchanges))
 
   -- or that where it was left, if it was committed
   abbrev pub WasLeft : Bool → List Exchange → Type 0
@@ -232,7 +227,7 @@ module _ (around : Around) (statement : Statement) (p : SessionProgress) where
   never_ok effect failure is = let no : Ok effect ≡ Err failure = is in absurd (cc)
 
   same_worked : (new : SessionProgress) → new ≡ p → Worked p new
-  same_worked new same = same ∙ ap (λ (q : SessionProgress). record p { vars = q.vars; touched = q.touched; txn = q.txn }) (sym same)
+  same_worked new same = same ∙ ap (λ (q : SessionProgress). record p { vars = q.vars; cursors = q.cursors; touched = q.touched; txn = q.txn }) (sym same)
 
   unasked : (asks_some : Bool) (came : Result Effect Failure) (exchanges : List Exchange) → exchanges ≡ [] → came ≡ Err (plain no_memory) → HasCome asks_some came exchanges
   unasked asks_some (Ok effect) exchanges none is = absurd (never_ok effect (plain no_memory) is)
@@ -258,7 +253,7 @@ module _ (around : Around) (statement : Statement) (p : SessionProgress) where
   -- work in its transaction
   module _ (work : Doing (Result Effect Failure)) (works : Works work)
       (done : (q new : SessionProgress) (exchanges : List Exchange) (effect : Effect) → Still p q → Held work q exchanges (Ok effect) new → (planned : List Planned) × IsDone around p statement planned effect exchanges)
-      (failed : (q new : SessionProgress) (exchanges : List Exchange) (failure : Failure) → Still p q → Held work q exchanges (Err failure) new → FailsBy failure p.settings.manner (IsDone around p statement) exchanges) where
+      (failed : (q new : SessionProgress) (exchanges : List Exchange) (failure : Failure) → Still p q → Held work q exchanges (Err failure) new → IsFailed p.settings.manner exchanges) where
     owned_as : (asks_some : Bool) (came : Result Effect Failure) (new : SessionProgress) (exchanges : List Exchange) → Owned asks_some p.is_open work p came exchanges new → HasCome asks_some came exchanges
     owned_as asks_some (Ok effect) new exchanges owned =
         let is = done (entered asks_some p.is_open p) owned.mid owned.worked effect (begun_still asks_some p.is_open p) owned.held in (is.0, owned.worked, is.1, owned.around)
@@ -270,14 +265,14 @@ module _ (around : Around) (statement : Statement) (p : SessionProgress) where
     refused_as asks_some (Err failure) new exchanges refused = inr (inl refused.asks)
 
     own_comes : (asks_some : Bool) (came : Result Effect Failure) (new : SessionProgress) (exchanges : List Exchange) → Held (own asks_some work) p exchanges came new → HasCome asks_some came exchanges × Worked p new
-    own_comes asks_some came new exchanges held = by_ways (own_held work works p new exchanges came asks_some held)
+    own_comes asks_some came new exchanges held = by_ways (own_held work (works_own work works) p new exchanges came asks_some held)
       where
         by_ways : Refused p came exchanges new ⊎ Owned asks_some p.is_open work p came exchanges new → HasCome asks_some came exchanges × Worked p new
         by_ways (inl refused) = (refused_as asks_some came new exchanges refused, refused.leaves)
         by_ways (inr owned) = (owned_as asks_some came new exchanges owned, owned.leaves)
 
     own_was_left : (asks_some : Bool) (new : SessionProgress) (exchanges : List Exchange) → Left (own asks_some work) p exchanges new → WasLeft asks_some exchanges
-    own_was_left asks_some new exchanges left = by_left (own_left work works p new asks_some exchanges left)
+    own_was_left asks_some new exchanges left = by_left (own_left work (works_own work works) p new asks_some exchanges left)
       where
         by_left : NoneCommits exchanges ⊎ ((asks_some ≡ true) × Committed work p exchanges) → WasLeft asks_some exchanges
         by_left (inl calm) = inl calm
@@ -340,7 +335,7 @@ module _ (around : Around) (statement : Statement) (p : SessionProgress) (table 
         subst (λ (m : Manner). IsAround true p.is_open succeeded m worked exchanges) (ap (λ (q : SessionProgress). q.settings.manner) leaves) (subst (λ (b : Bool). IsAround true b succeeded mid.settings.manner worked exchanges) (ap (λ (q : SessionProgress). q.is_open) leaves) here)
 
     worked_then : (q r : SessionProgress) → Worked p q → Worked q r → Worked p r
-    worked_then q r first second = second ∙ ap (λ (s : SessionProgress). record s { vars = r.vars; touched = r.touched; txn = r.txn }) first
+    worked_then q r first second = second ∙ ap (λ (s : SessionProgress). record s { vars = r.vars; cursors = r.cursors; touched = r.touched; txn = r.txn }) first
 
     later_still : (mid : SessionProgress) → Still p mid → Still p (entered true mid.is_open mid)
     later_still mid still = still_then p mid (entered true mid.is_open mid) still (begun_still true mid.is_open mid)
@@ -349,7 +344,7 @@ module _ (around : Around) (statement : Statement) (p : SessionProgress) (table 
     later_ok new exchanges effect held =
         let on = binds_apart around p statement later_putting p new exchanges effect refl held in
         let was = another_held around p statement table text is (own true (creates table.name text)) on.mid new on.worked effect on.rest in
-        by_ways on was.0 (own_held (creates table.name text) (creates_works table.name text) on.mid new on.worked (Ok effect) true was.1)
+        by_ways on was.0 (own_held (creates table.name text) (works_own (creates table.name text) (creates_works table.name text)) on.mid new on.worked (Ok effect) true was.1)
       where
         by_ways : (on : Bound_by around p statement p (λ shapes of q worked. Held (later_putting shapes of) q worked (Ok effect) new) exchanges) → is_objects table.name ≡ false
             → Refused {A = Effect} on.mid (Ok effect) on.worked new ⊎ Owned true on.mid.is_open (creates table.name text) on.mid (Ok effect) on.worked new → HasCome around statement p true (Ok effect) exchanges × Worked p new
@@ -376,7 +371,7 @@ module _ (around : Around) (statement : Statement) (p : SessionProgress) (table 
         by_ways on whole (inr owned) = (
           inr (inr (
             owned.worked,
-            inl (creates_failed p table.name text (entered true on.mid.is_open on.mid) owned.mid owned.worked failure (later_still on.mid on.still) owned.held),
+            creates_failed p table.name text (entered true on.mid.is_open on.mid) owned.mid owned.worked failure (later_still on.mid on.still) owned.held,
             subst (λ (l : List Exchange). IsAround true p.is_open false p.settings.manner owned.worked l) (sym whole) (around_same on.mid false owned.worked on.worked on.leaves owned.around),
           )),
           worked_then on.mid new on.leaves owned.leaves,
@@ -390,7 +385,7 @@ module _ (around : Around) (statement : Statement) (p : SessionProgress) (table 
               inl (whole ∙ silent_held (fails_naming {A = Effect} object_present table.name) on.mid new on.worked (Err failure) (only_naming IsTouch NoOp Effect object_present table.name) was),
               worked_then on.mid new on.leaves (works_leave on.mid (fails_naming {A = Effect} object_present table.name) new on.worked (Err failure) (only_naming IsWorkStep IsQuiet Effect object_present table.name) was),
             )
-            by_test false was = by_ways on whole (own_held (creates table.name text) (creates_works table.name text) on.mid new on.worked (Err failure) true was)
+            by_test false was = by_ways on whole (own_held (creates table.name text) (works_own (creates table.name text) (creates_works table.name text)) on.mid new on.worked (Err failure) true was)
 
         by_failed : Held (prepares statement) p exchanges (Err failure) new ⊎ Bound_by around p statement p (λ shapes of q worked. Held (later_putting shapes of) q worked (Err failure) new) exchanges → HasCome around statement p true (Err failure) exchanges × Worked p new
         by_failed (inl first) = (inl (silent_held (prepares statement) p new exchanges (Err failure) (prepares_silent statement none) first), works_leave p (prepares statement) new exchanges (Err failure) (reads_work (prepares statement) (prepares_reads statement)) first)
@@ -430,7 +425,7 @@ module _ (around : Around) (statement : Statement) (p : SessionProgress) (table 
           where
             by_test : (test : Bool) → is_objects table.name ≡ test → Left (if test then fails_naming object_present table.name else own true (creates table.name text)) mid back new → WasLeft around statement p true exchanges
             by_test true so was = inl (subst NoneCommits (sym parts) (none_append front back calm (calm_left (fails_naming {A = Effect} object_present table.name) mid new back (only_naming AnyStep NoCommit Effect object_present table.name) was)))
-            by_test false so was = on_committed made mid front back parts first calm so (own_left (creates table.name text) (creates_works table.name text) mid new true back was)
+            by_test false so was = on_committed made mid front back parts first calm so (own_left (creates table.name text) (works_own (creates table.name text) (creates_works table.name text)) mid new true back was)
 
         first_calm : (q : SessionProgress) (front : List Exchange) → Left (prepares statement) p front q → NoneCommits front
         first_calm q front here = calm_left (prepares statement) p q front (works_calm (prepares statement) (reads_work (prepares statement) (prepares_reads statement))) here

@@ -148,13 +148,13 @@ module _ (around : Around) (p0 : SessionProgress) where
   answers_read shapes query = only_bind IsTouch IsFetch (reads_images shapes (bound.Query query)) _ (images_read shapes (bound.Query query)) (λ images p. only_comes IsTouch IsFetch (answer_in around p query images))
 
   -- tokens that fit
-  pub bytes_apart : (effect came : Effect) (p new : SessionProgress) (exchanges : List Exchange) → Held (if_it_fits effect) p exchanges (Ok came) new → (exchanges ≡ []) × (effect ≡ came)
+  pub bytes_apart : (effect came : Effect) (p new : SessionProgress) (exchanges : List Exchange) → Held (if_it_fits effect) p exchanges (Ok came) new → (exchanges ≡ []) × (effect ≡ came) × (new ≡ p)
   unfolding Held if_it_fits
   bytes_apart effect came p new exchanges held = by_test (nat_lt p.bytes_left (size_of effect.tokens)) held
     where
-      by_test : (test : Bool) → Held (if test then fails result_full else over (Ok effect)) p exchanges (Ok came) new → (exchanges ≡ []) × (effect ≡ came)
+      by_test : (test : Bool) → Held (if test then fails result_full else over (Ok effect)) p exchanges (Ok came) new → (exchanges ≡ []) × (effect ≡ came) × (new ≡ p)
       by_test true was = absurd (error_never (plain result_full) p new exchanges came was)
-      by_test false was = (was.0, sym (ok_same {E = Failure} came effect was.1))
+      by_test false was = (was.0, sym (ok_same {E = Failure} came effect was.1), was.2)
 
   selects_apart : (shapes : List TableTree) (query : BoundQuery) (p new : SessionProgress) (exchanges : List Exchange) (effect : Effect) → Still p0 p → Held (selects around shapes query) p exchanges (Ok effect) new → IsSelected around p0 shapes query [] effect exchanges
   unfolding selects Held ◌then◌
@@ -279,11 +279,15 @@ module _ (around : Around) (p0 : SessionProgress) where
       bind_reads (reads_images shapes (bound.Write write)) _ q new behind effect (images_read shapes (bound.Write write)) same rest (λ read later images r more reads so others.
       comes_on (planned_over around r shapes write images) _ r new later effect others (λ planned plans last.
       comes_on (Ok (told_by r.settings.no_count write planned)) _ r new later effect last (λ told tells work.
-      let on = bind_apart (with_room (applies (tables_of definitions) planned)) (λ put. if_it_fits told) r new later effect work in
-      let end = bytes_apart told effect on.3 new on.1 on.6 in (
+      let fits = bind_apart (if_it_fits told) (λ fitting. with_room (applies (tables_of definitions) planned) >>= λ put. over (Ok fitting)) r new later effect work in
+      let fit = bytes_apart told fits.2 r fits.3 fits.0 fits.5 in
+      let rest : Held (with_room (applies (tables_of definitions) planned) >>= λ put. over (Ok fits.2)) r later (Ok effect) new =
+      subst (λ (s : SessionProgress). Held (with_room (applies (tables_of definitions) planned) >>= λ put. over (Ok fits.2)) s later (Ok effect) new) fit.2
+      (subst (λ (l : List Exchange). Held (with_room (applies (tables_of definitions) planned) >>= λ put. over (Ok fits.2)) fits.3 l (Ok effect) new) (sym (fits.4 ∙ ap (λ (l : List Exchange). l ++ fits.1) fit.0)) fits.6) in
+      let on = bind_apart (with_room (applies (tables_of definitions) planned)) (λ put. over (Ok fits.2)) r new later effect rest in (
         planned,
-        subst (λ (e : Effect). IsWritten around p0 shapes write planned e exchanges) (ok_same {E = Failure} (told_by r.settings.no_count write planned) told tells ∙ end.1)
-            (written_of shapes write definitions images planned defined read on.0 p q r on.3 exchanges behind later on.1 on.2 some still parts defines same more reads so plans on.4 on.5 end.0),
+        subst (λ (e : Effect). IsWritten around p0 shapes write planned e exchanges) (ok_same {E = Failure} (told_by r.settings.no_count write planned) told tells ∙ fit.1 ∙ sym (ok_same {E = Failure} effect fits.2 on.6.1))
+            (written_of shapes write definitions images planned defined read on.0 p q r on.3 exchanges behind later on.1 on.2 some still parts defines same more reads so plans on.4 on.5 on.6.0),
       )))))
 
   change_apart : (shapes : List TableTree) (of : Bound) (p new : SessionProgress) (exchanges : List Exchange) (effect : Effect) → Still p0 p → Held (change_bound around shapes of) p exchanges (Ok effect) new → (planned : List Planned) × IsChange around p0 shapes of planned effect exchanges

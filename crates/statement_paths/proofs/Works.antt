@@ -30,7 +30,7 @@ use Rattle.batch_meaning.specs.declared.failure.Failure.{Failure}
 use Rattle.batch_meaning.specs.Raised.{Around}
 use Rattle.batch_meaning.specs.Changing.{object_present, not_there, planned_over, told_by, created, dropped, unless_referred, whole}
 use Rattle.batch_meaning.specs.Selecting.{Effect, bound_over, no_effect}
-use Rattle.batch_meaning.specs.Progress.{SessionProgress, SessionStep, assigns, touches, made, asked}
+use Rattle.batch_meaning.specs.Progress.{SessionProgress, SessionStep, assigns, fills, touches, made, asked}
 use Rattle.batch_meaning.specs.Values.{Assigned, rows_assigned}
 use Rattle.batch_meaning.specs.Doing.{Doing, over, reads, asks, Held}
 use Rattle.batch_meaning.specs.Asking.{fails_naming, with_room, comes_to, unless_refused, looks_up, reads_at, reads_definitions, reads_images, unless_broken, applies, assigns_all, takes_back, where_done, marked}
@@ -54,7 +54,7 @@ touch_work : (step : SessionStep) → IsTouch step → IsWorkStep step
 touch_work touches is = tt
 touch_work step is = absurd is
 
-fetch_quiet : (op : Op) → IsFetch op → IsQuiet op
+pub fetch_quiet : (op : Op) → IsFetch op → IsQuiet op
 fetch_quiet (ops.Fetch table start stop hold part) is = tt
 fetch_quiet op is = absurd is
 
@@ -130,8 +130,8 @@ module _ (around : Around) (p0 : SessionProgress) where
       only_bind IsWorkStep IsQuiet (reads_images shapes (bound.Write write)) _ (reads_work (reads_images shapes (bound.Write write)) (images_read shapes (bound.Write write))) (λ images.
       only_bind IsWorkStep IsQuiet (reads λ p. comes_to (planned_over around p shapes write images)) _ (λ p. only_comes IsWorkStep IsQuiet (planned_over around p shapes write images)) (λ planned.
       only_bind IsWorkStep IsQuiet (reads λ p. comes_to (Ok (told_by p.settings.no_count write planned))) _ (λ p. only_comes IsWorkStep IsQuiet (Ok (told_by p.settings.no_count write planned))) (λ effect.
-      only_bind IsWorkStep IsQuiet (with_room (applies (tables_of definitions) planned)) (λ put. if_it_fits effect) (only_room IsWorkStep IsQuiet (applies (tables_of definitions) planned) (applies_works (tables_of definitions) planned))
-      (λ put. reads_work (if_it_fits effect) (fits_read around p0 effect))))))
+      only_bind IsWorkStep IsQuiet (if_it_fits effect) _ (reads_work (if_it_fits effect) (fits_read around p0 effect)) (λ fitting.
+      only_bind IsWorkStep IsQuiet (with_room (applies (tables_of definitions) planned)) (λ put. over (Ok fitting)) (only_room IsWorkStep IsQuiet (applies (tables_of definitions) planned) (applies_works (tables_of definitions) planned)) (λ put. tt))))))
 
   change_works : (shapes : List TableTree) (of : Bound) → Works (change_bound around shapes of)
   change_works [] of = tt
@@ -182,9 +182,28 @@ unless_works name tree more = only_if IsWorkStep IsQuiet (is_objects name) (fail
 
 -- ---- what it leaves
 
--- all but variables, savepoints and locks is as it was
+-- or one that fills a cursor
+abbrev pub IsOwnStep : SessionStep → Type 0
+IsOwnStep touches = Unit {0}
+IsOwnStep (assigns place value) = Unit {0}
+IsOwnStep (fills name kinds rows) = Unit {0}
+IsOwnStep step = ⊥
+
+-- work that may be done in a transaction of its own
+abbrev pub Owns : {A : Type 0} → Doing A → Type 0
+Owns tree = Only IsOwnStep IsQuiet tree
+
+work_owns : (step : SessionStep) → IsWorkStep step → IsOwnStep step
+work_owns touches is = tt
+work_owns (assigns place value) is = tt
+work_owns step is = absurd is
+
+pub works_own : {A : Type 0} (tree : Doing A) → Works tree → Owns tree
+works_own tree works = only_mono IsWorkStep IsOwnStep IsQuiet IsQuiet work_owns (λ op is. is) tree works
+
+-- all but variables, cursors, savepoints and locks is as it was
 abbrev pub Worked : SessionProgress → SessionProgress → Type 0
-Worked p q = q ≡ record p { vars = q.vars; touched = q.touched; txn = q.txn }
+Worked p q = q ≡ record p { vars = q.vars; cursors = q.cursors; touched = q.touched; txn = q.txn }
 
 quiet_open : (op : Op) (reply : Reply) (q : SessionProgress) → IsQuiet op → CanReply op reply → (asked op reply q).is_open ≡ q.is_open
 quiet_open (ops.Fetch table start stop hold part) (replies.Ended place) q quiet can = absurd can
@@ -200,9 +219,10 @@ quiet_open ops.Rollback reply q quiet can = absurd quiet
 quiet_open op reply q quiet can = refl
 
 module _ (p : SessionProgress) where
-  by_step : (step : SessionStep) (q : SessionProgress) → IsWorkStep step → Worked p q → Worked p (made step q)
+  by_step : (step : SessionStep) (q : SessionProgress) → IsOwnStep step → Worked p q → Worked p (made step q)
   by_step touches q work worked = ap (λ (s : SessionProgress). record s { touched = true }) worked
   by_step (assigns place value) q work worked = ap (λ (s : SessionProgress). record s { vars = (made (assigns place value) q).vars }) worked
+  by_step (fills name kinds rows) q work worked = ap (λ (s : SessionProgress). record s { cursors = (made (fills name kinds rows) q).cursors }) worked
   by_step step q work worked = absurd work
 
   by_op : (op : Op) (reply : Reply) (q : SessionProgress) → IsQuiet op → CanReply op reply → Worked p q → Worked p (asked op reply q)
@@ -210,5 +230,8 @@ module _ (p : SessionProgress) where
       ap (λ (b : Bool). record q { is_open = b; touched = (asked op reply q).touched; txn = (asked op reply q).txn }) (quiet_open op reply q quiet can)
       ∙ ap (λ (s : SessionProgress). record s { touched = (asked op reply q).touched; txn = (asked op reply q).txn }) worked
 
+  pub owns_leave : {A : Type 0} (tree : Doing A) (new : SessionProgress) (exchanges : List Exchange) (a : A) → Owns tree → Held tree p exchanges a new → Worked p new
+  owns_leave tree new exchanges a owns held = held_keeps IsOwnStep IsQuiet (Worked p) by_step by_op tree p new exchanges a owns held refl
+
   pub works_leave : {A : Type 0} (tree : Doing A) (new : SessionProgress) (exchanges : List Exchange) (a : A) → Works tree → Held tree p exchanges a new → Worked p new
-  works_leave tree new exchanges a works held = held_keeps IsWorkStep IsQuiet (Worked p) by_step by_op tree p new exchanges a works held refl
+  works_leave tree new exchanges a works held = owns_leave tree new exchanges a (works_own tree works) held

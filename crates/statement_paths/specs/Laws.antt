@@ -19,7 +19,7 @@ WorkDone = (around : Around) (statement : Statement) (old new : SessionProgress)
 -- it failed
 abbrev pub WorkFailed : Type 0
 WorkFailed = (around : Around) (statement : Statement) (old new : SessionProgress) (exchanges : List Exchange) (failure : Failure)
-    → Held (work_of around statement) old exchanges (Err failure) new → HasFailed around old statement failure exchanges
+    → Held (work_of around statement) old exchanges (Err failure) new → HasFailed old statement exchanges
 
 -- It was left: it has committed nothing, or it had begun a transaction for its work, which was done and committed.
 abbrev pub WorkLeft : Type 0

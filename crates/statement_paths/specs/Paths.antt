@@ -39,10 +39,9 @@ use Rattle.batch_meaning.specs.declared.failure.Failure.{Failure}
 use Rattle.batch_meaning.specs.Asking.{definition_fetch, is_table, objects_fetch, with_found}
 use Rattle.batch_meaning.specs.Changing.{created, dropped, planned_over, told_by, unless_referred, whole}
 use Rattle.batch_meaning.specs.Doing.{Doing}
-use Rattle.batch_meaning.specs.Failures.{plain}
 use Rattle.batch_meaning.specs.Progress.{SessionProgress}
 use Rattle.batch_meaning.specs.Raised.{Around}
-use Rattle.batch_meaning.specs.Selecting.{Effect, answer_in, bound_over, made_of, no_effect, result_full, result_of}
+use Rattle.batch_meaning.specs.Selecting.{Effect, answer_in, bound_over, made_of, no_effect, result_of}
 use Rattle.batch_meaning.specs.Values.{first_row, rows_assigned}
 use Rattle.batch_meaning.specs.Working.{asks_any, creates_table, works}
 
@@ -263,11 +262,6 @@ pub record IsFailed (manner : Manner) (exchanges : List Exchange) : Type 0 where
   pub reads : AskOnly IsFetch read
   pub undoes : IsUndone manner undone
 
--- Why work failed: what it wrote is undone; or it did all that it does so, and there was too little room to tell it, which is an error that
--- ends its transaction.
-abbrev pub FailsBy : Failure → Manner → (List Planned → Effect → List Exchange → Type 0) → List Exchange → Type 0
-FailsBy failure manner Does exchanges = IsFailed manner exchanges ⊎ ((failure ≡ plain result_full) × (planned : List Planned) × (effect : Effect) × Does planned effect exchanges)
-
 -- ---- the end of a statement
 
 -- the locks of the statement ended, where it had any
@@ -311,6 +305,6 @@ HasDone around p statement planned effect exchanges =
     (worked : List Exchange) × IsDone around p statement planned effect worked × IsAround (asks_of statement) p.is_open true p.settings.manner worked exchanges
 
 -- It failed: nothing was asked; or no transaction could be begun; or its work failed.
-abbrev pub HasFailed : Around → SessionProgress → Statement → Failure → List Exchange → Type 0
-HasFailed around p statement failure exchanges = (exchanges ≡ []) ⊎ ((exchanges ≡ replied p.settings.manner ops.Begin Memory ∷ [])
-    ⊎ ((worked : List Exchange) × FailsBy failure p.settings.manner (IsDone around p statement) worked × IsAround (asks_of statement) p.is_open false p.settings.manner worked exchanges))
+abbrev pub HasFailed : SessionProgress → Statement → List Exchange → Type 0
+HasFailed p statement exchanges = (exchanges ≡ []) ⊎ ((exchanges ≡ replied p.settings.manner ops.Begin Memory ∷ [])
+    ⊎ ((worked : List Exchange) × IsFailed p.settings.manner worked × IsAround (asks_of statement) p.is_open false p.settings.manner worked exchanges))

@@ -2,11 +2,12 @@
 //! up, what it read, what it wrote, and what it read behind that; in the open transaction, or in one of its own. Each part is given with
 //! the exchanges that are all of it, so that a layer above can read it against the log of commits.
 //!
-//! Read `specs/Paths.antt` first, then `specs/Laws.antt`. The functions do nothing: each one's contract is a law of the trees of
+//! Read `specs/Paths.antt` first, then `specs/Laws.antt` and `specs/Cursors.antt`. The functions do nothing: each one's contract is a law of the trees of
 //! `batch_meaning`, for every reply that may come. They ask nothing of their caller; only the definitions that they cite say what they
 //! mean. That the exchanges of a session fit the log is no part of it (`Fits` of `step_model`).
 #![tactic(auto)]
 
+ghost use Rattle.statement_paths.specs.Cursors.{OpenDone};
 ghost use Rattle.statement_paths.specs.Laws.{WorkDone, WorkFailed, WorkLeft, WorkUnasked};
 
 /// A statement that came to its effect has done its work, part by part, in the open transaction or in one of its own, which
@@ -16,8 +17,7 @@ pub fn law_done()
     ensures { WorkDone }
 {}
 
-/// One that failed has read, and what it wrote behind that is undone; or its error is that it can't be told, which ends its
-/// transaction.
+/// One that failed has read, and what it wrote behind that is undone.
 #[tactic(auto, using(crate::proofs::Laws::work_failed))]
 pub fn law_failed()
     ensures { WorkFailed }
@@ -33,4 +33,11 @@ pub fn law_left()
 #[tactic(auto, using(crate::proofs::Laws::work_unasked))]
 pub fn law_unasked()
     ensures { WorkUnasked }
+{}
+
+/// OPEN that succeeded has filled its cursor with what the select answers for which that was declared, in the open
+/// transaction or in one of its own, which was committed.
+#[tactic(auto, using(crate::proofs::Opening::open_done))]
+pub fn law_opened()
+    ensures { OpenDone }
 {}

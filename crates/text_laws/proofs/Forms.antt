@@ -6,7 +6,7 @@ use Rattle.tsql_tree.specs.declared.statement.Form.TheVariants as form
 use Rattle.tsql_tree.specs.declared.statement.Statement.{Statement, roll-Statement, out-roll-Statement}
 use Rattle.tsql_grammar.specs.declared.rule.Rule.TheVariants as r
 use Rattle.tsql_grammar.specs.Noted.{Noted}
-use Rattle.tsql_grammar.specs.Terminals.{Terminal, line}
+use Rattle.tsql_grammar.specs.Terminals.{Terminal}
 use Rattle.tsql_grammar.proofs.RuleTests.{around}
 use Rattle.grammar_laws.specs.BySymbols.{Within}
 use Rattle.binder.specs.Names.{Layer, form_of}

@@ -9,7 +9,6 @@ use Rattle.tsql_tree.specs.declared.definition.Definition.{Definition}
 use Rattle.tsql_tree.specs.declared.definition.TableTree.{TableTree}
 use Rattle.tsql_tree.specs.declared.statement.Form.{Form-F}
 use Rattle.tsql_tree.specs.declared.statement.Statement.{Statement}
-use Rattle.tsql_tree.specs.declared.query.Aggregate.{Aggregate}
 use Rattle.tsql_tree.specs.declared.query.Expr.{Expr}
 use Rattle.tsql_tree.specs.declared.query.Item.{Item}
 use Rattle.tsql_tree.specs.declared.query.Join.{Join}

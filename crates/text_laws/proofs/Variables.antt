@@ -2,12 +2,8 @@
 -- query of it.
 use Rattle.std.specs.Prelude.{◌≡◌, ℕ, zero, suc, Bool, true, false, ◌||◌, List, [], ◌∷◌, ◌++◌, map, option_map, Option, Some, None, refl}
 use Rattle.std.proofs.Common.{ap, sym, ◌∙◌, subst, inl, inr}
-use Rattle.tsql_tree.specs.declared.query.AddSign.{AddSign}
-use Rattle.tsql_tree.specs.declared.query.Arm.{Arm}
-use Rattle.tsql_tree.specs.declared.query.CompareSign.{CompareSign}
 use Rattle.tsql_tree.specs.declared.query.Expr.{Expr}
 use Rattle.tsql_tree.specs.declared.query.Expr.TheVariants as expr
-use Rattle.tsql_tree.specs.declared.query.MultiplySign.{MultiplySign}
 use Rattle.tsql_tree.specs.declared.query.Test.{Test}
 use Rattle.tsql_tree.specs.declared.query.Test.TheVariants as test
 use Rattle.tsql_grammar.specs.declared.kind.Function.{Function}

@@ -1,5 +1,5 @@
 use Rattle.std.proofs.Common.{refl}
-use Rattle.batch_exec.proofs.Selects.{stepped_makes, stepped_over}
+use Rattle.session_state.proofs.Stepping.{stepped_makes, stepped_over}
 use Rattle.batch_exec.proofs.errors.catch.Goals as goal
 
 pub returns-in-Doom-clause-came : goal.returns-in-Doom-clause-came

@@ -2,7 +2,7 @@ use Rattle.std.proofs.Common.{◌≡◌, to_z, of_z, refl, sym, rules}
 use Rattle.std.specs.Int.{w32}
 use Rattle.batch_meaning.proofs.Composed.{does_no, does_out, does_yes}
 use Rattle.batch_exec.proofs.Raises.{does_raises, ready_caught}
-use Rattle.batch_exec.proofs.Selects.{does_stepped}
+use Rattle.session_state.proofs.Stepping.{does_stepped}
 use Rattle.batch_exec.proofs.errors.raise.Goals as goal
 
 pub returns-in_err-raised-clause-does : goal.returns-in_err-raised-clause-does

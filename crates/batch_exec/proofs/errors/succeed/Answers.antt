@@ -2,7 +2,8 @@ use Rattle.std.proofs.Common.{pos, refl}
 use Rattle.binder.specs.Names.{form_of}
 use Rattle.batch_meaning.specs.Meaning.{succeeds}
 use Rattle.batch_exec.proofs.Raises.{stays_behind, stays_kept, stays_told}
-use Rattle.batch_exec.proofs.Selects.{stepped_assigned, stepped_counted, stepped_makes, stepped_out, stepped_over, stepped_sends}
+use Rattle.session_state.proofs.Stepping.{stepped_assigned, stepped_makes, stepped_out, stepped_over}
+use Rattle.batch_exec.proofs.Raises.{stepped_counted, stepped_sends}
 use Rattle.batch_exec.proofs.errors.succeed.Goals as goal
 
 pub returns-in_err-send_some-clause-came : goal.returns-in_err-send_some-clause-came

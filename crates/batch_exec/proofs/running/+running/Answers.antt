@@ -2,9 +2,10 @@ use Rattle.std.proofs.Common.{◌≡◌, ◌-◌, true, false, Err, refl, ap, ar
 use Rattle.batch_meaning.specs.Meaning.{mean_form, mean_of, tries}
 use Rattle.batch_meaning.specs.Progress.{SessionProgress}
 use Rattle.batch_meaning.proofs.Composed.{does_leave, does_over, does_then, leads_here, leads_then, leads_to}
-use Rattle.batch_exec.proofs.Forms.{does_form, is_Block, is_If, is_TryCatch, is_While}
+use Rattle.batch_exec.proofs.Worked.{does_form}
+use Rattle.statement_exec.proofs.Forms.{is_Block, is_If, is_TryCatch, is_While}
 use Rattle.batch_exec.proofs.Runs.{begun_level, does_decided, does_undecided, each_done, formed_by, goes_out, leads_decided, leads_more, leads_turned, left_so, loops_behind, loops_left, next_one, not_raised, refused_by, none_left, spent_level}
-use Rattle.batch_exec.proofs.Selects.{next_of}
+use Rattle.session_state.proofs.Stepping.{next_of}
 use Rattle.batch_exec.proofs.running.+running.Goals as goal
 
 -- ---- run_statement

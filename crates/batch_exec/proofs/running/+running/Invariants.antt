@@ -2,7 +2,7 @@ use Rattle.std.proofs.Common.{ℕ, ◌≤◌, ◌+◌, ◌*◌, drop}
 use Rattle.batch_meaning.specs.Doing.{Leads}
 use Rattle.batch_meaning.specs.Meaning.{each_of, mean_of}
 use Rattle.batch_meaning.specs.Progress.{Ready}
-use Rattle.batch_exec.specs.Selected.{turning}
+use Rattle.batch_exec.specs.Running.{turning}
 use Rattle.batch_exec.proofs.running.+running.Given as goal
 
 abbrev pub invariant-run_statements-loop-statement : goal.invariant-run_statements-loop-statement

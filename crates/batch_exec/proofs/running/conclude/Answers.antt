@@ -1,4 +1,4 @@
-use Rattle.batch_exec.proofs.Selects.{does_stepped}
+use Rattle.session_state.proofs.Stepping.{does_stepped}
 use Rattle.batch_exec.proofs.running.conclude.Goals as goal
 
 pub returns-in-Ok-clause-does : goal.returns-in-Ok-clause-does

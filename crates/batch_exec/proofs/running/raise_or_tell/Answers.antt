@@ -1,6 +1,6 @@
 use Rattle.std.proofs.Common.{refl, sym}
 use Rattle.batch_meaning.proofs.Composed.{does_no, does_out, does_yes}
-use Rattle.batch_exec.proofs.Selects.{does_stepped}
+use Rattle.session_state.proofs.Stepping.{does_stepped}
 use Rattle.batch_exec.proofs.running.raise_or_tell.Goals as goal
 
 pub returns-then-not-is_message-clause-does : goal.returns-then-not-is_message-clause-does

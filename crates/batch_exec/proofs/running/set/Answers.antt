@@ -1,6 +1,6 @@
 use Rattle.std.proofs.Common.{sym}
 use Rattle.batch_exec.proofs.Runs.{does_set, does_unset}
-use Rattle.batch_exec.proofs.Selects.{does_stepped}
+use Rattle.session_state.proofs.Stepping.{does_stepped}
 use Rattle.batch_exec.proofs.running.set.Goals as goal
 
 pub returns-in-Ok-clause-does : goal.returns-in-Ok-clause-does

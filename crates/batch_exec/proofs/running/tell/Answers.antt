@@ -1,6 +1,6 @@
 use Rattle.std.proofs.Common.{◌∙◌}
 use Rattle.batch_meaning.specs.Meaning.{tells}
-use Rattle.batch_exec.proofs.Beginning.{composes_left}
+use Rattle.statement_exec.proofs.Beginning.{composes_left}
 use Rattle.batch_exec.proofs.Runs.{does_concluded}
 use Rattle.batch_exec.proofs.running.tell.Goals as goal
 

@@ -1,9 +1,9 @@
 use Rattle.std.proofs.Common.{true, false, Ok, Err, ap, sym}
 use Rattle.batch_meaning.specs.Transactions.{begins_transaction}
 use Rattle.batch_meaning.proofs.Composed.{does_makes, does_room}
-use Rattle.batch_exec.proofs.Affording.{bound_fails}
-use Rattle.batch_exec.proofs.Selects.{does_made}
-use Rattle.batch_exec.proofs.TxnSteps.{begins_closed, begins_inner, begins_most, bound_on, does_go}
+use Rattle.statement_exec.proofs.Parts.{does_made}
+use Rattle.statement_exec.proofs.BoundFirst.{bound_fails, bound_on, does_go}
+use Rattle.batch_exec.proofs.TxnSteps.{begins_closed, begins_inner, begins_most}
 use Rattle.batch_exec.proofs.transactions.begin_transaction.Goals as goal
 
 pub returns-in_err-bind_first-clause-does : goal.returns-in_err-bind_first-clause-does

@@ -2,12 +2,12 @@ use Rattle.std.proofs.Common.{true, Ok, ap, ◌∙◌}
 use Rattle.batch_meaning.specs.Selecting.{sending}
 use Rattle.batch_meaning.proofs.Composed.{does_asks, does_room}
 use Rattle.batch_exec.proofs.Affording.{does_unaffordable}
-use Rattle.batch_exec.proofs.Selects.{does_made}
+use Rattle.statement_exec.proofs.Parts.{does_made}
 use Rattle.batch_exec.proofs.TxnSteps.{does_afforded}
 use Rattle.batch_exec.proofs.transactions.commit_outermost.Goals as goal
 
 pub returns-in_err-tokens-clause-does : goal.returns-in_err-tokens-clause-does
-returns-in_err-tokens-clause-does g c = does_unaffordable _ _ _ _ _ c.from_residual.ensures.0 c.from_residual.ensures.1 (rw c.serial.ensures at c.committed.ensures) c.in_err-tokens.ensures
+returns-in_err-tokens-clause-does g c = does_unaffordable _ _ _ _ _ c.from_residual.ensures.0 c.from_residual.ensures.1 (rw c.serial.ensures at c.transaction_committed.ensures) c.in_err-tokens.ensures
 
 pub returns-clause-does : goal.returns-clause-does
-returns-clause-does g c = does_room true (does_afforded _ _ _ (rw c.serial.ensures at c.committed.ensures) c.in_ok-tokens.ensures (λ is. does_asks c.in-Ended.ensures.asked (does_made (ap Ok (c.sending.ensures ∙ ap sending is)))))
+returns-clause-does g c = does_room true (does_afforded _ _ _ (rw c.serial.ensures at c.transaction_committed.ensures) c.in_ok-tokens.ensures (λ is. does_asks c.in-Ended.ensures.asked (does_made (ap Ok (c.sending.ensures ∙ ap sending is)))))

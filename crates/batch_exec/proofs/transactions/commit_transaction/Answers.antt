@@ -3,9 +3,8 @@ use Rattle.std.specs.Int.{w32}
 use Rattle.txn_rules.specs.State.{commit_answer}
 use Rattle.batch_meaning.specs.Transactions.{commits_by, commits_transaction}
 use Rattle.batch_meaning.proofs.Composed.{does_makes, does_over, does_room}
-use Rattle.batch_exec.proofs.Affording.{bound_fails}
-use Rattle.batch_exec.proofs.Selects.{does_made}
-use Rattle.batch_exec.proofs.TxnSteps.{bound_on, does_go}
+use Rattle.statement_exec.proofs.Parts.{does_made}
+use Rattle.statement_exec.proofs.BoundFirst.{bound_fails, bound_on, does_go}
 use Rattle.batch_exec.proofs.transactions.commit_transaction.Goals as goal
 
 pub returns-in_err-bind_first-clause-does : goal.returns-in_err-bind_first-clause-does

@@ -3,7 +3,7 @@ use Rattle.std.specs.Int.{w32}
 use Rattle.txn_rules.specs.declared.state.BackKind.TheVariants.{Mark}
 use Rattle.txn_rules.specs.State.{rollback_answer}
 use Rattle.batch_meaning.proofs.Composed.{does_asks, does_room}
-use Rattle.batch_exec.proofs.Selects.{does_made}
+use Rattle.statement_exec.proofs.Parts.{does_made}
 use Rattle.batch_exec.proofs.TxnSteps.{does_numbered, named_live, named_open}
 use Rattle.batch_exec.proofs.transactions.go_back.Goals as goal
 

@@ -1,9 +1,9 @@
 use Rattle.std.proofs.Common.{true, Err, ap, refl, sym}
 use Rattle.batch_meaning.specs.Transactions.{rolls_back_transaction}
 use Rattle.batch_meaning.proofs.Composed.{does_room}
-use Rattle.batch_exec.proofs.Affording.{bound_fails}
-use Rattle.batch_exec.proofs.Selects.{does_made}
-use Rattle.batch_exec.proofs.TxnSteps.{bound_on, does_go, rolls_closed, rolls_named, rolls_open}
+use Rattle.statement_exec.proofs.Parts.{does_made}
+use Rattle.statement_exec.proofs.BoundFirst.{bound_fails, bound_on, does_go}
+use Rattle.batch_exec.proofs.TxnSteps.{rolls_closed, rolls_named, rolls_open}
 use Rattle.batch_exec.proofs.transactions.roll_back_transaction.Goals as goal
 
 pub returns-in_err-bind_first-clause-does : goal.returns-in_err-bind_first-clause-does

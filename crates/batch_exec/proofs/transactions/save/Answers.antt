@@ -1,6 +1,6 @@
 use Rattle.std.proofs.Common.{true, false, Ok, Err, ap}
 use Rattle.batch_meaning.proofs.Composed.{does_asks, does_makes, does_room}
-use Rattle.batch_exec.proofs.Selects.{does_made}
+use Rattle.statement_exec.proofs.Parts.{does_made}
 use Rattle.batch_exec.proofs.transactions.save.Goals as goal
 
 pub returns-in_default-clause-does : goal.returns-in_default-clause-does

@@ -3,8 +3,7 @@ use Rattle.std.specs.Int.{w32}
 use Rattle.txn_rules.specs.State.{save_refusal}
 use Rattle.batch_meaning.specs.Transactions.{saves_transaction, saves_unless}
 use Rattle.batch_meaning.proofs.Composed.{does_over, does_room}
-use Rattle.batch_exec.proofs.Affording.{bound_fails}
-use Rattle.batch_exec.proofs.TxnSteps.{bound_on, does_go}
+use Rattle.statement_exec.proofs.BoundFirst.{bound_fails, bound_on, does_go}
 use Rattle.batch_exec.proofs.transactions.save_transaction.Goals as goal
 
 pub returns-in_err-bind_first-clause-does : goal.returns-in_err-bind_first-clause-does

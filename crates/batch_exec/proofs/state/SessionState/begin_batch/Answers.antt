@@ -1,5 +1,0 @@
-use Rattle.batch_exec.proofs.Fitting.{fits_as, fit_none}
-use Rattle.batch_exec.proofs.state.SessionState.begin_batch.Goals as goal
-
-pub invariant_of-self : goal.invariant_of-self
-invariant_of-self c = (fits_as _ _ c.clear.ensures.items fit_none, c.self.invariant.1, c.self.invariant.2)

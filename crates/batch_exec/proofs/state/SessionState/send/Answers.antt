@@ -1,5 +1,0 @@
-use Rattle.batch_exec.proofs.Fitting.{fits_as, fits_if}
-use Rattle.batch_exec.proofs.state.SessionState.send.Goals as goal
-
-pub invariant_of-self-2 : goal.invariant_of-self-2
-invariant_of-self-2 c = (fits_if _ _ _ _ c.append.ensures.items c.self.invariant.0 (fits_as _ _ c.into_vec-tokens.ensures.tokens c.into_vec-tokens.ensures.fit), c.self.invariant.1, c.self.invariant.2)

@@ -1,9 +1,0 @@
-use Rattle.std.proofs.Common.{◌≡◌, [], ◌∷◌, rules}
-use Rattle.batch_meaning.specs.Tokens.{transaction_rolled_back}
-use Rattle.batch_exec.proofs.Fitting.{fits_as, rolled_back_fits}
-use Rattle.batch_exec.proofs.tokens.rolled_back.Goals as goal
-
-pub new-requires-2 : goal.new-requires-2
-new-requires-2 c =
-    let is : c.in_ok-vec.field-0.items ≡ transaction_rolled_back c.args.serial ∷ [] = search rules in
-    fits_as _ _ is (rolled_back_fits c.args.serial)

@@ -1,5 +1,0 @@
-use Rattle.batch_exec.proofs.Fitting.{told_fits, fits_as}
-use Rattle.batch_exec.proofs.tokens.told_tokens.Goals as goal
-
-pub new-requires : goal.new-requires
-new-requires c = fits_as _ _ c.in_ok-tokens_of_error.ensures (told_fits c.args.action c.args.command c.args.raised.now)

@@ -1,6 +1,0 @@
-use Rattle.std.proofs.Common.{◌≡◌, take}
-use Rattle.batch_meaning.specs.Values.{given_names}
-use Rattle.batch_exec.proofs.values.given_names.Given as goal
-
-abbrev pub invariant-loop-of : goal.invariant-loop-of
-invariant-loop-of l = l.names.items ≡ given_names (take l.of-index l.declarations)

@@ -1,0 +1,108 @@
+-- The tokens that are sent have bytes: counts and texts fit their fields.
+use Rattle.std.proofs.Common.{◌≡◌, ℕ, ◌+◌, ◌≤◌, Bool, true, false, List, [], ◌∷◌, ◌++◌, length, take, refl, sym, subst, length-take, arith, if◌then◌else◌}
+use Rattle.error_table.specs.declared.action.Action.{Action}
+use Rattle.error_table.specs.declared.action.Action.TheVariants.{Statement as EndsStatement, Batch, BatchAndTransaction, Doom}
+use Rattle.tds_tokens.specs.declared.columns.ColumnInfo.{ColumnInfo}
+use Rattle.tds_tokens.specs.declared.notice.Notice.{Notice}
+use Rattle.tds_tokens.specs.Numbers.{done_final, done_error, command_none, env_begin, env_collation, env_commit, env_rollback}
+use Rattle.tds_tokens.specs.declared.token.DoneKind.{DoneKind}
+use Rattle.tds_tokens.specs.declared.token.DoneKind.TheVariants.{Done}
+use Rattle.tds_tokens.specs.declared.token.Token.{Token}
+use Rattle.tds_tokens.specs.declared.token.Token.TheVariants.{EnvBytes, Finished}
+use Rattle.tds_tokens.specs.Fit.{FitsNotice, FitTokens}
+use Rattle.tds_tokens.specs.Spelling.{columns_after}
+use Rattle.tds_tokens.proofs.Lengths.{length-notice_bytes}
+use Rattle.batch_meaning.specs.declared.raised.Raised.{Raised}
+use Rattle.batch_meaning.specs.Meaning.{told_tokens}
+use Rattle.batch_meaning.specs.Raised.{info_token}
+use Rattle.session_state.specs.Sendable.{IsFit}
+use Rattle.batch_meaning.specs.Tokens.{descriptor, statement_done, batch_done, transaction_begun, transaction_committed, transaction_rolled_back}
+
+-- ---- one list behind another
+
+fit_append : (first second : List Token) (columns : List ColumnInfo) → FitTokens columns first → IsFit second → FitTokens columns (first ++ second)
+unfolding FitTokens
+fit_append [] second columns one two = two columns
+fit_append (token ∷ first) second columns one two = (one.0, fit_append first second (columns_after columns token) one.1 two)
+
+pub fit_both : (first second : List Token) → IsFit first → IsFit second → IsFit (first ++ second)
+fit_both first second one two = λ columns. fit_append first second columns (one columns) two
+
+pub fit_none : IsFit []
+unfolding FitTokens
+fit_none = λ columns. tt
+
+-- ---- errors
+
+short_fits : (notice : Notice) → length notice.text ≤ 2000 → length notice.procedure ≡ 0 → FitsNotice notice
+short_fits notice short none = record {
+  text = omega arith;
+  procedure = omega arith;
+  whole = omega (arith, length-notice_bytes notice);
+}
+
+-- what is told of an error or a message
+notice_fits : (raised : Raised) → FitsNotice (record { number = raised.number; state = raised.state; class = raised.class; text = take 2000 raised.text; procedure = []; line = raised.line })
+notice_fits raised =
+    short_fits (record { number = raised.number; state = raised.state; class = raised.class; text = take 2000 raised.text; procedure = []; line = raised.line }) (omega (arith, length-take 2000 raised.text)) (omega arith)
+
+-- an error, by what it ends
+pub told_fits : (action : Action) (command : ℕ) (raised : Raised) → IsFit (told_tokens action command raised)
+unfolding FitTokens
+told_fits Batch command raised = λ columns. (notice_fits raised, tt)
+told_fits BatchAndTransaction command raised = λ columns. (notice_fits raised, tt)
+told_fits EndsStatement command raised = λ columns. (notice_fits raised, (tt, tt))
+told_fits Doom command raised = λ columns. (notice_fits raised, (tt, tt))
+
+-- a message
+pub info_fits : (raised : Raised) → IsFit (info_token raised ∷ [])
+unfolding FitTokens
+info_fits raised = λ columns. (notice_fits raised, tt)
+
+-- a DONE alone
+pub done_fit : (kind : DoneKind) (status command rows : ℕ) → IsFit (Finished kind status command rows ∷ [])
+unfolding FitTokens
+done_fit kind status command rows = λ columns. (tt, tt)
+
+-- a batch's end
+pub batch_done_fit : (failed : Bool) → IsFit (batch_done failed ∷ [])
+batch_done_fit failed = done_fit Done (if failed then done_error else done_final) command_none 0
+
+-- a statement's end with its count
+pub told_fit : (no_count : Bool) (command rows : ℕ) (columns : List ColumnInfo) → FitTokens columns (statement_done no_count command rows ∷ [])
+unfolding FitTokens
+told_fit true command rows columns = (tt, tt)
+told_fit false command rows columns = (tt, tt)
+
+-- so many rows were written
+pub written_fit : (no_count : Bool) (command rows : ℕ) → IsFit (statement_done no_count command rows ∷ [])
+written_fit no_count command rows = λ columns. told_fit no_count command rows columns
+
+-- a transaction's change of environment
+pub env_fits : (kind : ℕ) (fresh former : List ℕ) → env_collation ≤ kind → kind ≤ env_rollback → length fresh ≤ 8 → length former ≤ 8 → IsFit (EnvBytes kind fresh former ∷ [])
+unfolding FitTokens
+env_fits kind fresh former low high one two = λ columns. ((low, high, omega (arith, one), omega (arith, two)), tt)
+
+-- its descriptor has eight bytes
+descriptor_small : (serial : ℕ) → length (descriptor serial) ≤ 8
+descriptor_small serial = let eight : length (descriptor serial) ≡ 8 = refl in omega arith
+
+pub begun_fits : (serial : ℕ) → IsFit (transaction_begun serial ∷ [])
+begun_fits serial = env_fits env_begin (descriptor serial) [] (omega arith) (omega arith) (descriptor_small serial) (omega arith)
+
+pub committed_fits : (serial : ℕ) → IsFit (transaction_committed serial ∷ [])
+committed_fits serial = env_fits env_commit [] (descriptor serial) (omega arith) (omega arith) (omega arith) (descriptor_small serial)
+
+pub rolled_back_fits : (serial : ℕ) → IsFit (transaction_rolled_back serial ∷ [])
+rolled_back_fits serial = env_fits env_rollback [] (descriptor serial) (omega arith) (omega arith) (omega arith) (descriptor_small serial)
+
+-- ---- by what was made
+
+-- these tokens, as a list in any vector
+pub fits_as : (tokens made : List Token) → tokens ≡ made → IsFit made → IsFit tokens
+fits_as tokens made is fit = subst IsFit (sym is) fit
+
+-- what was added, or wasn't
+pub fits_if : (added : Bool) (tokens first second : List Token) → tokens ≡ (if added then first ++ second else first) → IsFit first → IsFit second → IsFit tokens
+fits_if true tokens first second is one two = subst IsFit (sym is) (fit_both first second one two)
+fits_if false tokens first second is one two = subst IsFit (sym is) one

@@ -1,0 +1,5 @@
+pub mod Assigning
+pub mod Casting
+pub mod Fitting
+pub mod Readiness
+pub mod Stepping

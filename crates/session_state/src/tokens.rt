@@ -1,0 +1,336 @@
+//! The tokens that answer a statement.
+
+ghost use Rattle.std.specs.Prelude.{◌≡◌, ◌++◌, ◌∷◌, ◌<◌, [], All, take, IfOk, Some, pos};
+ghost use Rattle.error_table.specs.Text.{text_with};
+ghost use Rattle.tsql_tree.specs.declared.statement.Form.{out-Form};
+ghost use Rattle.session_state.specs.Sendable.{IsResult};
+ghost use Rattle.batch_meaning.specs.Meaning.{told_tokens};
+ghost use Rattle.batch_meaning.specs.Raised.{error_token, named, raised_at};
+ghost use Rattle.batch_meaning.specs.Selecting.{messages};
+ghost use Rattle.batch_meaning.specs.Tokens.{batch_done, command_of, descriptor, result_tokens, row_tokens, statement_done, statement_failed, transaction_begun, transaction_committed, transaction_rolled_back};
+ghost use Rattle.batch_meaning.specs.Values.{is_message};
+
+use crate::sendable::TokenList;
+use batch_meaning::{Failure, Raised};
+use error_table::{Action, RaisedBy, parts_of, row_of};
+use std::alloc::Global;
+use tds_tokens::{
+    Bytes, COMMAND_DELETE, COMMAND_INSERT, COMMAND_NONE, COMMAND_SELECT, COMMAND_UPDATE,
+    ColumnList, DONE_COUNT, DONE_ERROR, DONE_FINAL, DONE_MORE, DoneKind, ENV_BEGIN, ENV_COMMIT,
+    ENV_ROLLBACK, Notice, Token,
+};
+use tsql_tree::Form;
+use value_types::{Memory, Row, Units};
+
+// ---- what a statement sends
+
+/// A result: its columns, its rows and their count.
+pub fn result_tokens(
+    alloc: Global,
+    no_count: bool,
+    columns: ColumnList,
+    rows: Vec<Row>,
+) -> Result<TokenList, Memory>
+    requires fit { IsResult no_count columns rows.items }
+    ensures { IfOk result (λ tokens. tokens ≡ result_tokens no_count columns rows.items) }
+{
+    Ok(TokenList::new(tokens_of(alloc, no_count, columns, rows)?))
+}
+
+/// The same as tokens alone.
+fn tokens_of(
+    alloc: Global,
+    no_count: bool,
+    columns: ColumnList,
+    rows: Vec<Row>,
+) -> Result<Vec<Token>, Memory>
+    ensures { IfOk result (λ tokens. tokens.items ≡ result_tokens no_count columns rows.items) }
+{
+    let ended = statement_done(no_count, COMMAND_SELECT, rows.len() as u64);
+    let mut tokens = vec![in alloc; Token::Columns(columns)]?;
+    push_rows(&mut tokens, rows)?;
+    tokens.push(ended)?;
+    Ok(tokens)
+}
+
+/// Adds a token for each row.
+fn push_rows(tokens: &mut Vec<Token>, rows: Vec<Row>) -> Result<(), Memory>
+    ensures { IfOk result (λ _. tokens.new.items ≡ tokens.old.items ++ row_tokens rows.items) }
+{
+    tokens.reserve(rows.len())?;
+    for row in rows {
+        tokens.push(Token::Row(row))?;
+    }
+    Ok(())
+}
+
+/// So many rows were written.
+pub fn written_tokens(
+    alloc: Global,
+    no_count: bool,
+    command: u16,
+    rows: u64,
+) -> Result<TokenList, Memory>
+    ensures { IfOk result (λ tokens. tokens ≡ statement_done no_count command rows ∷ []) }
+{
+    Ok(TokenList::new(vec![in alloc; statement_done(no_count, command, rows)]?))
+}
+
+// ---- DONE
+
+/// The end of a statement of a command, where more follows, with its count unless none is told.
+fn statement_done(no_count: bool, command: u16, rows: u64) -> Token
+    ensures { result ≡ statement_done no_count command rows }
+{
+    if no_count {
+        done(DONE_MORE, command, 0)
+    } else {
+        done(DONE_MORE | DONE_COUNT, command, rows)
+    }
+}
+
+/// A statement's end with an error, where more follows.
+fn statement_failed(command: u16) -> Token
+    ensures { result ≡ statement_failed command }
+{
+    done(DONE_MORE | DONE_ERROR, command, 0)
+}
+
+/// A batch's end, by whether an error ended it.
+pub fn batch_end(alloc: Global, failed: bool) -> Result<TokenList, Memory>
+    ensures { IfOk result (λ tokens. tokens ≡ batch_done failed ∷ []) }
+{
+    Ok(TokenList::new(vec![in alloc; batch_done(failed)]?))
+}
+
+fn batch_done(failed: bool) -> Token
+    ensures { result ≡ batch_done failed }
+{
+    if failed {
+        done(DONE_ERROR, COMMAND_NONE, 0)
+    } else {
+        done(DONE_FINAL, COMMAND_NONE, 0)
+    }
+}
+
+/// A DONE.
+fn done(status: u16, command: u16, rows: u64) -> Token
+    ensures { result ≡ Token.Finished DoneKind.Done status command rows }
+{
+    Token::Finished {
+        kind: DoneKind::Done,
+        status,
+        command,
+        rows,
+    }
+}
+
+/// The command that a DONE names.
+pub fn command_of(form: &Form) -> u16
+    ensures { result ≡ command_of (out-Form form.now) }
+{
+    match form {
+        Form::Select(_) => COMMAND_SELECT,
+        Form::Insert(_, _, _) => COMMAND_INSERT,
+        Form::Update(_, _, _) => COMMAND_UPDATE,
+        Form::Delete(_, _) => COMMAND_DELETE,
+        _ => COMMAND_NONE,
+    }
+}
+
+// ---- transactions
+
+/// A transaction is begun.
+pub fn transaction_begun(alloc: Global, serial: u64) -> Result<TokenList, Memory>
+    ensures { IfOk result (λ tokens. tokens ≡ transaction_begun serial ∷ []) }
+{
+    let token = Token::EnvBytes {
+        kind: ENV_BEGIN,
+        fresh: descriptor(alloc, serial)?,
+        former: Bytes::from(Vec::new(alloc)),
+    };
+    Ok(TokenList::new(vec![in alloc; token]?))
+}
+
+/// A transaction is committed.
+pub fn transaction_committed(alloc: Global, serial: u64) -> Result<TokenList, Memory>
+    ensures { IfOk result (λ tokens. tokens ≡ transaction_committed serial ∷ []) }
+{
+    let token = Token::EnvBytes {
+        kind: ENV_COMMIT,
+        fresh: Bytes::from(Vec::new(alloc)),
+        former: descriptor(alloc, serial)?,
+    };
+    Ok(TokenList::new(vec![in alloc; token]?))
+}
+
+/// A transaction is rolled back.
+pub fn transaction_rolled_back(alloc: Global, serial: u64) -> Result<TokenList, Memory>
+    ensures { IfOk result (λ tokens. tokens ≡ transaction_rolled_back serial ∷ []) }
+{
+    let token = Token::EnvBytes {
+        kind: ENV_ROLLBACK,
+        fresh: Bytes::from(Vec::new(alloc)),
+        former: descriptor(alloc, serial)?,
+    };
+    Ok(TokenList::new(vec![in alloc; token]?))
+}
+
+/// A transaction's descriptor.
+fn descriptor(alloc: Global, serial: u64) -> Result<Bytes, Memory>
+    ensures { IfOk result (λ bytes. bytes ≡ descriptor serial) }
+{
+    Ok(Bytes::from(Vec::from_slice(alloc, &serial.to_le_bytes())?))
+}
+
+// ---- errors and messages
+
+/// What is told of an error, by what it ends.
+pub fn told_tokens(
+    alloc: Global,
+    action: Action,
+    command: u16,
+    raised: &Raised,
+) -> Result<TokenList, Memory>
+    ensures { IfOk result (λ tokens. tokens ≡ told_tokens action command raised.now) }
+{
+    Ok(TokenList::new(tokens_of_error(alloc, action, command, raised)?))
+}
+
+/// The same as tokens alone.
+fn tokens_of_error(
+    alloc: Global,
+    action: Action,
+    command: u16,
+    raised: &Raised,
+) -> Result<Vec<Token>, Memory>
+    ensures { IfOk result (λ tokens. tokens.items ≡ told_tokens action command raised.now) }
+{
+    let error = Token::Error(notice_of(alloc, raised)?);
+    match action {
+        Action::Batch => Ok(vec![in alloc; error]?),
+        Action::BatchAndTransaction => Ok(vec![in alloc; error]?),
+        Action::Statement => Ok(vec![in alloc; error, statement_failed(command)]?),
+        Action::Doom => Ok(vec![in alloc; error, statement_failed(command)]?),
+    }
+}
+
+/// ERROR alone.
+pub fn error_tokens(alloc: Global, raised: &Raised) -> Result<TokenList, Memory>
+    ensures { IfOk result (λ tokens. tokens ≡ error_token raised.now ∷ []) }
+{
+    told_tokens(alloc, Action::Batch, COMMAND_NONE, raised)
+}
+
+/// INFO, for what is no error.
+pub fn messages(alloc: Global, raised: &Raised) -> Result<TokenList, Memory>
+    ensures { IfOk result (λ tokens. tokens ≡ messages raised.now) }
+{
+    if is_message(raised) {
+        let token = Token::Info(notice_of(alloc, raised)?);
+        Ok(TokenList::new(vec![in alloc; token]?))
+    } else {
+        Ok(TokenList::none(alloc))
+    }
+}
+
+/// Whether it is no error.
+pub fn is_message(raised: &Raised) -> bool
+    ensures { result ≡ is_message raised.now }
+{
+    raised.class <= 10
+}
+
+/// What is told of an error or a message, with no procedure.
+fn notice_of(alloc: Global, raised: &Raised) -> Result<Notice, Memory>
+    ensures { IfOk result (λ notice. notice ≡ record { number = raised.now.number; state = raised.now.state; class = raised.now.class; text = take 2000 raised.now.text; procedure = []; line = raised.now.line }) }
+{
+    let text = raised.text.copy(alloc)?;
+    Ok(Notice::new(
+        raised.number,
+        raised.state,
+        raised.class,
+        text,
+        Units::new(alloc),
+        raised.line,
+    ))
+}
+
+/// ERROR of this number at a line, with state 1 and no procedure, for a name.
+pub fn error_of(alloc: Global, number: i32, name: Units, line: i32) -> Result<Token, Memory>
+    ensures { IfOk result (λ token. token ≡ error_token (raised_at line (record { number = number; name = Some name }))) }
+{
+    let failure = Failure {
+        number,
+        name: Some(name),
+    };
+    let raised = raised_at(alloc, line, &failure)?;
+    Ok(Token::Error(notice_of(alloc, &raised)?))
+}
+
+/// Why a statement at a line failed, as it is raised.
+pub fn raised_at(alloc: Global, line: i32, failure: &Failure) -> Result<Raised, Memory>
+    ensures { IfOk result (λ raised. raised ≡ raised_at line failure.now) }
+{
+    let (class, text) = class_and_text(alloc, failure)?;
+    Ok(Raised {
+        number: failure.number,
+        class,
+        state: 1,
+        text,
+        line,
+        by: RaisedBy::Engine,
+    })
+}
+
+/// The class and the text of an error.
+fn class_and_text(alloc: Global, failure: &Failure) -> Result<(u8, Units), Memory>
+    ensures { IfOk result (λ parts. parts ≡ ((raised_at (pos 1) failure.now).class, (raised_at (pos 1) failure.now).text)) }
+{
+    match row_of(failure.number) {
+        Some(row) => Ok((row.class, text_with(alloc, row.text, named(failure))?)),
+        None => Ok((16, Units::of_ascii(alloc, b"Not built.")?)),
+    }
+}
+
+/// What an error names.
+fn named(failure: &Failure) -> &[u16]
+    ensures { result.now ≡ named failure.now.name }
+{
+    match &failure.name {
+        Some(name) => name.as_slice(),
+        None => &[],
+    }
+}
+
+/// An error's text with a name in its place.
+fn text_with(alloc: Global, text: &str, name: &[u16]) -> Result<Units, Memory>
+    requires { All (λ byte. byte < 128) text.now }
+    ensures { IfOk result (λ units. units ≡ text_with text.now name.now) }
+{
+    match parts_of(text) {
+        Some((before, behind)) => around(alloc, before, name, behind),
+        None => Units::of_ascii(alloc, text.as_bytes()),
+    }
+}
+
+/// A name between two parts of a text, which are ASCII.
+fn around(alloc: Global, before: &str, name: &[u16], behind: &str) -> Result<Units, Memory>
+    ensures { IfOk result (λ text. text ≡ before.now ++ name.now ++ behind.now) }
+{
+    let mut units = Vec::new(alloc);
+    add_ascii(&mut units, before)?;
+    units.extend_from_slice(name)?;
+    add_ascii(&mut units, behind)?;
+    Ok(Units::from(units))
+}
+
+/// Adds the units of an ASCII text.
+fn add_ascii(units: &mut Vec<u16>, text: &str) -> Result<(), Memory>
+    ensures { IfOk result (λ _. units.new.items ≡ units.old.items ++ text.now) }
+{
+    for byte in text.as_bytes() {
+        units.push(u16::from(*byte))?;
+    }
+    Ok(())
+}

@@ -1,0 +1,13 @@
+pub mod Beginning
+pub mod BoundFirst
+pub mod Changes
+pub mod CursorSteps
+pub mod Forms
+pub mod Holding
+pub mod ImagesReading
+pub mod ObjectsReading
+pub mod Parts
+pub mod Preparing
+pub mod Querying
+pub mod Results
+pub mod Telling

@@ -1,0 +1,103 @@
+-- Own: what a statement is bound to, the rows that were read for it, and what it asks.
+use Rattle.std.specs.Prelude.{◌≡◌, ◌⊎◌, ℕ, All, IsTrue, List, [], ◌∷◌, Option, None, Some, Result, Ok, Err}
+use Rattle.value_types.specs.declared.value.Value.{Value}
+use Rattle.tsql_tree.specs.declared.definition.Definition.{Definition}
+use Rattle.tsql_tree.specs.declared.definition.TableTree.{TableTree}
+use Rattle.tsql_tree.specs.declared.statement.Statement.{Statement}
+use Rattle.session_vars.specs.declared.Variable.{Variable}
+use Rattle.session_vars.specs.Variables.{HasItsType}
+use Rattle.bound_tree.specs.declared.query.BoundQuery.{BoundQuery}
+use Rattle.bound_tree.specs.declared.write.Bound.{Bound}
+use Rattle.bound_tree.specs.declared.write.Bound.TheVariants as bound
+use Rattle.bound_tree.specs.Typed.{AreOf, system_kinds}
+use Rattle.tsql_tree.specs.declared.statement.Form.{Form-F}
+use Rattle.binder.specs.Names.{Layer, form_of}
+use Rattle.query_eval.specs.Ans.{Ans}
+use Rattle.catalog_rows.specs.Definitions.{IsDefinitionIn, tables_of}
+use Rattle.catalog_rows.specs.Rows.{has_columns}
+use Rattle.step_model.specs.declared.op.Op.{Op}
+use Rattle.step_model.specs.declared.op.Op.TheVariants.{Insert}
+use Rattle.step_model.specs.Ranges.{Rows, no_memory}
+use Rattle.constraint_check.specs.Reads.{shape_of}
+use Rattle.dml_exec.specs.declared.refusal.Refusal.{Refusal}
+use Rattle.dml_exec.specs.declared.written.Attempt.{Attempt}
+use Rattle.dml_exec.specs.declared.written.Written.{Written}
+use Rattle.dml_exec.specs.declared.written.Written.TheVariants as written
+use Rattle.dml_exec.specs.Reading.{TableRead, query_reads}
+use Rattle.batch_meaning.specs.declared.failure.Failure.{Failure}
+use Rattle.batch_meaning.specs.Failures.{plain}
+use Rattle.batch_meaning.specs.Raised.{Around}
+use Rattle.batch_meaning.specs.Selecting.{bound_over}
+use Rattle.batch_meaning.specs.Progress.{SessionProgress, system_in, values_of}
+
+-- the row defines this, or memory was wanting
+abbrev pub IsDefined : List Value → Result (Option Definition) Failure → Type 0
+IsDefined row (Ok found) = IsDefinitionIn row found
+IsDefined row (Err failure) = failure ≡ plain no_memory
+
+-- ---- what is read
+
+abbrev pub IsSelectForm : Layer → Type 0
+IsSelectForm (Form-F.Select select) = Unit {0}
+IsSelectForm form = ⊥
+
+-- the statement is bound to this over definitions of which these are the tables, and these variables
+abbrev pub IsBoundOver : List TableTree → List Variable → Statement → Bound → Type 0
+IsBoundOver shapes vars statement of = (definitions : List Definition) × (shapes ≡ tables_of definitions) × (bound_over definitions vars statement ≡ Ok of)
+
+-- the statement is bound over no definitions, or fails as that does
+abbrev pub BoundSo : Result Bound Failure → Result (Unit {0}) Failure → Type 0
+BoundSo (Ok of) result = (result ≡ Ok tt) ⊎ (result ≡ Err (plain no_memory))
+BoundSo (Err failure) result = (result ≡ Err failure) ⊎ (result ≡ Err (plain no_memory))
+
+abbrev pub IsBoundFirst : SessionProgress → Statement → Result (Unit {0}) Failure → Type 0
+IsBoundFirst p statement result = BoundSo (bound_over [] p.vars statement) result
+
+-- each of the rows has the columns of a table of this shape; of no shape there is none
+abbrev pub AreKept : Option TableTree → Rows → Type 0
+AreKept None rows = rows ≡ []
+AreKept (Some shape) rows = All (λ row. IsTrue (has_columns shape.columns row)) rows
+
+-- each image has rows of its table
+abbrev pub ImagesFit : List TableTree → List TableRead → List Rows → Type 0
+ImagesFit shapes [] [] = Unit {0}
+ImagesFit shapes [] (rows ∷ images) = ⊥
+ImagesFit shapes (read ∷ reads) [] = ⊥
+ImagesFit shapes (read ∷ reads) (rows ∷ images) = AreKept (shape_of read.0 shapes) rows × ImagesFit shapes reads images
+
+-- the statement is bound to this query, which is answered or assigned
+abbrev pub IsOfQuery : BoundQuery → Bound → Type 0
+IsOfQuery query (bound.Query of) = of ≡ query
+IsOfQuery query (bound.Assign of places) = of ≡ query
+IsOfQuery query of = ⊥
+
+-- the query answers this on images that fit, with variables and values of the session that are of their types
+pub record IsAnswer (around : Around) (p : SessionProgress) (shapes : List TableTree) (query : BoundQuery) (rows : Rows) : Type 0 where
+  pub images : List Rows
+  pub fit : (shapes ≡ [] → ⊥) → ImagesFit shapes (query_reads query) images
+  pub none : shapes ≡ [] → images ≡ []
+  pub vars : All HasItsType p.vars
+  pub system : AreOf system_kinds (system_in around p)
+  pub answers : Ans (values_of p.vars) (system_in around p) query images ≡ Ok rows
+
+-- a query that a SELECT is bound to
+abbrev pub IsSelect : Statement → Type 0
+IsSelect statement = IsSelectForm (form_of statement)
+
+-- ---- what is asked
+
+-- a row is put
+abbrev pub IsInsertion : Op → Type 0
+IsInsertion (Insert table key row) = Unit {0}
+IsInsertion op = ⊥
+
+-- ---- writes that are taken back
+
+-- the mark to which changes were taken back, if they were
+abbrev pub mark_back : Option ℕ → Result Written Refusal → Option ℕ
+mark_back mark (Ok (written.Done made)) = None
+mark_back mark (Ok (written.Refused number name)) = mark
+mark_back mark (Err refusal) = mark
+
+abbrev pub taken_back : Attempt → Option ℕ
+taken_back attempt = mark_back attempt.mark attempt.came

@@ -1,0 +1,190 @@
+//! How names are looked up in `objects`.
+
+ghost use Rattle.std.specs.Prelude.{◌≡◌, [], true, false, Ok, IfOk, IsTrue};
+ghost use Rattle.lock_modes.specs.declared.KeyPart.TheVariants.{S};
+ghost use Rattle.step_model.specs.declared.op.Hold.TheVariants as hold;
+ghost use Rattle.step_model.specs.declared.op.Op.TheVariants as ops;
+ghost use Rattle.step_model.specs.declared.range.Start.TheVariants.{At};
+ghost use Rattle.step_model.specs.declared.range.Stop.TheVariants.{Within};
+ghost use Rattle.batch_meaning.specs.Doing.{Did, asks};
+ghost use Rattle.batch_meaning.specs.Asking.{unless_refused, is_table, known, look_up, looks_up, with_found};
+ghost use Rattle.batch_meaning.specs.Working.{asks_any};
+ghost use Rattle.batch_meaning.specs.Progress.{Ready};
+ghost use Rattle.constraint_check.specs.Reads.{rows_table};
+ghost use Rattle.dml_exec.specs.Asking.{seen};
+ghost use Rattle.catalog_rows.specs.Definitions.{objects_name, object_key};
+ghost use Rattle.statement_exec.specs.Fetched.{IsFetch};
+ghost use Rattle.statement_exec.specs.Selected.{IsDefined};
+
+use batch_meaning::Failure;
+use catalog_rows::{definition_in, is_objects, object_key};
+use lock_modes::KeyPart;
+use session_state::{DEADLOCK, LOCK_TIMEOUT, NO_MEMORY, SessionState};
+use std::alloc::Global;
+use step_model::{Hold, Op, Port, Reply, Start, Stop};
+use tsql_tree::Definition;
+use value_types::{Key, Memory, Row, TableName, Units};
+
+/// What names are defined as, one after another, up to the first that is no table's.
+pub(crate) fn look_up_all<P: Port>(
+    alloc: Global,
+    session: &mut SessionState,
+    port: &mut P,
+    names: &[Units],
+) -> Result<Vec<Definition>, Failure>
+    requires ready { Ready session.old (P.past port.old) }
+    requires begun { asks_any names.now ≡ true → session.old.is_open ≡ true }
+    ensures does { Did (P.past port.old) (P.past port.new) (looks_up [] names.now) session.old (Ok (seen result)) session.new }
+    ensures ready { Ready session.new (P.past port.new) }
+    ensures kept { session.new.is_open ≡ session.old.is_open }
+    ensures vars { session.new.vars ≡ session.old.vars }
+    ensures none { asks_any names.now ≡ false → IfOk result (λ definitions. definitions.items ≡ []) }
+{
+    let mut definitions = Vec::new(alloc);
+    if !asks_any(names) {
+        return Ok(definitions);
+    }
+    for name in names {
+        let found = look_up(alloc, session, port, name)?;
+        if !is_table(&found) {
+            return Ok(definitions);
+        }
+        if !add(&mut definitions, found) {
+            return Err(Failure::plain(NO_MEMORY));
+        }
+    }
+    Ok(definitions)
+}
+
+/// Whether something is asked where these names are looked up: the first is.
+pub(crate) fn asks_any(names: &[Units]) -> bool
+    ensures { result ≡ asks_any names.now }
+{
+    match names {
+        [name, ..] => !is_objects(name),
+        [] => false,
+    }
+}
+
+/// Whether what was found is a table.
+fn is_table(found: &Option<Definition>) -> bool
+    ensures { result ≡ is_table found.now }
+{
+    matches!(found, Some(Definition::Table(_)))
+}
+
+/// Adds a definition, where there is one. Whether there was memory for it.
+pub(crate) fn add(definitions: &mut Vec<Definition>, found: Option<Definition>) -> bool
+    ensures { IsTrue result → definitions.new.items ≡ with_found definitions.old.items found }
+{
+    match found {
+        Some(definition) => definitions.push(definition).is_ok(),
+        None => true,
+    }
+}
+
+/// What a name is defined as; `objects` is no table of a batch, and nothing is asked of it.
+pub(crate) fn look_up<P: Port>(
+    alloc: Global,
+    session: &mut SessionState,
+    port: &mut P,
+    name: &Units,
+) -> Result<Option<Definition>, Failure>
+    requires ready { Ready session.old (P.past port.old) }
+    requires begun { session.old.is_open ≡ true }
+    ensures does { Did (P.past port.old) (P.past port.new) (look_up name.now) session.old (Ok result) session.new }
+    ensures ready { Ready session.new (P.past port.new) }
+    ensures begun { session.new.is_open ≡ true }
+    ensures vars { session.new.vars ≡ session.old.vars }
+{
+    if is_objects(name) {
+        return Ok(None);
+    }
+    match object_range(alloc, name) {
+        Ok((table, start, stop)) => find(alloc, session, port, table, start, stop),
+        Err(_) => Err(Failure::plain(NO_MEMORY)),
+    }
+}
+
+/// What stands in a range of one key.
+fn find<P: Port>(
+    alloc: Global,
+    session: &mut SessionState,
+    port: &mut P,
+    table: TableName,
+    start: Key,
+    stop: Key,
+) -> Result<Option<Definition>, Failure>
+    requires ready { Ready session.old (P.past port.old) }
+    requires begun { session.old.is_open ≡ true }
+    ensures does { Did (P.past port.old) (P.past port.new) (asks (ops.Fetch table (At start) (Within stop) hold.Range S) (unless_refused known)) session.old (Ok result) session.new }
+    ensures ready { Ready session.new (P.past port.new) }
+    ensures begun { session.new.is_open ≡ true }
+    ensures vars { session.new.vars ≡ session.old.vars }
+{
+    let fetch = Op::Fetch {
+        table,
+        start: Start::At(start),
+        stop: Stop::Within(stop),
+        hold: Hold::Range,
+        part: KeyPart::S,
+    };
+    fetch_defined(alloc, session, port, &fetch)
+}
+
+/// What the row of a fetch defines, if it gives one.
+fn fetch_defined<P: Port>(
+    alloc: Global,
+    session: &mut SessionState,
+    port: &mut P,
+    fetch: &Op,
+) -> Result<Option<Definition>, Failure>
+    requires ready { Ready session.old (P.past port.old) }
+    requires begun { session.old.is_open ≡ true }
+    requires fetch { IsFetch fetch.now }
+    ensures does { Did (P.past port.old) (P.past port.new) (asks fetch.now (unless_refused known)) session.old (Ok result) session.new }
+    ensures ready { Ready session.new (P.past port.new) }
+    ensures begun { session.new.is_open ≡ true }
+    ensures vars { session.new.vars ≡ session.old.vars }
+{
+    match session.ask(port, fetch) {
+        Reply::Row { row, .. } => defined(alloc, &row),
+        Reply::Gone { .. } => Ok(None),
+        Reply::End { .. } => Ok(None),
+        Reply::Memory => Err(Failure::plain(NO_MEMORY)),
+        Reply::TimedOut { .. } => Err(Failure::plain(LOCK_TIMEOUT)),
+        Reply::Victim { .. } => Err(Failure::plain(DEADLOCK)),
+        _ => unreachable!(),
+    }
+}
+
+/// What a row of `objects` defines.
+pub(crate) fn defined(alloc: Global, row: &Row) -> Result<Option<Definition>, Failure>
+    ensures { IsDefined row.now result }
+{
+    match definition_in(alloc, row) {
+        Ok(found) => Ok(found),
+        Err(_) => Err(Failure::plain(NO_MEMORY)),
+    }
+}
+
+/// The table of definitions, and twice a definition's key.
+fn object_range(alloc: Global, name: &Units) -> Result<(TableName, Key, Key), Memory>
+    ensures { IfOk result (λ range. range ≡ (rows_table objects_name, object_key name.now, object_key name.now)) }
+{
+    Ok((
+        objects(alloc)?,
+        object_key(alloc, name)?,
+        object_key(alloc, name)?,
+    ))
+}
+
+/// The table that has the definitions.
+pub(crate) fn objects(alloc: Global) -> Result<TableName, Memory>
+    ensures { IfOk result (λ table. table ≡ rows_table objects_name) }
+{
+    Ok(TableName {
+        object: Units::of_ascii(alloc, b"objects")?,
+        part: 0,
+    })
+}

@@ -1,0 +1,99 @@
+//! How a statement is bound, over what its names are defined as.
+
+ghost use Rattle.std.specs.Prelude.{◌≡◌, [], true, Ok, IfOk};
+ghost use Rattle.binder.specs.Names.{looked_up};
+ghost use Rattle.catalog_rows.specs.Definitions.{tables_of as tables_defined};
+ghost use Rattle.batch_meaning.specs.Doing.{Did};
+ghost use Rattle.batch_meaning.specs.Progress.{Ready};
+ghost use Rattle.batch_meaning.specs.Selecting.{bound_over};
+ghost use Rattle.batch_meaning.specs.Working.{asks_any, prepares};
+ghost use Rattle.statement_exec.specs.Selected.{IsBoundFirst, IsBoundOver};
+ghost use Rattle.session_state.specs.Parts.{IsOrMemory};
+
+use crate::discard::discard;
+use crate::look_up::look_up_all;
+use batch_meaning::Failure;
+use binder::bind;
+use bound_tree::Bound;
+use catalog_rows::tables_of;
+use session_state::{SessionState, no_memory, unbound_by};
+use session_vars::Vars;
+use sqlite_items::Items;
+use std::alloc::Global;
+use step_model::Port;
+use tsql_tree::{Definition, Statement, TableTree};
+use value_types::Units;
+
+/// The tables that a statement names, and what it is bound to over them.
+pub(crate) fn prepare<P: Port>(
+    alloc: Global,
+    session: &mut SessionState,
+    port: &mut P,
+    statement: &Statement,
+    names: &[Units],
+) -> Result<(Items<TableTree>, Bound), Failure>
+    requires ready { Ready session.old (P.past port.old) }
+    requires begun { asks_any names.now ≡ true → session.old.is_open ≡ true }
+    requires names { names.now ≡ looked_up statement.now }
+    ensures does { Did (P.past port.old) (P.past port.new) (prepares statement.now) session.old (Ok result) session.new }
+    ensures ready { Ready session.new (P.past port.new) }
+    ensures kept { session.new.is_open ≡ session.old.is_open }
+    ensures vars { session.new.vars ≡ session.old.vars }
+    ensures begun { IfOk result (λ made. (made.0 ≡ [] → ⊥) → session.new.is_open ≡ true) }
+    ensures bound { IfOk result (λ made. IsBoundOver made.0 session.old.vars statement.now made.1) }
+{
+    let definitions = look_up_all(alloc, session, port, names)?;
+    match bound_over(alloc, statement, definitions.as_slice(), session.vars()) {
+        Ok(of) => shaped(alloc, definitions, of),
+        Err(failure) => Err(failure),
+    }
+}
+
+/// A statement on transactions is bound, over no definitions; it names nothing that is looked up.
+pub fn bind_first(
+    alloc: Global,
+    session: &SessionState,
+    statement: &Statement,
+) -> Result<(), Failure>
+    ensures { IsBoundFirst session.now statement.now result }
+{
+    match bound_over(alloc, statement, &[], session.vars()) {
+        Ok(of) => {
+            discard(of);
+            Ok(())
+        }
+        Err(failure) => Err(failure),
+    }
+}
+
+/// What a statement is bound to, over definitions and variables.
+pub(crate) fn bound_over(
+    alloc: Global,
+    statement: &Statement,
+    definitions: &[Definition],
+    vars: &Vars,
+) -> Result<Bound, Failure>
+    ensures { IsOrMemory (bound_over definitions.now vars.now statement.now) result }
+{
+    match bind(alloc, statement, definitions, vars) {
+        Ok(of) => Ok(of),
+        Err(fault) => Err(unbound_by(fault)),
+    }
+}
+
+/// The tables among definitions, beside what is bound over them.
+fn shaped(
+    alloc: Global,
+    definitions: Vec<Definition>,
+    of: Bound,
+) -> Result<(Items<TableTree>, Bound), Failure>
+    ensures { IsOrMemory (Ok (tables_defined definitions.items, of)) result }
+{
+    match tables_of(alloc, definitions) {
+        Ok(shapes) => Ok((Items::from_vec(shapes), of)),
+        Err(_) => {
+            discard(of);
+            Err(no_memory())
+        }
+    }
+}
