@@ -2,11 +2,12 @@
 """Runs files of rows against the built server, from outside, and prints what differs.
 
   tools/rows.py FILE..                each conversation by a run of `BIN pipe` of its own
-  tools/rows.py --port 1433 FILE..    each conversation over a socket of this machine
+  tools/rows.py --port 1433 FILE..    each conversation over a socket of this machine, one of two sessions over two
   tools/rows.py --batch 'SELECT 1'    prints the lines of the reply to a batch
 
 docs/ROWS.md has the form of the files. What only the inside of the server sees is passed over: other
-sessions than the first, and the settings `again`, `messages` and `tokens`.
+sessions than the first, and the settings `again`, `messages` and `tokens`. So is what two sessions say, where there
+is no port.
 """
 import argparse
 import os
@@ -15,6 +16,8 @@ import socket
 import struct
 import subprocess
 import sys
+
+import listen
 
 ALL_HEADERS = bytes.fromhex("16000000120000000200000000000000000001000000")
 INTEGERS = {1: ("TINYINT", "<B"), 2: ("SMALLINT", "<h"), 4: ("INT", "<i"), 8: ("BIGINT", "<q")}
@@ -106,8 +109,8 @@ def bytes_of(names, line):
 
 
 class Step:
-    def __init__(self, number, text=None, data=b""):
-        self.number, self.text, self.data, self.wanted = number, text, data, []
+    def __init__(self, number, text=None, data=b"", is_second=False):
+        self.number, self.text, self.data, self.wanted, self.is_second = number, text, data, [], is_second
 
     def sent(self):
         return self.data if self.text is None else batch(self.text)
@@ -116,6 +119,9 @@ class Step:
 class Conversation:
     def __init__(self, number, title, settings):
         self.number, self.title, self.settings, self.steps, self.end = number, title, dict(settings), [], "Closed"
+
+    def is_of_two(self):
+        return any(step.is_second for step in self.steps)
 
     def is_inside(self):
         inside = {"again", "messages", "tokens"} & set(self.settings)
@@ -158,8 +164,8 @@ class Book:
             self.settings[word] = value
             if not self.is_table:
                 self.conversations[-1].settings[word] = value
-        elif mark == ">":
-            self.conversations[-1].steps.append(Step(number, text=rest))
+        elif mark in (">", "2>"):
+            self.conversations[-1].steps.append(Step(number, text=rest, is_second=mark == "2>"))
         elif mark == ">>":
             self.conversations[-1].steps.append(Step(number, data=bytes_of(self.names, rest)))
         elif mark == "?":
@@ -345,8 +351,57 @@ def run(said, settings, data):
     return ran.stdout, ran.returncode
 
 
+def link_to(said):
+    """A connection to the port, logged in where that is asked for."""
+    link = socket.create_connection((said.host, said.port), 30)
+    if said.login:
+        link.sendall(listen.packet(0x10, listen.login7()))
+        replies_of(whole_reply(link))
+    return link
+
+
+def whole_reply(link):
+    """The packets of one message, which came on a connection."""
+    data, is_last = b"", False
+    while not is_last:
+        header = exactly(link, 8)
+        _kind, status, length = struct.unpack(">BBH", header[:4])
+        data += header + exactly(link, length - 8)
+        is_last = bool(status & 1)
+    return data
+
+
+def exactly(link, count):
+    data = b""
+    while len(data) < count:
+        more = link.recv(count - len(data))
+        if not more:
+            raise Unread("the server has closed the connection")
+        data += more
+    return data
+
+
+def differences_of_two(said, conversation):
+    """The same of two sessions, each with a connection. A batch is sent when the one before it is answered."""
+    links = [link_to(said), link_to(said)]
+    try:
+        for step in conversation.steps:
+            link = links[step.is_second]
+            link.sendall(step.sent())
+            ((_whole, payload),) = replies_of(whole_reply(link))
+            given = Tokens(payload).lines()
+            if given != step.wanted:
+                yield step.number, step.wanted, given
+    finally:
+        for link in links:
+            link.close()
+
+
 def differences(said, conversation):
     """The lines that differ, each as line number, wanted and given."""
+    if conversation.is_of_two():
+        yield from differences_of_two(said, conversation)
+        return
     data = b"".join(step.sent() for step in conversation.steps)
     written, status = run(said, conversation.settings, data)
     replies = replies_of(written)
@@ -372,8 +427,9 @@ def run_files(said):
     for path in said.files:
         agree = passed = differ = 0
         for conversation in Book(path).conversations:
-            is_other = said.port and ("login" in conversation.settings) != bool(said.login)
-            if conversation.is_inside() or is_other:
+            is_of_two = conversation.is_of_two()
+            is_other = said.port and ("login" in conversation.settings) != bool(said.login) and not is_of_two
+            if conversation.is_inside() or is_other or (is_of_two and not said.port):
                 passed += 1
                 continue
             try:

@@ -39,6 +39,11 @@ pub(crate) struct Settings<'a> {
 }
 
 impl Settings<'_> {
+    /// Whether they say nothing that is of one connection alone.
+    fn suit_two(&self) -> bool {
+        self.manner == Manner::Served && self.login.is_none() && !self.cuts && !self.again
+    }
+
     /// A bare connection of session 1 over a new desk.
     fn new() -> Settings<'static> {
         Settings {
@@ -86,6 +91,8 @@ pub(crate) enum Input {
 #[derive(Drop)]
 pub(crate) struct Step<'a> {
     pub(crate) line: usize,
+    /// Whether the second of two sessions sends it.
+    pub(crate) is_second: bool,
     pub(crate) input: Input,
     pub(crate) wanted: Vec<WantedLine<'a>>,
 }
@@ -113,6 +120,13 @@ pub(crate) struct Conversation<'a> {
     /// How it ends, and the line that says so.
     pub(crate) end: &'a str,
     pub(crate) end_line: usize,
+}
+
+impl Conversation<'_> {
+    /// Whether two sessions hold it.
+    pub(crate) fn is_of_two(&self) -> bool {
+        self.steps.iter().any(|step| step.is_second)
+    }
 }
 
 /// Lines that have a name.
@@ -167,7 +181,8 @@ impl<'a> Book<'a> {
             "#" => self.begin_conversation(number, Settings::new()),
             "##" => self.begin_table(),
             "=" => self.set(rest),
-            ">" => self.send_text(number, rest),
+            ">" => self.send_text(number, rest, false),
+            "2>" => self.send_by_second(number, rest),
             ">>" => self.send_items(number, rest),
             "|" => self.go_on(rest),
             "?" => self.hold_row(number, rest),
@@ -257,23 +272,32 @@ impl<'a> Book<'a> {
     }
 
     /// Sends a text.
-    fn send_text(&mut self, number: usize, text: &str) -> Result<(), RowFault> {
+    fn send_text(&mut self, number: usize, text: &str, is_second: bool) -> Result<(), RowFault> {
         let text = text.to_string(self.alloc)?;
-        self.send(number, Input::Text(text))
+        self.send(number, is_second, Input::Text(text))
+    }
+
+    /// Sends a text by the second of two sessions.
+    fn send_by_second(&mut self, number: usize, text: &str) -> Result<(), RowFault> {
+        if !self.settings.suit_two() {
+            return Err(RowFault::Unread("two sessions have no such settings"));
+        }
+        self.send_text(number, text, true)
     }
 
     /// Sends bytes.
     fn send_items(&mut self, number: usize, items: &'a str) -> Result<(), RowFault> {
         let bytes = self.items(items)?;
-        self.send(number, Input::Bytes(bytes))
+        self.send(number, false, Input::Bytes(bytes))
     }
 
-    fn send(&mut self, number: usize, input: Input) -> Result<(), RowFault> {
+    fn send(&mut self, number: usize, is_second: bool, input: Input) -> Result<(), RowFault> {
         let Some(last) = self.conversations.last_mut() else {
             return Err(RowFault::Unread("a conversation begins with: # TITLE"));
         };
         last.steps.push(Step {
             line: number,
+            is_second,
             input,
             wanted: Vec::new(self.alloc),
         })?;

@@ -4,9 +4,11 @@ use crate::book::{Conversation, Manner, Settings, Step, Want, WantedLine};
 use crate::desk::Desk;
 use crate::fault::RowFault;
 use crate::items::units_of_text;
+use crate::two_ports::hold_both;
 use outside_io::MemorySource;
 use std::alloc::Global;
 use std::fmt::Write;
+use std::sync::Wait;
 use tds_login::{Config, Entry, read_login};
 use tds_packets::{Message, MessageFault, Reader};
 use tds_tokens::{Token, TokenFault, read_tokens, write_tokens};
@@ -49,8 +51,24 @@ impl Differences {
         self.add(line, wanted, given)
     }
 
+    /// Compares how a connection ends.
+    pub(crate) fn compare_end(
+        &mut self,
+        line: usize,
+        wanted: &str,
+        given: &str,
+    ) -> Result<(), RowFault> {
+        let wanted = format!(in self.alloc; "END {wanted}")?;
+        let given = format!(in self.alloc; "END {given}")?;
+        self.compare(line, &wanted, &given)
+    }
+
     /// Compares the tokens that are given with those that are wanted, up to the first that differs.
-    fn compare_tokens(&mut self, step: &Step<'_>, given: &[String]) -> Result<(), RowFault> {
+    pub(crate) fn compare_tokens(
+        &mut self,
+        step: &Step<'_>,
+        given: &[String],
+    ) -> Result<(), RowFault> {
         let mut given = given.iter();
         let mut last = step.line;
         for wanted in &step.wanted {
@@ -247,8 +265,9 @@ struct Front<'a> {
 }
 
 /// Holds conversations in order, and says what differs.
-pub(crate) fn hold_all(
+pub(crate) fn hold_all<R: Wait>(
     alloc: Global,
+    rt: &R,
     conversations: &[Conversation<'_>],
 ) -> Result<Differences, RowFault> {
     let mut differences = Differences {
@@ -257,6 +276,10 @@ pub(crate) fn hold_all(
     };
     let mut desk = Desk::new(alloc, 1);
     for conversation in conversations {
+        if conversation.is_of_two() {
+            hold_both(alloc, rt, &mut differences, conversation)?;
+            continue;
+        }
         if !conversation.settings.again {
             desk = Desk::new(alloc, conversation.settings.session);
         }
@@ -343,10 +366,7 @@ fn hold(
         Manner::Messages => read(alloc, differences, &conversation.settings, steps, bytes)?,
         Manner::Tokens => return spell(alloc, differences, steps),
     };
-    let end = front.end;
-    let wanted = format!(in alloc; "END {end}")?;
-    let given = format!(in alloc; "END {given}")?;
-    differences.compare(conversation.end_line, &wanted, &given)
+    differences.compare_end(conversation.end_line, front.end, &given)
 }
 
 /// Serves a connection, and says how it ends.

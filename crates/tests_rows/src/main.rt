@@ -10,6 +10,7 @@ mod desk;
 mod fault;
 mod holding;
 mod items;
+mod two_ports;
 
 use book::Book;
 use fault::RowFault;
@@ -18,6 +19,7 @@ use std::alloc::Global;
 use std::env::{self, Env};
 use std::process::ExitCode;
 use std::rt::Files;
+use std::sync::Wait;
 use std::{fs, io};
 
 /// Some row does not agree.
@@ -37,7 +39,7 @@ fn main(rt: HostRuntime) -> ExitCode {
 }
 
 /// Tries all files, and gives the highest of their statuses.
-fn try_files(rt: &(impl Env + Files + Print + AllocGlobal)) -> io::Result<u8> {
+fn try_files(rt: &(impl Env + Files + Print + AllocGlobal + Wait)) -> io::Result<u8> {
     let mut status = 0;
     let mut is_named = false;
     for name in env::args(rt)?.skip(1) {
@@ -53,7 +55,7 @@ fn try_files(rt: &(impl Env + Files + Print + AllocGlobal)) -> io::Result<u8> {
 }
 
 /// Tries a file, prints what came of it, and gives its status.
-fn try_file(rt: &(impl Files + Print + AllocGlobal), name: &str) -> io::Result<u8> {
+fn try_file(rt: &(impl Files + Print + AllocGlobal + Wait), name: &str) -> io::Result<u8> {
     let text = match fs::read_to_string(rt, name) {
         Ok(text) => text,
         Err(error) => {
@@ -61,7 +63,7 @@ fn try_file(rt: &(impl Files + Print + AllocGlobal), name: &str) -> io::Result<u
             return Ok(UNREAD);
         }
     };
-    match agreement_of(rt.alloc(), &text) {
+    match agreement_of(rt, rt.alloc(), &text) {
         Ok(Agreement { rows, differences }) if differences.is_empty() => {
             println!(rt; "{name}: {rows} rows agree")?;
             Ok(0)
@@ -99,7 +101,7 @@ struct Unreadable {
 }
 
 /// Reads a file's lines and holds its conversations.
-fn agreement_of(alloc: Global, text: &str) -> Result<Agreement, Unreadable> {
+fn agreement_of<R: Wait>(rt: &R, alloc: Global, text: &str) -> Result<Agreement, Unreadable> {
     let mut book = Book::new(alloc);
     for (place, line) in text.lines().enumerate() {
         let line_number = place.saturating_add(1);
@@ -110,7 +112,7 @@ fn agreement_of(alloc: Global, text: &str) -> Result<Agreement, Unreadable> {
             });
         }
     }
-    match hold_all(alloc, &book.conversations) {
+    match hold_all(alloc, rt, &book.conversations) {
         Ok(differences) => Ok(Agreement {
             rows: book.rows(),
             differences: differences.list,
