@@ -18,17 +18,15 @@ const TABLE: &str = "CREATE TABLE t (k INT NOT NULL PRIMARY KEY)";
 /// The reply to `SELECT 1`.
 pub(crate) const ONE: &str = "COL( INT)\nROW(1)\nDONE(11,C1,1)\nDONE(00,0,0)\n";
 
-/// The reply to a batch that says nothing but that it has ended.
-const NOTHING: &str = "DONE(00,0,0)\n";
-
 /// The reply to `SELECT k FROM t` where it has no row.
 const NO_ROW: &str = "COL(k INT)\nDONE(11,C1,0)\nDONE(00,0,0)\n";
 
 /// And where it has 1.
 const ROW: &str = "COL(k INT)\nROW(1)\nDONE(11,C1,1)\nDONE(00,0,0)\n";
 
-/// The reply to an `INSERT` of one row.
-const INSERTED: &str = "DONE(11,C3,1)\nDONE(00,0,0)\n";
+/// The replies to an `INSERT` of one row behind the `BEGIN TRAN` of its batch, and to a `COMMIT`.
+const INSERTED_AND_COMMITTED: &str =
+    "ENVCHANGE 8 with 1\nDONE(11,C3,1)\nDONE(00,0,0)\nENVCHANGE 9 with 1\nDONE(00,0,0)\n";
 
 /// Client and server agree that the client is logged in from the beginning.
 pub(crate) fn bare(alloc: Global) -> Config {
@@ -149,8 +147,10 @@ fn no_lock_stands_round_a_transaction(rt: HostRuntime) -> Result<(), Fail> {
     )?;
     let (tally, kept) = served(&rt, alloc, &before, &floor)?;
     assert_eq!(rt; tally, BOTH);
-    let first = format!(in alloc; "ENVCHANGE 8 with 1\n{INSERTED}ENVCHANGE 9 with 1\n{NOTHING}")?;
-    assert_eq!(rt; said(alloc, &kept, 0), Some(first));
+    assert_eq!(rt;
+        said(alloc, &kept, 0),
+        Some(String::from_str(alloc, INSERTED_AND_COMMITTED)?)
+    );
     let second = said(alloc, &kept, 1);
     let with_row = Some(format!(in alloc; "{ONE}{ROW}")?);
     assert!(rt; second == with_row || second == Some(format!(in alloc; "{ONE}{NO_ROW}")?));
@@ -173,6 +173,10 @@ fn an_answer_comes_before_another_ones_commit(rt: HostRuntime) -> Result<(), Fai
     )?;
     let (tally, kept) = served(&rt, alloc, &before, &floor)?;
     assert_eq!(rt; tally, BOTH);
+    assert_eq!(rt;
+        said(alloc, &kept, 0),
+        Some(String::from_str(alloc, INSERTED_AND_COMMITTED)?)
+    );
     assert_eq!(rt; said(alloc, &kept, 1), Some(String::from_str(alloc, ONE)?));
     Ok(())
 }
