@@ -2,8 +2,7 @@
 use Rattle.std.proofs.Common.{◌≡◌, ℕ, ℤ, Bool, true, false, List, [], ◌∷◌, Result, Ok, Err, nat_eq, refl, sym, ap, ◌∙◌, subst, if◌then◌else◌}
 use Rattle.std.specs.Prelude.{IfErr, IfOk}
 use Rattle.value_types.specs.declared.memory.Memory.{Memory}
-use Rattle.tsql_tree.specs.declared.statement.Statement.{Statement}
-use Rattle.binder.specs.Names.{Layer, form_of}
+use Rattle.binder.specs.Names.{Layer}
 use Rattle.step_model.specs.Exchange.{IsPriority}
 use Rattle.step_model.specs.Port.{PortPast}
 use Rattle.txn_rules.specs.declared.savepoints.Savepoint.{Savepoint}
@@ -13,10 +12,10 @@ use Rattle.batch_meaning.specs.declared.exit.Exit.{Exit}
 use Rattle.batch_meaning.specs.declared.exit.Exit.TheVariants.{End}
 use Rattle.batch_meaning.specs.declared.raised.Raised.{Raised}
 use Rattle.batch_meaning.specs.Raised.{Around, action_in, is_caught_in}
-use Rattle.batch_meaning.specs.Tokens.{command_of}
+use Rattle.batch_meaning.specs.Tokens.{done_kind}
 use Rattle.batch_meaning.specs.Progress.{AreLive, Ready, SessionProgress, made, sends, tells_error, tells_rows}
 use Rattle.batch_meaning.specs.Doing.{Did, makes, over, Doing}
-use Rattle.batch_meaning.specs.Meaning.{caught_as, leaves_rows, line_of, or_full, raises, strikes, told_as, counted, sends_some}
+use Rattle.batch_meaning.specs.Meaning.{caught_as, leaves_rows, or_full, raises_at, strikes, told_as, counted, sends_some}
 use Rattle.batch_meaning.specs.Values.{Assigned}
 use Rattle.session_state.specs.Parts.{assigned_all, Stepped}
 use Rattle.batch_exec.specs.Running.{sent_some}
@@ -24,11 +23,11 @@ use Rattle.session_state.proofs.Stepping.{assigned_only, stepped_makes}
 use Rattle.batch_meaning.proofs.Composed.{does_makes, does_out, does_over, does_reads}
 
 -- an error is raised: this is what is told of it
-pub does_raises : {before after : PortPast} (around : Around) (statement : Statement) (raised told : Raised) {p q new : SessionProgress} {result : Result Exit Memory} → told ≡ or_full around p (command_of (form_of statement)) (line_of statement) raised → q ≡ made (tells_error told.number) p
-    → Did before after (if is_caught_in around told then caught_as (action_in around p.settings.xact_abort told) told else told_as (action_in around p.settings.xact_abort told) (command_of (form_of statement)) told) q result new → Did before after (raises around statement raised) p result new
-unfolding raises
-does_raises {before = before} {after = after} around statement raised told {p = p} {new = new} {result = result} is same did =
-    does_reads (subst (λ (r : Raised). Did before after (strikes around p.settings.xact_abort (command_of (form_of statement)) r) p result new) is (does_makes same did))
+pub does_raises : {before after : PortPast} (around : Around) (line : ℤ) (command : ℕ) (raised told : Raised) {p q new : SessionProgress} {result : Result Exit Memory} → told ≡ or_full around p command line raised → q ≡ made (tells_error told.number) p
+    → Did before after (if is_caught_in around told then caught_as (action_in around p.settings.xact_abort told) told else told_as (done_kind around) (action_in around p.settings.xact_abort told) command told) q result new → Did before after (raises_at around line command raised) p result new
+unfolding raises_at
+does_raises {before = before} {after = after} around line command raised told {p = p} {new = new} {result = result} is same did =
+    does_reads (subst (λ (r : Raised). Did before after (strikes around p.settings.xact_abort command r) p result new) is (does_makes same did))
 
 -- tokens are sent, and it ends; or memory was wanting for them
 pub does_refused : {past : PortPast} (tokens : List Token) {p new : SessionProgress} (result : Result Exit Memory) → IfOk result (λ exit. (exit ≡ End) × (new ≡ made (sends tokens) p)) → IfErr result (λ _. new ≡ p) → Did past past (makes (sends tokens) (over End)) p result new
@@ -96,3 +95,18 @@ ready_caught {past = past} number p q r ready told opened saves count settings =
       counted = λ is. same_open ∙ ready.counted (sym (ap (λ (n : ℕ). nat_eq n 0) same_count) ∙ is);
       idle = λ is. same_saves ∙ ready.idle (sym (ap (λ (n : ℕ). nat_eq n 0) same_count) ∙ is);
     }
+
+-- ---- what tells an error, and no more
+
+pub ready_told : {past : PortPast} (number : ℤ) (p q : SessionProgress) → Ready p past → q ≡ made (tells_error number) p → Ready q past
+ready_told {past = past} number p q ready told = subst (λ (x : SessionProgress). Ready x past) (sym told) (record { agree = ready.agree; live = ready.live; priority = ready.priority; counted = ready.counted; idle = ready.idle })
+
+-- where what it stands on is the same
+pub ready_same : {past : PortPast} (p r : SessionProgress) → Ready p past → r.is_open ≡ p.is_open → r.txn.saves ≡ p.txn.saves → r.txn.count ≡ p.txn.count → r.settings ≡ p.settings → Ready r past
+ready_same {past = past} p r ready same_open same_saves same_count same_settings = record {
+  agree = same_open ∙ ready.agree;
+  live = subst (λ (points : List Savepoint). AreLive points past.standing.marks) (sym same_saves) ready.live;
+  priority = subst (λ (s : Settings). IsPriority s.manner.priority) (sym same_settings) ready.priority;
+  counted = λ is. same_open ∙ ready.counted (sym (ap (λ (n : ℕ). nat_eq n 0) same_count) ∙ is);
+  idle = λ is. same_saves ∙ ready.idle (sym (ap (λ (n : ℕ). nat_eq n 0) same_count) ∙ is);
+}

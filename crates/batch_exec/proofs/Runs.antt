@@ -7,11 +7,12 @@ use Rattle.tsql_tree.specs.declared.statement.Form.{Form-F}
 use Rattle.tsql_tree.specs.declared.statement.Statement.{Statement}
 use Rattle.binder.specs.Names.{Layer, form_of}
 use Rattle.std.specs.Result.{IsErr}
+use Rattle.session_vars.specs.declared.Variable.{Variable}
 use Rattle.step_model.specs.Exchange.{Exchange}
 use Rattle.step_model.specs.Port.{PortPast}
 use Rattle.step_model.proofs.Pasts.{goes_further}
 use Rattle.batch_meaning.specs.declared.exit.Exit.{Exit}
-use Rattle.batch_meaning.specs.declared.exit.Exit.TheVariants.{On, Leave, Again, Return, Raise, End}
+use Rattle.batch_meaning.specs.declared.exit.Exit.TheVariants.{On, Leave, Again, Return, Raise, RaiseUp, End}
 use Rattle.batch_meaning.specs.declared.raised.Raised.{Raised}
 use Rattle.batch_meaning.specs.Raised.{Around}
 use Rattle.batch_meaning.specs.Failures.{plain}
@@ -20,7 +21,7 @@ use Rattle.batch_meaning.specs.Selecting.{Effect, no_effect}
 use Rattle.batch_meaning.specs.declared.settings.Settings.{Settings}
 use Rattle.batch_meaning.specs.Settings.{set_option}
 use Rattle.batch_meaning.specs.Working.{tests}
-use Rattle.batch_meaning.specs.Progress.{SessionProgress, made, counts, sets, tells_error}
+use Rattle.batch_meaning.specs.Progress.{SessionProgress, made, counts, sets, stands_with, tells_error}
 use Rattle.batch_meaning.specs.Doing.{Doing, over, makes, ◌then◌, Came, Did, Leads}
 use Rattle.batch_meaning.specs.Meaning.{Meaning, concluded, concludes, decides, does, doomed_write, each_of, fails_for, goes_on, handled, is_refused_doomed, mean_by, mean_form, mean_of, set_by, sets_option, spends, succeeds, turned, turns, turns_again}
 use Rattle.batch_meaning.proofs.Composed.{does_over, does_reads, does_makes, does_then, does_yes, does_no, leads_here, leads_then, leads_to, leads_reads, leads_makes, leads_no}
@@ -43,8 +44,9 @@ pub goes_out : {now : PortPast} (exit : Exit) (next : Doing Exit) {p : SessionPr
 goes_out On next not = absurd (not refl)
 goes_out Leave next not = does_over refl
 goes_out Again next not = does_over refl
-goes_out Return next not = does_over refl
+goes_out (Return status) next not = does_over refl
 goes_out (Raise raised) next not = does_over refl
+goes_out (RaiseUp raised) next not = does_over refl
 goes_out End next not = does_over refl
 
 -- no statement is left
@@ -57,8 +59,9 @@ pub not_raised : {now : PortPast} (exit : Exit) (go : Raised → Doing Exit) {p 
 not_raised On go not = does_over refl
 not_raised Leave go not = does_over refl
 not_raised Again go not = does_over refl
-not_raised Return go not = does_over refl
+not_raised (Return status) go not = does_over refl
 not_raised (Raise raised) go not = absurd (not raised refl)
+not_raised (RaiseUp raised) go not = does_over refl
 not_raised End go not = does_over refl
 
 -- ---- levels
@@ -202,3 +205,9 @@ module _ {before after : PortPast} (around : Around) (s : Statement) (option : S
 pub left_so : {A : Type 0} {before after : PortPast} {tree : Doing A} {p new : SessionProgress} {memory : Memory} (result : Result A Memory) → IsErr result → Did before after tree p (Err memory) new → Did before after tree p result new
 left_so (Ok a) err did = absurd (let no : false ≡ true = err in cc)
 left_so (Err memory) err did = record { exchanges = did.exchanges; past = did.past; came = did.came }
+
+-- ---- bodies
+
+-- variables and settings of its own leave how many statements may begin
+pub body_left : (vars : List Variable) (settings : Settings) (p q r : SessionProgress) → q ≡ made (stands_with vars) p → r ≡ made (sets settings) q → r.statements_left ≡ p.statements_left
+body_left vars settings p q r one two = ap (λ (x : SessionProgress). x.statements_left) two ∙ ap (λ (x : SessionProgress). x.statements_left) one

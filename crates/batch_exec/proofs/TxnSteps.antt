@@ -72,13 +72,13 @@ begins_inner name p begun most = rw (begun, most) refl
 
 -- ---- ROLLBACK
 
-pub rolls_named : (given : Option (List ℕ)) (name : List ℕ) (p : SessionProgress) → given ≡ Some name → rolls_back_to given p.txn ≡ goes_back name p.txn (rollback_answer name p.txn)
+pub rolls_named : (given : Option (List ℕ)) (name : List ℕ) (p : SessionProgress) → given ≡ Some name → rolls_back_to given p ≡ goes_back name p (rollback_answer name p.txn)
 rolls_named given name p is = rw is refl
 
-pub rolls_closed : (given : Option (List ℕ)) (p : SessionProgress) → given ≡ None → is_closed p.txn ≡ true → rolls_back_to given p.txn ≡ fails nothing_open
+pub rolls_closed : (given : Option (List ℕ)) (p : SessionProgress) → given ≡ None → is_closed p.txn ≡ true → rolls_back_to given p ≡ fails nothing_open
 rolls_closed given p is shut = rw (is, shut) refl
 
-pub rolls_open : (given : Option (List ℕ)) (p : SessionProgress) → given ≡ None → is_closed p.txn ≡ false → rolls_back_to given p.txn ≡ rolls_back_whole p.txn
+pub rolls_open : (given : Option (List ℕ)) (p : SessionProgress) → given ≡ None → is_closed p.txn ≡ false → rolls_back_to given p ≡ rolls_back_whole p
 rolls_open given p is shut = rw (is, shut) refl
 
 -- a mark to which a name goes back is live

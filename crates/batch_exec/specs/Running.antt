@@ -1,20 +1,37 @@
 -- Own: what private contracts say of statements on transactions, of forms, and of loops.
-use Rattle.std.specs.Prelude.{◌≡◌, ◌⊎◌, ◌≤◌, ℕ, ℤ, nat_lt, List, [], ◌∷◌, Option, None, Some, Result, Ok, Err, if◌then◌else◌}
+use Rattle.std.specs.Prelude.{◌≡◌, ◌⊎◌, ◌≤◌, ℕ, ℤ, pos, Bool, nat_lt, List, [], ◌∷◌, Option, None, Some, Result, Ok, Err, if◌then◌else◌}
 use Rattle.value_types.specs.declared.memory.Memory.{Memory}
+use Rattle.value_types.specs.declared.value.Value.{Value}
+use Rattle.session_vars.specs.Variables.{HasItsType}
 use Rattle.tds_tokens.specs.declared.token.Token.{Token}
+use Rattle.tsql_tree.specs.declared.definition.Definition.{Definition}
+use Rattle.tsql_tree.specs.declared.definition.Definition.TheVariants.{Table, Procedure, Trigger}
+use Rattle.tsql_tree.specs.declared.definition.Parameter.{Parameter}
+use Rattle.tsql_tree.specs.declared.definition.ProcedureTree.{ProcedureTree}
+use Rattle.tsql_tree.specs.declared.statement.Argument.{Argument}
 use Rattle.tsql_tree.specs.declared.statement.Statement.{Statement}
 use Rattle.tsql_tree.specs.declared.statement.Form.{Form-F}
+use Rattle.bound_tree.specs.declared.write.Bound.{Bound}
+use Rattle.error_table.specs.declared.action.Action.{Action}
 use Rattle.binder.specs.Names.{Layer}
 use Rattle.step_model.specs.Port.{PortPast}
 use Rattle.step_model.specs.Ranges.{no_memory}
 use Rattle.batch_meaning.specs.declared.exit.Exit.{Exit}
+use Rattle.batch_meaning.specs.declared.exit.Exit.TheVariants.{End, Raise, RaiseUp, Return}
 use Rattle.batch_meaning.specs.declared.failure.Failure.{Failure}
+use Rattle.batch_meaning.specs.declared.raised.Raised.{Raised}
 use Rattle.batch_meaning.specs.Failures.{plain}
 use Rattle.batch_meaning.specs.Raised.{Around}
-use Rattle.batch_meaning.specs.Selecting.{result_full}
-use Rattle.batch_meaning.specs.Progress.{SessionProgress, made, sends, size_of}
-use Rattle.batch_meaning.specs.Doing.{Did, Doing, Leads}
-use Rattle.batch_meaning.specs.Meaning.{decides, mean_of, turns}
+use Rattle.batch_meaning.specs.Selecting.{Effect, bound_over, result_full}
+use Rattle.batch_meaning.specs.Progress.{SessionProgress, made, sends, size_of, tells_error, tells_rows}
+use Rattle.batch_meaning.specs.Doing.{Did, Doing, Leads, makes, reads}
+use Rattle.batch_meaning.specs.Asking.{◌>>=◌, comes_to, finds_by}
+use Rattle.batch_meaning.specs.Working.{known_by, works}
+use Rattle.batch_meaning.specs.Writes.{creates_table, drops}
+use Rattle.batch_meaning.specs.Calls.{Call, call_over, parameter_var}
+use Rattle.batch_meaning.specs.Cursors.{closes_cursor, declares_cursor, fetches_cursor, opens_cursor, removes_cursor}
+use Rattle.batch_meaning.specs.Transactions.{begins_transaction, commits_transaction, rolls_back_transaction, saves_transaction}
+use Rattle.batch_meaning.specs.Meaning.{decides, mean_of, turns, uneven_end}
 
 -- ---- transactions
 
@@ -34,13 +51,76 @@ abbrev pub IsWhile : Statement → Layer → Type 0
 IsWhile body (Form-F.While test held) = held ≡ body
 IsWhile body form = ⊥
 
--- one that holds no statements
+-- one that holds no statements, and runs none of a procedure or trigger
 abbrev pub IsSimple : Layer → Type 0
 IsSimple (Form-F.If test so otherwise) = ⊥
 IsSimple (Form-F.While test body) = ⊥
 IsSimple (Form-F.Block body) = ⊥
 IsSimple (Form-F.TryCatch body handler) = ⊥
+IsSimple (Form-F.Insert table columns rows) = ⊥
+IsSimple (Form-F.Update table sets filter) = ⊥
+IsSimple (Form-F.Delete table filter) = ⊥
+IsSimple (Form-F.Execute status name arguments) = ⊥
 IsSimple form = Unit {0}
+
+-- what a statement does that is done with its effect
+abbrev pub effects : Around → Statement → Layer → Doing (Result Effect Failure)
+effects around statement (Form-F.BeginTransaction name) = begins_transaction statement name
+effects around statement (Form-F.Commit name) = commits_transaction statement
+effects around statement (Form-F.Rollback name) = rolls_back_transaction statement name
+effects around statement (Form-F.Save name) = saves_transaction statement name
+effects around statement (Form-F.CreateTable table text) = creates_table around statement table.name text
+effects around statement (Form-F.Drop kind name) = drops around statement kind name
+effects around statement (Form-F.DeclareCursor name select) = declares_cursor statement name select
+effects around statement (Form-F.OpenCursor name) = opens_cursor around statement name
+effects around statement (Form-F.Fetch name variables) = fetches_cursor statement name variables
+effects around statement (Form-F.CloseCursor name) = closes_cursor statement name
+effects around statement (Form-F.Deallocate name) = removes_cursor statement name
+effects around statement form = works around statement
+
+-- ---- calls
+
+-- what was found under a name, if it is a procedure
+abbrev pub procedure_in : Option Definition → Option ProcedureTree
+procedure_in None = None
+procedure_in (Some (Table table)) = None
+procedure_in (Some (Procedure procedure)) = Some procedure
+procedure_in (Some (Trigger trigger)) = None
+
+-- each value is one of its parameter's type
+abbrev pub AreTyped : List Parameter → List Value → Type 0
+AreTyped [] values = Unit {0}
+AreTyped (parameter ∷ parameters) [] = Unit {0}
+AreTyped (parameter ∷ parameters) (value ∷ values) = HasItsType (parameter_var parameter value) × AreTyped parameters values
+
+module _ (around : Around) (statement : Statement) (status : Option (List ℕ)) (name : List ℕ) (arguments : List Argument) where
+  -- what it calls, where it is bound so
+  abbrev pub call_by : SessionProgress → Option Definition → Result Bound Failure → Result Call Failure
+  call_by p found (Ok of) = call_over around status name arguments p.vars found
+  call_by p found (Err failure) = Err failure
+
+  -- bound over what was found under its name
+  unfoldable pub call_bound : SessionProgress → Option Definition → Result Call Failure
+  call_bound p found = call_by p found (bound_over [] p.vars statement)
+
+  -- looked up, and bound
+  abbrev pub call_found : Doing (Result Call Failure)
+  call_found = do
+    found ← finds_by (known_by around statement name) name
+    of ← (reads λ p. comes_to (bound_over [] p.vars statement))
+    reads λ p. comes_to (call_over around status name arguments p.vars found)
+
+-- the status with which a procedure returned, or how its call is left
+abbrev pub returned_with : Exit → Result ℤ Exit
+returned_with (Raise raised) = Err (Raise raised)
+returned_with (RaiseUp raised) = Err (Raise raised)
+returned_with End = Err End
+returned_with (Return status) = Ok status
+returned_with exit = Ok (pos 0)
+
+-- what is sent behind a procedure that ended with another count of transactions, and what its error ends
+abbrev pub tells_uneven : List Token → Bool → Action → Raised → Doing Exit
+tells_uneven tokens caught action raised = makes (tells_rows 0) (makes (tells_error raised.number) (makes (sends tokens) (uneven_end caught action raised)))
 
 -- ---- what is sent
 

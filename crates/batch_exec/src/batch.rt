@@ -1,22 +1,25 @@
 //! A batch, from its beginning to its end.
 
-ghost use Rattle.std.specs.Prelude.{◌≡◌, ◌≤◌, ◌∷◌, [], IfOk, IfErr};
+ghost use Rattle.std.specs.Prelude.{◌≡◌, ◌≤◌, ◌∷◌, [], Err, IfOk, IfErr};
 ghost use Rattle.batch_meaning.specs.declared.exit.Exit.TheVariants.{End};
 ghost use Rattle.batch_meaning.specs.Failures.{naming};
 ghost use Rattle.batch_meaning.specs.Raised.{error_token, raised_at};
 ghost use Rattle.batch_meaning.specs.Doing.{Did};
-ghost use Rattle.batch_meaning.specs.Meaning.{batch, ends, ends_doomed, has_failed, runs_text, vars_in_text};
+ghost use Rattle.batch_meaning.specs.Meaning.{batch, defined, defines_object, ends, ends_doomed, has_failed, runs_text, vars_in_text};
 ghost use Rattle.batch_meaning.specs.Progress.{Ready, made, sends, statement_limit};
 
-use crate::errors::roll_back_told;
+use crate::errors::{raise_at, roll_back_told};
 use crate::running::run_statements;
 use batch_meaning::{Exit, Failure, ReadText};
 use session_state::{
-    Around, DOOMED_AT_END, NOT_BUILT, SessionState, batch_end, error_tokens, raised_at,
+    Around, DOOMED_AT_END, DOOMED_WRITE, SessionState, batch_end, error_tokens, raised_at,
 };
 use session_vars::Vars;
+use statement_exec::create_definition;
 use std::alloc::Global;
 use step_model::Port;
+use tds_tokens::COMMAND_NONE;
+use tsql_tree::Definition;
 use value_types::{Memory, Units};
 
 /// Runs a batch that a text is read as, with these variables, over a session's port: asks what it means, and goes on by
@@ -61,12 +64,57 @@ fn run_text<P: Port>(
                 &Around::batch(),
             )
         }
-        ReadText::NotBuilt => refuse(alloc, session, 1, &Failure::plain(NOT_BUILT)),
+        ReadText::Defines(line, of, text) => define(alloc, session, port, *line, of, text),
         ReadText::Refused { line, code, near } => {
             let failure = refusal(alloc, *code, near)?;
             refuse(alloc, session, *line, &failure)
         }
     }
+}
+
+/// The definition of a procedure or trigger, which is a batch of one statement, at this line.
+fn define<P: Port>(
+    alloc: Global,
+    session: &mut SessionState,
+    port: &mut P,
+    line: i32,
+    of: &Definition,
+    text: &Units,
+) -> Result<Exit, Memory>
+    requires ready { Ready session.old (P.past port.old) }
+    ensures does { Did (P.past port.old) (P.past port.new) (defines_object line of.now text.now) session.old result session.new }
+    ensures ready { Ready session.new (P.past port.new) }
+{
+    if session.is_doomed() {
+        let failure = Failure::plain(DOOMED_WRITE);
+        return fail_at(alloc, session, port, line, &failure);
+    }
+    match create_definition(alloc, session, port, of, text) {
+        Ok(_) => {
+            session.tell_rows(0);
+            session.tell_error(0);
+            Ok(Exit::On)
+        }
+        Err(failure) => fail_at(alloc, session, port, line, &failure),
+    }
+}
+
+/// It failed.
+fn fail_at<P: Port>(
+    alloc: Global,
+    session: &mut SessionState,
+    port: &mut P,
+    line: i32,
+    failure: &Failure,
+) -> Result<Exit, Memory>
+    requires ready { Ready session.old (P.past port.old) }
+    ensures does { Did (P.past port.old) (P.past port.new) (defined line (Err failure.now)) session.old result session.new }
+    ensures ready { Ready session.new (P.past port.new) }
+{
+    session.tell_rows(0);
+    let raised = raised_at(alloc, line, failure)?;
+    let around = Around::batch();
+    raise_at(alloc, session, port, line, COMMAND_NONE, &around, raised)
 }
 
 /// Why a text is refused.
@@ -87,7 +135,7 @@ fn refuse(
     ensures kept { IfErr result (λ _. session.new ≡ session.old) }
 {
     let raised = raised_at(alloc, line, failure)?;
-    let tokens = error_tokens(alloc, &raised)?;
+    let tokens = error_tokens(alloc, raised.get())?;
     session.send(tokens)?;
     Ok(Exit::End)
 }
@@ -123,7 +171,7 @@ fn end_doomed<P: Port>(
     ensures ready { Ready session.new (P.past port.new) }
 {
     let raised = raised_at(alloc, 1, &Failure::plain(DOOMED_AT_END))?;
-    let tokens = error_tokens(alloc, &raised)?;
+    let tokens = error_tokens(alloc, raised.get())?;
     session.send(tokens)?;
     roll_back_told(alloc, session, port)?;
     let end = batch_end(alloc, true)?;
@@ -138,6 +186,7 @@ fn has_failed(exit: &Exit) -> bool
     match exit {
         Exit::End => true,
         Exit::Raise(_) => true,
+        Exit::RaiseUp(_) => true,
         _ => false,
     }
 }

@@ -4,7 +4,8 @@ ghost use Rattle.std.specs.Prelude.{◌≡◌, false, if◌then◌else◌, Ok, I
 ghost use Rattle.binder.specs.Names.{form_of};
 ghost use Rattle.tsql_tree.specs.declared.statement.Form.{out-Form};
 ghost use Rattle.batch_meaning.specs.Doing.{Did, over};
-ghost use Rattle.batch_meaning.specs.Meaning.{caught_as, counted, ended_by, fails_for, leaves_rows, line_of, or_full, raises, rolls_back_open, rolls_back_told, spends, succeeds, told_as};
+ghost use Rattle.batch_meaning.specs.Meaning.{caught_as, counted, ended_by, fails_for, leaves_rows, line_of, or_full, raises, raises_at, rolls_back_open, rolls_back_told, spends, succeeds, told_as, way_of};
+ghost use Rattle.error_table.specs.Act.{base_caught};
 ghost use Rattle.batch_meaning.specs.Progress.{Ready, made, tells_rows};
 ghost use Rattle.batch_meaning.specs.Tokens.{command_of};
 ghost use Rattle.session_state.specs.Parts.{SetsFit, Stepped};
@@ -13,12 +14,14 @@ ghost use Rattle.batch_exec.specs.Running.{sent_some};
 use batch_meaning::{Exit, Failure, Raised};
 use error_table::Action;
 use session_state::{
-    Around, Effect, RESULT_FULL, STATEMENTS_SPENT, SessionState, TokenList, command_of, raised_at,
-    told_tokens, transaction_rolled_back,
+    Around, Effect, RESULT_FULL, STATEMENTS_SPENT, SessionState, TokenList, command_of,
+    is_for_outside, raised_in, told_tokens, transaction_rolled_back,
 };
+use sqlite_items::Boxed;
 use statement_exec::line_of;
 use std::alloc::Global;
 use step_model::{Op, Port, Reply};
+use tds_tokens::DoneKind;
 use tsql_tree::{Form, Statement};
 use value_types::Memory;
 
@@ -53,8 +56,10 @@ pub(crate) fn roll_back_told<P: Port>(
     if !session.in_transaction() {
         return Ok(());
     }
+    let is_own = session.is_own();
     let tokens = transaction_rolled_back(alloc, session.serial())?;
     match session.ask(port, &Op::Rollback) {
+        Reply::Ended { .. } if is_own => Ok(()),
         Reply::Ended { .. } => {
             session.send(tokens)?;
             Ok(())
@@ -70,22 +75,56 @@ pub(crate) fn raise<P: Port>(
     session: &mut SessionState,
     port: &mut P,
     statement: &Statement,
-    around: &Around<'_>,
-    raised: Raised,
+    around: &Around<'_, '_>,
+    raised: Boxed<Raised>,
 ) -> Result<Exit, Memory>
     requires ready { Ready session.old (P.past port.old) }
     ensures does { Did (P.past port.old) (P.past port.new) (raises around.now statement.now raised) session.old result session.new }
     ensures ready { Ready session.new (P.past port.new) }
     ensures left { session.new.statements_left ≡ session.old.statements_left }
 {
-    let raised = or_full(alloc, session, statement, around, raised)?;
-    let action = around.action(session.settings().xact_abort, &raised);
-    session.tell_error(raised.number);
-    if around.catches(&raised) {
+    let line = line_of(statement)?;
+    raise_at(
+        alloc,
+        session,
+        port,
+        line,
+        command_of(&statement.form),
+        around,
+        raised,
+    )
+}
+
+/// Raises an error of a statement of this line and command.
+pub(crate) fn raise_at<P: Port>(
+    alloc: Global,
+    session: &mut SessionState,
+    port: &mut P,
+    line: i32,
+    command: u16,
+    around: &Around<'_, '_>,
+    raised: Boxed<Raised>,
+) -> Result<Exit, Memory>
+    requires ready { Ready session.old (P.past port.old) }
+    ensures does { Did (P.past port.old) (P.past port.new) (raises_at around.now line command raised) session.old result session.new }
+    ensures ready { Ready session.new (P.past port.new) }
+    ensures left { session.new.statements_left ≡ session.old.statements_left }
+{
+    let raised = or_full(alloc, session, line, command, around, raised)?;
+    let action = around.action(session.settings().xact_abort, raised.get());
+    session.tell_error(raised.get().number);
+    if around.catches(raised.get()) {
         Ok(catch(session, action, raised))
     } else {
-        let command = command_of(&statement.form);
-        tell(alloc, session, port, action, command, &raised)
+        tell(
+            alloc,
+            session,
+            port,
+            around.done_kind(),
+            action,
+            command,
+            raised.get(),
+        )
     }
 }
 
@@ -93,27 +132,28 @@ pub(crate) fn raise<P: Port>(
 fn or_full(
     alloc: Global,
     session: &SessionState,
-    statement: &Statement,
-    around: &Around<'_>,
-    raised: Raised,
-) -> Result<Raised, Memory>
-    ensures { IfOk result (λ told. told ≡ or_full around.now session.now (command_of (form_of statement.now)) (line_of statement.now) raised) }
+    line: i32,
+    command: u16,
+    around: &Around<'_, '_>,
+    raised: Boxed<Raised>,
+) -> Result<Boxed<Raised>, Memory>
+    ensures { IfOk result (λ told. told ≡ or_full around.now session.now command line raised) }
 {
-    if around.catches(&raised) {
+    if around.catches(raised.get()) {
         return Ok(raised);
     }
-    let action = around.action(session.settings().xact_abort, &raised);
-    let tokens = told_tokens(alloc, action, command_of(&statement.form), &raised)?;
+    let action = around.action(session.settings().xact_abort, raised.get());
+    let tokens = told_tokens(alloc, around.done_kind(), action, command, raised.get())?;
     if session.is_full(&tokens) {
-        let line = line_of(statement)?;
-        raised_at(alloc, line, &Failure::plain(RESULT_FULL))
+        let procedure = around.procedure(alloc)?;
+        raised_in(alloc, procedure, line, &Failure::plain(RESULT_FULL))
     } else {
         Ok(raised)
     }
 }
 
 /// An error that is caught; it dooms the transaction where it would end it.
-fn catch(session: &mut SessionState, action: Action, raised: Raised) -> Exit
+pub(crate) fn catch(session: &mut SessionState, action: Action, raised: Boxed<Raised>) -> Exit
     ensures came { Stepped (caught_as action raised) session.old (Ok result) session.new }
     ensures left { session.new.statements_left ≡ session.old.statements_left }
     ensures txn { session.new.txn.saves ≡ session.old.txn.saves }
@@ -124,11 +164,22 @@ fn catch(session: &mut SessionState, action: Action, raised: Raised) -> Exit
     match action {
         Action::Doom => {
             session.doom();
-            Exit::Raise(raised)
+            raised_to(raised)
         }
-        Action::Statement => Exit::Raise(raised),
-        Action::Batch => Exit::Raise(raised),
-        Action::BatchAndTransaction => Exit::Raise(raised),
+        Action::Statement => raised_to(raised),
+        Action::Batch => raised_to(raised),
+        Action::BatchAndTransaction => raised_to(raised),
+    }
+}
+
+/// On its way to the CATCH of a TRY of its own level, or of one around that.
+fn raised_to(raised: Boxed<Raised>) -> Exit
+    ensures { result ≡ way_of (base_caught raised.number raised.by) raised }
+{
+    if is_for_outside(raised.get()) {
+        Exit::RaiseUp(raised)
+    } else {
+        Exit::Raise(raised)
     }
 }
 
@@ -137,22 +188,23 @@ fn tell<P: Port>(
     alloc: Global,
     session: &mut SessionState,
     port: &mut P,
+    kind: DoneKind,
     action: Action,
     command: u16,
     raised: &Raised,
 ) -> Result<Exit, Memory>
     requires ready { Ready session.old (P.past port.old) }
-    ensures does { Did (P.past port.old) (P.past port.new) (told_as action command raised.now) session.old result session.new }
+    ensures does { Did (P.past port.old) (P.past port.new) (told_as kind action command raised.now) session.old result session.new }
     ensures ready { Ready session.new (P.past port.new) }
     ensures left { session.new.statements_left ≡ session.old.statements_left }
 {
-    let tokens = told_tokens(alloc, action, command, raised)?;
+    let tokens = told_tokens(alloc, kind, action, command, raised)?;
     session.send(tokens)?;
     end_by(alloc, session, port, action)
 }
 
 /// Ends what an error ends.
-fn end_by<P: Port>(
+pub(crate) fn end_by<P: Port>(
     alloc: Global,
     session: &mut SessionState,
     port: &mut P,
@@ -181,7 +233,7 @@ pub(crate) fn spend<P: Port>(
     session: &mut SessionState,
     port: &mut P,
     statement: &Statement,
-    around: &Around<'_>,
+    around: &Around<'_, '_>,
 ) -> Result<Exit, Memory>
     requires ready { Ready session.old (P.past port.old) }
     ensures does { Did (P.past port.old) (P.past port.new) (spends statement.now around.now) session.old result session.new }
@@ -189,7 +241,8 @@ pub(crate) fn spend<P: Port>(
     ensures left { session.new.statements_left ≡ session.old.statements_left }
 {
     let line = line_of(statement)?;
-    let raised = raised_at(alloc, line, &Failure::plain(STATEMENTS_SPENT))?;
+    let procedure = around.procedure(alloc)?;
+    let raised = raised_in(alloc, procedure, line, &Failure::plain(STATEMENTS_SPENT))?;
     raise(alloc, session, port, statement, around, raised)
 }
 
@@ -202,7 +255,7 @@ pub(crate) fn fail<P: Port>(
     session: &mut SessionState,
     port: &mut P,
     statement: &Statement,
-    around: &Around<'_>,
+    around: &Around<'_, '_>,
     failure: Failure,
 ) -> Result<Exit, Memory>
     requires ready { Ready session.old (P.past port.old) }
@@ -211,7 +264,8 @@ pub(crate) fn fail<P: Port>(
     ensures left { session.new.statements_left ≡ session.old.statements_left }
 {
     let line = line_of(statement)?;
-    let raised = raised_at(alloc, line, &failure)?;
+    let procedure = around.procedure(alloc)?;
+    let raised = raised_in(alloc, procedure, line, &failure)?;
     raise_counted(alloc, session, port, statement, around, raised)
 }
 
@@ -221,8 +275,8 @@ pub(crate) fn raise_counted<P: Port>(
     session: &mut SessionState,
     port: &mut P,
     statement: &Statement,
-    around: &Around<'_>,
-    raised: Raised,
+    around: &Around<'_, '_>,
+    raised: Boxed<Raised>,
 ) -> Result<Exit, Memory>
     requires ready { Ready session.old (P.past port.old) }
     ensures does { Did (P.past port.old) (P.past port.new) (counted (form_of statement.now) 0 (raises around.now statement.now raised)) session.old result session.new }

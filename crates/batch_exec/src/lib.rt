@@ -9,7 +9,9 @@
 #![tactic(auto)]
 
 mod batch;
+mod calls;
 mod errors;
+mod firing;
 mod options;
 mod running;
 mod transactions;

@@ -1,37 +1,49 @@
 //! Statements are run.
 
-ghost use Rattle.std.specs.Prelude.{◌≡◌, ◌&&◌, ℕ, ◌<◌, ◌≤◌, IfOk, None};
+ghost use Rattle.std.specs.Prelude.{◌≡◌, ◌==◌, ◌&&◌, ℕ, ◌<◌, ◌≤◌, [], IfOk, IsTrue, Ok, None, true};
+ghost use Rattle.std.specs.List.{list_any};
 ghost use Rattle.std.specs.Option.{option_map};
 ghost use Rattle.std.specs.Result.{ForOk};
 ghost use Rattle.binder.specs.Names.{form_of};
-ghost use Rattle.batch_meaning.specs.Doing.{Did, over};
-ghost use Rattle.batch_meaning.specs.Meaning.{Meaning, branch, concluded, decides, each_of, is_refused_doomed, mean_form, mean_of, raises_again, raises_or_tells, sets_option, succeeds, tells, tries, turned, turns, turns_again};
+ghost use Rattle.batch_meaning.specs.Doing.{Did, over, ◌then◌};
+ghost use Rattle.batch_meaning.specs.Firing.{in_trigger};
+ghost use Rattle.batch_meaning.specs.Meaning.{Meaning, branch, calls, concluded, concludes, decides, each_of, effect_of, fires, is_refused_doomed, mean_form, mean_of, raises_again, raises_or_tells, runs_body, runs_call, runs_fired, runs_trigger, runs_triggers, sets_option, succeeds, tells, tells_behind, tries, turned, turns, turns_again, writes, written};
+ghost use Rattle.batch_meaning.specs.Selecting.{no_effect};
+ghost use Rattle.batch_meaning.specs.Working.{statuses};
 ghost use Rattle.batch_meaning.specs.Raised.{again};
 ghost use Rattle.tsql_tree.specs.declared.statement.Form.{out-Form};
 ghost use Rattle.tsql_tree.specs.declared.statement.Statement.{Statement as Tree};
 ghost use Rattle.batch_meaning.specs.Progress.{Ready};
-ghost use Rattle.batch_exec.specs.Running.{IsSimple, IsWhile, Loops, turning};
+ghost use Rattle.batch_meaning.specs.declared.exit.Exit.TheVariants.{Return};
+ghost use Rattle.batch_meaning.specs.declared.settings.Settings.{Settings as Set};
+ghost use Rattle.step_model.specs.Exchange.{IsPriority};
+ghost use Rattle.batch_exec.specs.Running.{AreTyped, IsSimple, IsWhile, Loops, effects, turning};
 ghost use Rattle.session_state.specs.Parts.{SetsFit};
 
+use crate::calls::{Call, CallEnd, call_vars, find_call, return_from};
 use crate::errors::{fail, raise_counted, spend, succeed};
+use crate::firing::{leave_fired, trigger_end, undo};
 use crate::options::set_option;
 use crate::transactions::{
     begin_transaction, commit_transaction, roll_back_transaction, save_transaction,
 };
-use batch_meaning::{Exit, Failure, Raised};
+use batch_forms::vars_of;
+use batch_meaning::{Exit, Failure, Home, Raised, Settings, Stop};
 use error_table::RaisedBy;
 use session_state::{
-    Around, DOOMED_WRITE, Effect, OUTSIDE_PROFILE, SessionState, is_message, messages,
+    Around, DOOMED_WRITE, Effect, Fired, NO_MEMORY, OUTSIDE_PROFILE, RESULT_FULL, SessionState,
+    TOO_DEEP, is_message, messages,
 };
+use session_vars::Vars;
 use sqlite_items::Boxed;
 use statement_exec::{
-    close_cursor, compose, create_table, declare_cursor, fetch, open_cursor, remove_cursor, test,
-    work,
+    Change, Written, close_cursor, compose, create_table, declare_cursor, drop_object, fetch,
+    open_cursor, relax, remove_cursor, status, test, work, write,
 };
 use std::alloc::Global;
 use step_model::Port;
-use tsql_tree::{Form, SessionOption, Statement};
-use value_types::Memory;
+use tsql_tree::{Argument, Form, SessionOption, Statement, TriggerTree};
+use value_types::{Memory, Units};
 
 /// Statements one after another.
 #[cycle(running)]
@@ -40,7 +52,7 @@ pub(crate) fn run_statements<P: Port>(
     session: &mut SessionState,
     port: &mut P,
     statements: &[Statement],
-    around: &Around<'_>,
+    around: &Around<'_, '_>,
 ) -> Result<Exit, Memory>
     requires ready { Ready session.old (P.past port.old) }
     ensures does { (levels : ℕ) → session.old.statements_left ≤ levels → Did (P.past port.old) (P.past port.new) (each_of (λ inner at. mean_of levels inner at) statements.now around.now) session.old result session.new }
@@ -63,7 +75,7 @@ fn run_statement<P: Port>(
     session: &mut SessionState,
     port: &mut P,
     statement: &Statement,
-    around: &Around<'_>,
+    around: &Around<'_, '_>,
 ) -> Result<Exit, Memory>
     requires ready { Ready session.old (P.past port.old) }
     ensures does { (levels : ℕ) → session.old.statements_left ≤ levels → Did (P.past port.old) (P.past port.new) (mean_of levels statement.now around.now) session.old result session.new }
@@ -88,7 +100,7 @@ fn run_form<P: Port>(
     session: &mut SessionState,
     port: &mut P,
     statement: &Statement,
-    around: &Around<'_>,
+    around: &Around<'_, '_>,
 ) -> Result<Exit, Memory>
     requires ready { Ready session.old (P.past port.old) }
     ensures does { (levels : ℕ) → session.old.statements_left ≤ levels → Did (P.past port.old) (P.past port.new) (mean_form (λ inner at. mean_of levels inner at) around.now statement.now (form_of statement.now)) session.old result session.new }
@@ -108,6 +120,19 @@ fn run_form<P: Port>(
             port,
             body.as_slice(),
             handler.as_slice(),
+            around,
+        ),
+        Form::Insert(_, _, _) => run_write(alloc, session, port, statement, around),
+        Form::Update(_, _, _) => run_write(alloc, session, port, statement, around),
+        Form::Delete(_, _) => run_write(alloc, session, port, statement, around),
+        Form::Execute(takes, name, arguments) => run_call(
+            alloc,
+            session,
+            port,
+            statement,
+            takes.as_ref(),
+            name,
+            arguments.as_slice(),
             around,
         ),
         _ => run_simple(alloc, session, port, statement, around),
@@ -131,7 +156,7 @@ fn run_simple<P: Port>(
     session: &mut SessionState,
     port: &mut P,
     statement: &Statement,
-    around: &Around<'_>,
+    around: &Around<'_, '_>,
 ) -> Result<Exit, Memory>
     requires ready { Ready session.old (P.past port.old) }
     requires simple { IsSimple (form_of statement.now) }
@@ -153,55 +178,80 @@ fn run_simple<P: Port>(
         Form::Throw(_, _, _) => tell(alloc, session, port, statement, around),
         Form::ThrowAgain => throw_again(alloc, session, port, statement, around),
         Form::SetOption(option) => set(alloc, session, port, statement, *option, around),
-        Form::Return(_) => {
-            let came = work(alloc, session, port, statement, around);
-            conclude(alloc, session, port, statement, around, came, Exit::Return)
+        Form::Return(_) => give(alloc, session, port, statement, around),
+        _ => {
+            let came = work_by_form(alloc, session, port, statement, around);
+            conclude(alloc, session, port, statement, around, came, Exit::On)
         }
+    }
+}
+
+/// RETURN: its status is the exit's.
+#[inline(never)]
+fn give<P: Port>(
+    alloc: Global,
+    session: &mut SessionState,
+    port: &mut P,
+    statement: &Statement,
+    around: &Around<'_, '_>,
+) -> Result<Exit, Memory>
+    requires ready { Ready session.old (P.past port.old) }
+    ensures does { Did (P.past port.old) (P.past port.new) (concludes around.now statement.now (λ status. succeeds statement.now no_effect (over (Return status))) (statuses around.now statement.now)) session.old result session.new }
+    ensures ready { Ready session.new (P.past port.new) }
+    ensures left { session.new.statements_left ≡ session.old.statements_left }
+{
+    match status(alloc, session, port, statement, around) {
+        Ok(number) => succeed(
+            session,
+            statement,
+            Effect::none(alloc),
+            Exit::Return(number),
+        ),
+        Err(failure) => fail(alloc, session, port, statement, around, failure),
+    }
+}
+
+/// What a statement comes to that is done with its effect.
+#[inline(never)]
+fn work_by_form<P: Port>(
+    alloc: Global,
+    session: &mut SessionState,
+    port: &mut P,
+    statement: &Statement,
+    around: &Around<'_, '_>,
+) -> Result<Effect, Failure>
+    requires ready { Ready session.old (P.past port.old) }
+    ensures does { Did (P.past port.old) (P.past port.new) (effects around.now statement.now (form_of statement.now)) session.old (Ok result) session.new }
+    ensures ready { Ready session.new (P.past port.new) }
+    ensures left { session.new.statements_left ≡ session.old.statements_left }
+    ensures fits { IfOk result (λ effect. SetsFit session.new.vars effect.sets) }
+{
+    match &statement.form {
         Form::BeginTransaction(name) => {
-            let came = begin_transaction(alloc, session, port, statement, name.as_ref());
-            conclude(alloc, session, port, statement, around, came, Exit::On)
+            begin_transaction(alloc, session, port, statement, name.as_ref())
         }
-        Form::Commit(_) => {
-            let came = commit_transaction(alloc, session, port, statement);
-            conclude(alloc, session, port, statement, around, came, Exit::On)
-        }
+        Form::Commit(_) => commit_transaction(alloc, session, port, statement),
         Form::Rollback(name) => {
-            let came = roll_back_transaction(alloc, session, port, statement, name.as_ref());
-            conclude(alloc, session, port, statement, around, came, Exit::On)
+            roll_back_transaction(alloc, session, port, statement, name.as_ref())
         }
-        Form::Save(name) => {
-            let came = save_transaction(alloc, session, port, statement, name);
-            conclude(alloc, session, port, statement, around, came, Exit::On)
+        Form::Save(name) => save_transaction(alloc, session, port, statement, name),
+        Form::Drop(kind, name) => {
+            drop_object(alloc, session, port, statement, *kind, name, around)
         }
         Form::CreateTable(table, text) => {
             let name = &table.get().name;
-            let came = create_table(alloc, session, port, statement, name, text);
-            conclude(alloc, session, port, statement, around, came, Exit::On)
+            create_table(alloc, session, port, statement, name, text, around)
         }
         Form::DeclareCursor(name, select) => {
-            let came = declare_cursor(alloc, session, statement, name, select.get());
-            conclude(alloc, session, port, statement, around, came, Exit::On)
+            declare_cursor(alloc, session, statement, name, select.get())
         }
-        Form::OpenCursor(name) => {
-            let came = open_cursor(alloc, session, port, statement, name, around);
-            conclude(alloc, session, port, statement, around, came, Exit::On)
-        }
+        Form::OpenCursor(name) => open_cursor(alloc, session, port, statement, name, around),
         Form::Fetch(name, variables) => {
-            let came = fetch(alloc, session, statement, name, variables.as_slice());
-            conclude(alloc, session, port, statement, around, came, Exit::On)
+            fetch(alloc, session, statement, name, variables.as_slice())
         }
-        Form::CloseCursor(name) => {
-            let came = close_cursor(alloc, session, statement, name);
-            conclude(alloc, session, port, statement, around, came, Exit::On)
-        }
-        Form::Deallocate(name) => {
-            let came = remove_cursor(alloc, session, statement, name);
-            conclude(alloc, session, port, statement, around, came, Exit::On)
-        }
-        _ => {
-            let came = work(alloc, session, port, statement, around);
-            conclude(alloc, session, port, statement, around, came, Exit::On)
-        }
+        Form::CloseCursor(name) => close_cursor(alloc, session, statement, name),
+        Form::Deallocate(name) => remove_cursor(alloc, session, statement, name),
+        _ => work(alloc, session, port, statement, around),
     }
 }
 
@@ -215,7 +265,7 @@ fn run_if<P: Port>(
     statement: &Statement,
     so: &Statement,
     otherwise: Option<&Statement>,
-    around: &Around<'_>,
+    around: &Around<'_, '_>,
 ) -> Result<Exit, Memory>
     requires ready { Ready session.old (P.past port.old) }
     ensures does { (levels : ℕ) → session.old.statements_left ≤ levels → Did (P.past port.old) (P.past port.new) (decides around.now statement.now (branch (λ inner at. mean_of levels inner at) around.now so.now (option_map (λ other. other.now) otherwise.entry))) session.old result session.new }
@@ -247,7 +297,7 @@ fn run_while<P: Port>(
     port: &mut P,
     statement: &Statement,
     body: &Statement,
-    around: &Around<'_>,
+    around: &Around<'_, '_>,
 ) -> Result<Exit, Memory>
     requires loops { IsWhile body.now (form_of statement.now) }
     requires ready { Ready session.old (P.past port.old) }
@@ -271,7 +321,7 @@ fn turn<P: Port>(
     port: &mut P,
     statement: &Statement,
     body: &Statement,
-    around: &Around<'_>,
+    around: &Around<'_, '_>,
 ) -> Result<Option<Exit>, Memory>
     requires loops { IsWhile body.now (form_of statement.now) }
     requires ready { Ready session.old (P.past port.old) }
@@ -304,7 +354,7 @@ fn begin_again<P: Port>(
     port: &mut P,
     statement: &Statement,
     body: &Statement,
-    around: &Around<'_>,
+    around: &Around<'_, '_>,
     exit: Exit,
 ) -> Result<Option<Exit>, Memory>
     requires loops { IsWhile body.now (form_of statement.now) }
@@ -327,7 +377,7 @@ fn begin_anew<P: Port>(
     port: &mut P,
     statement: &Statement,
     body: &Statement,
-    around: &Around<'_>,
+    around: &Around<'_, '_>,
 ) -> Result<Option<Exit>, Memory>
     requires loops { IsWhile body.now (form_of statement.now) }
     requires ready { Ready session.old (P.past port.old) }
@@ -365,7 +415,7 @@ fn run_try<P: Port>(
     port: &mut P,
     body: &[Statement],
     handler: &[Statement],
-    around: &Around<'_>,
+    around: &Around<'_, '_>,
 ) -> Result<Exit, Memory>
     requires ready { Ready session.old (P.past port.old) }
     ensures does { (levels : ℕ) → session.old.statements_left ≤ levels → Did (P.past port.old) (P.past port.new) (tries (λ inner at. mean_of levels inner at) around.now body.now handler.now) session.old result session.new }
@@ -374,9 +424,301 @@ fn run_try<P: Port>(
 {
     match run_statements(alloc, session, port, body, &around.in_try())? {
         Exit::Raise(raised) => {
-            run_statements(alloc, session, port, handler, &around.in_catch(&raised))
+            run_statements(
+                alloc,
+                session,
+                port,
+                handler,
+                &around.in_catch(raised.get()),
+            )
         }
         exit => Ok(exit),
+    }
+}
+
+// ---- procedures and triggers
+
+/// The statements of a procedure or trigger, with variables and settings of its own. Those around it come back at its
+/// end, and it gives its own.
+#[inline(never)]
+#[cycle(running)]
+fn run_body<P: Port>(
+    alloc: Global,
+    session: &mut SessionState,
+    port: &mut P,
+    vars: Vars,
+    settings: Settings,
+    body: &[Statement],
+    around: &Around<'_, '_>,
+) -> Result<(Exit, Vars), Memory>
+    requires priority { IsPriority settings.manner.priority }
+    requires ready { Ready session.old (P.past port.old) }
+    ensures does { (levels : ℕ) (change : Set → Set) → session.old.statements_left ≤ levels → settings ≡ change session.old.settings → Did (P.past port.old) (P.past port.new) (runs_body (λ inner at. mean_of levels inner at) vars change body.now around.now) session.old result session.new }
+    ensures ready { Ready session.new (P.past port.new) }
+    ensures left { session.new.statements_left ≤ session.old.statements_left }
+{
+    let outer = session.stand_with(vars);
+    let before = session.settings();
+    session.set(settings);
+    let exit = run_statements(alloc, session, port, body, around)?;
+    let inner = session.stand_with(outer);
+    session.set(before);
+    Ok((exit, inner))
+}
+
+/// EXEC.
+#[inline(never)]
+#[cycle(running)]
+fn run_call<P: Port>(
+    alloc: Global,
+    session: &mut SessionState,
+    port: &mut P,
+    statement: &Statement,
+    takes: Option<&Units>,
+    name: &Units,
+    arguments: &[Argument],
+    around: &Around<'_, '_>,
+) -> Result<Exit, Memory>
+    requires ready { Ready session.old (P.past port.old) }
+    ensures does { (levels : ℕ) → session.old.statements_left ≤ levels → Did (P.past port.old) (P.past port.new) (calls (λ inner at. mean_of levels inner at) around.now statement.now (option_map (λ name. name.now) takes.entry) name.now arguments.now) session.old result session.new }
+    ensures ready { Ready session.new (P.past port.new) }
+    ensures left { session.new.statements_left ≤ session.old.statements_left }
+{
+    match find_call(
+        alloc, session, port, statement, takes, name, arguments, around,
+    ) {
+        Ok(call) => run_found(
+            alloc, session, port, statement, takes, arguments, call, around,
+        ),
+        Err(failure) => fail(alloc, session, port, statement, around, failure),
+    }
+}
+
+/// The procedure of a call.
+#[inline(never)]
+#[cycle(running)]
+fn run_found<P: Port>(
+    alloc: Global,
+    session: &mut SessionState,
+    port: &mut P,
+    statement: &Statement,
+    takes: Option<&Units>,
+    arguments: &[Argument],
+    call: Call,
+    around: &Around<'_, '_>,
+) -> Result<Exit, Memory>
+    requires room { around.now.depth < 32 }
+    requires typed { AreTyped call.procedure.parameters call.values }
+    requires ready { Ready session.old (P.past port.old) }
+    ensures does { (levels : ℕ) → session.old.statements_left ≤ levels → Did (P.past port.old) (P.past port.new) (runs_call (λ inner at. mean_of levels inner at) around.now statement.now (option_map (λ name. name.now) takes.entry) arguments.now call) session.old result session.new }
+    ensures ready { Ready session.new (P.past port.new) }
+    ensures left { session.new.statements_left ≤ session.old.statements_left }
+{
+    let Call { procedure, values } = call;
+    let vars = call_vars(alloc, &procedure, values)?;
+    let settings = session.settings();
+    let count = session.count();
+    let inside = around.in_body(&procedure.name, None);
+    let body = procedure.body.as_slice();
+    let (exit, inner) = run_body(alloc, session, port, vars, settings, body, &inside)?;
+    let end = CallEnd {
+        takes,
+        arguments,
+        procedure: &procedure,
+        inner: &inner,
+        count,
+    };
+    return_from(alloc, session, port, statement, exit, &end, around)
+}
+
+/// INSERT, UPDATE and DELETE.
+#[inline(never)]
+#[cycle(running)]
+fn run_write<P: Port>(
+    alloc: Global,
+    session: &mut SessionState,
+    port: &mut P,
+    statement: &Statement,
+    around: &Around<'_, '_>,
+) -> Result<Exit, Memory>
+    requires ready { Ready session.old (P.past port.old) }
+    ensures does { (levels : ℕ) → session.old.statements_left ≤ levels → Did (P.past port.old) (P.past port.new) (writes (λ inner at. mean_of levels inner at) around.now statement.now then written around.now statement.now) session.old result session.new }
+    ensures ready { Ready session.new (P.past port.new) }
+    ensures left { session.new.statements_left ≤ session.old.statements_left }
+{
+    match write(alloc, session, port, statement, around) {
+        Ok(Change::Done(effect)) => succeed(session, statement, effect, Exit::On),
+        Ok(Change::Fires(home, written)) => {
+            let came = run_fired(alloc, session, port, home, written, around)?;
+            end_write(alloc, session, port, statement, around, came)
+        }
+        Err(failure) => fail(alloc, session, port, statement, around, failure),
+    }
+}
+
+/// A write ends by what it came to behind its triggers; where one of them was left, it is left so, too.
+#[inline(never)]
+fn end_write<P: Port>(
+    alloc: Global,
+    session: &mut SessionState,
+    port: &mut P,
+    statement: &Statement,
+    around: &Around<'_, '_>,
+    came: Result<Effect, Stop>,
+) -> Result<Exit, Memory>
+    requires ready { Ready session.old (P.past port.old) }
+    requires none { IfOk came (λ effect. effect.sets ≡ []) }
+    ensures does { Did (P.past port.old) (P.past port.new) (written around.now statement.now came) session.old result session.new }
+    ensures ready { Ready session.new (P.past port.new) }
+    ensures left { session.new.statements_left ≡ session.old.statements_left }
+{
+    match came {
+        Ok(effect) => succeed(session, statement, effect, Exit::On),
+        Err(Stop::Failed(failure)) => fail(alloc, session, port, statement, around, failure),
+        Err(Stop::Left(exit)) => {
+            session.tell_rows(0);
+            Ok(exit)
+        }
+    }
+}
+
+/// Behind a write that fires triggers: its locks end, and they run, before its own transaction ends.
+#[inline(never)]
+#[cycle(running)]
+fn run_fired<P: Port>(
+    alloc: Global,
+    session: &mut SessionState,
+    port: &mut P,
+    home: Home,
+    written: Written,
+    around: &Around<'_, '_>,
+) -> Result<Result<Effect, Stop>, Memory>
+    requires begun { session.old.is_open ≡ true }
+    requires live { IsTrue (list_any (λ live. live == written.mark) (P.past port.old).standing.marks) }
+    requires none { written.effect.sets ≡ [] }
+    requires ready { Ready session.old (P.past port.old) }
+    ensures does { (levels : ℕ) → session.old.statements_left ≤ levels → Did (P.past port.old) (P.past port.new) (fires (λ inner at. mean_of levels inner at) around.now home written) session.old result session.new }
+    ensures ready { Ready session.new (P.past port.new) }
+    ensures left { session.new.statements_left ≤ session.old.statements_left }
+    ensures none { IfOk result (λ came. IfOk came (λ effect. effect.sets ≡ [])) }
+{
+    relax(session, port);
+    let mark = written.mark;
+    let stood = session.stands();
+    match session.begin_firing(alloc, mark) {
+        Ok(()) => {
+            let came = run_all(alloc, session, port, &written, around)?;
+            leave_fired(session, port, home, mark, stood, came.is_ok());
+            Ok(effect_of(written, came))
+        }
+        Err(_) => {
+            undo(session, port, home, mark);
+            Ok(Err(Stop::Failed(Failure::plain(NO_MEMORY))))
+        }
+    }
+}
+
+/// What a write tells, where its triggers have not stopped it.
+fn effect_of(written: Written, came: Result<(), Stop>) -> Result<Effect, Stop>
+    ensures { (one : Tree → Meaning) → result ≡ effect_of one written.effect came }
+{
+    match came {
+        Ok(()) => Ok(written.effect),
+        Err(stop) => Err(stop),
+    }
+}
+
+/// The triggers of a write, unless they would stand too deep.
+#[cycle(running)]
+fn run_all<P: Port>(
+    alloc: Global,
+    session: &mut SessionState,
+    port: &mut P,
+    written: &Written,
+    around: &Around<'_, '_>,
+) -> Result<Result<(), Stop>, Memory>
+    requires ready { Ready session.old (P.past port.old) }
+    ensures does { (levels : ℕ) → session.old.statements_left ≤ levels → Did (P.past port.old) (P.past port.new) (runs_fired (λ inner at. mean_of levels inner at) around.now written.now) session.old result session.new }
+    ensures ready { Ready session.new (P.past port.new) }
+    ensures left { session.new.statements_left ≤ session.old.statements_left }
+{
+    if around.is_deepest() {
+        return Ok(Err(Stop::Failed(Failure::plain(TOO_DEEP))));
+    }
+    let triggers = written.fires.as_slice();
+    run_triggers(alloc, session, port, triggers, written, around)
+}
+
+/// One after another; the first that stops them is the last. What they have sent leaves room for what the write tells.
+#[inline(never)]
+#[cycle(running)]
+fn run_triggers<P: Port>(
+    alloc: Global,
+    session: &mut SessionState,
+    port: &mut P,
+    triggers: &[TriggerTree],
+    written: &Written,
+    around: &Around<'_, '_>,
+) -> Result<Result<(), Stop>, Memory>
+    requires room { around.now.depth < 32 }
+    requires ready { Ready session.old (P.past port.old) }
+    ensures does { (levels : ℕ) → session.old.statements_left ≤ levels → Did (P.past port.old) (P.past port.new) (runs_triggers (λ inner at. mean_of levels inner at) around.now written.now triggers.now) session.old result session.new }
+    ensures ready { Ready session.new (P.past port.new) }
+    ensures left { session.new.statements_left ≤ session.old.statements_left }
+{
+    for trigger in triggers {
+        let exit = run_trigger(alloc, session, port, trigger, &written.fired, around)?;
+        match trigger_end(session, exit) {
+            Ok(()) => {}
+            Err(stop) => return Ok(Err(stop)),
+        }
+    }
+    Ok(tells_behind(session, &written.effect))
+}
+
+/// What a write tells must still fit behind what its triggers have sent.
+fn tells_behind(session: &SessionState, effect: &Effect) -> Result<(), Stop>
+    ensures { (one : Tree → Meaning) → result ≡ tells_behind one effect.now session.now }
+{
+    if session.is_full(effect.tokens()) {
+        Err(Stop::Failed(Failure::plain(RESULT_FULL)))
+    } else {
+        Ok(())
+    }
+}
+
+/// One trigger.
+#[inline(never)]
+#[cycle(running)]
+fn run_trigger<P: Port>(
+    alloc: Global,
+    session: &mut SessionState,
+    port: &mut P,
+    trigger: &TriggerTree,
+    fired: &Fired,
+    around: &Around<'_, '_>,
+) -> Result<Exit, Memory>
+    requires room { around.now.depth < 32 }
+    requires ready { Ready session.old (P.past port.old) }
+    ensures does { (levels : ℕ) → session.old.statements_left ≤ levels → Did (P.past port.old) (P.past port.new) (runs_trigger (λ inner at. mean_of levels inner at) around.now fired.now trigger.now) session.old result session.new }
+    ensures ready { Ready session.new (P.past port.new) }
+    ensures left { session.new.statements_left ≤ session.old.statements_left }
+{
+    let body = trigger.body.as_slice();
+    let vars = vars_of(alloc, body)?;
+    let settings = in_trigger(session.settings());
+    let inside = around.in_body(&trigger.name, Some(fired));
+    let (exit, _vars) = run_body(alloc, session, port, vars, settings, body, &inside)?;
+    Ok(exit)
+}
+
+/// In a trigger XACT_ABORT is ON at first.
+fn in_trigger(settings: Settings) -> Settings
+    ensures { result ≡ in_trigger settings }
+{
+    Settings {
+        xact_abort: true,
+        ..settings
     }
 }
 
@@ -413,7 +755,7 @@ fn conclude<P: Port>(
     session: &mut SessionState,
     port: &mut P,
     statement: &Statement,
-    around: &Around<'_>,
+    around: &Around<'_, '_>,
     came: Result<Effect, Failure>,
     exit: Exit,
 ) -> Result<Exit, Memory>
@@ -436,7 +778,7 @@ fn tell<P: Port>(
     session: &mut SessionState,
     port: &mut P,
     statement: &Statement,
-    around: &Around<'_>,
+    around: &Around<'_, '_>,
 ) -> Result<Exit, Memory>
     requires ready { Ready session.old (P.past port.old) }
     ensures does { Did (P.past port.old) (P.past port.new) (tells around.now statement.now) session.old result session.new }
@@ -455,18 +797,18 @@ fn raise_or_tell<P: Port>(
     session: &mut SessionState,
     port: &mut P,
     statement: &Statement,
-    around: &Around<'_>,
-    raised: Raised,
+    around: &Around<'_, '_>,
+    raised: Boxed<Raised>,
 ) -> Result<Exit, Memory>
     requires ready { Ready session.old (P.past port.old) }
     ensures does { Did (P.past port.old) (P.past port.new) (raises_or_tells around.now statement.now raised) session.old result session.new }
     ensures ready { Ready session.new (P.past port.new) }
     ensures left { session.new.statements_left ≡ session.old.statements_left }
 {
-    if !is_message(&raised) {
+    if !is_message(raised.get()) {
         return raise_counted(alloc, session, port, statement, around, raised);
     }
-    let tokens = messages(alloc, &raised)?;
+    let tokens = messages(alloc, raised.get())?;
     succeed(session, statement, Effect::sending(alloc, tokens), Exit::On)
 }
 
@@ -477,7 +819,7 @@ fn throw_again<P: Port>(
     session: &mut SessionState,
     port: &mut P,
     statement: &Statement,
-    around: &Around<'_>,
+    around: &Around<'_, '_>,
 ) -> Result<Exit, Memory>
     requires ready { Ready session.old (P.past port.old) }
     ensures does { Did (P.past port.old) (P.past port.new) (raises_again around.now statement.now around.now.caught) session.old result session.new }
@@ -497,17 +839,19 @@ fn throw_again<P: Port>(
 }
 
 /// An error that THROW raises again.
-fn again(alloc: Global, raised: &Raised) -> Result<Raised, Memory>
+fn again(alloc: Global, raised: &Raised) -> Result<Boxed<Raised>, Memory>
     ensures { IfOk result (λ thrown. thrown ≡ again raised.now) }
 {
-    Ok(Raised {
+    let thrown = Raised {
         number: raised.number,
         class: raised.class,
         state: raised.state,
         text: raised.text.copy(alloc)?,
+        procedure: raised.procedure.copy(alloc)?,
         line: raised.line,
         by: RaisedBy::Throw,
-    })
+    };
+    Ok(Boxed::new(alloc, thrown)?)
 }
 
 /// SET of an option.
@@ -518,7 +862,7 @@ fn set<P: Port>(
     port: &mut P,
     statement: &Statement,
     option: SessionOption,
-    around: &Around<'_>,
+    around: &Around<'_, '_>,
 ) -> Result<Exit, Memory>
     requires ready { Ready session.old (P.past port.old) }
     ensures does { Did (P.past port.old) (P.past port.new) (sets_option around.now statement.now option) session.old result session.new }

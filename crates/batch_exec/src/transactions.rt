@@ -5,7 +5,8 @@ ghost use Rattle.std.specs.Option.{option_map};
 ghost use Rattle.txn_rules.specs.State.{rollback_answer, save_refusal};
 ghost use Rattle.batch_meaning.specs.Doing.{Did};
 ghost use Rattle.batch_meaning.specs.Progress.{Ready};
-ghost use Rattle.batch_meaning.specs.Transactions.{begins_outermost, begins_transaction, commits_by, commits_transaction, goes_back, next_serial, rolls_back_transaction, rolls_back_whole, saves_transaction, saves_unless};
+ghost use Rattle.batch_meaning.specs.Tokens.{transaction_committed, transaction_rolled_back};
+ghost use Rattle.batch_meaning.specs.Transactions.{begins_outermost, begins_transaction, commits_by, commits_transaction, goes_back, next_serial, rolls_back_transaction, rolls_back_whole, saves_transaction, saves_unless, unless_own};
 ghost use Rattle.batch_meaning.specs.Asking.{with_room};
 ghost use Rattle.batch_exec.specs.Running.{IsAffordable, IsNumbered};
 
@@ -136,14 +137,36 @@ fn commit_outermost<P: Port>(
 ) -> Result<Effect, Failure>
     requires ready { Ready session.old (P.past port.old) }
     requires begun { session.old.is_open ≡ true }
-    ensures does { Did (P.past port.old) (P.past port.new) (with_room (commits_by session.old.txn (Ok true))) session.old (Ok result) session.new }
+    ensures does { Did (P.past port.old) (P.past port.new) (with_room (commits_by session.old (Ok true))) session.old (Ok result) session.new }
     ensures ready { Ready session.new (P.past port.new) }
     ensures none { IfOk result (λ effect. effect.sets ≡ []) }
 {
-    let tokens = affordable(session, transaction_committed(alloc, session.serial()))?;
+    let tokens = affordable(session, committed_tokens(alloc, session))?;
     match session.ask(port, &Op::Commit) {
         Reply::Ended { .. } => Ok(Effect::sending(alloc, tokens)),
         _ => unreachable!(),
+    }
+}
+
+/// What is told of the commit: nothing of a statement's own transaction.
+fn committed_tokens(alloc: Global, session: &SessionState) -> Result<TokenList, Memory>
+    ensures { IfOk result (λ tokens. tokens ≡ unless_own session.now.is_own (transaction_committed session.now.txn.serial)) }
+{
+    if session.is_own() {
+        Ok(TokenList::none(alloc))
+    } else {
+        transaction_committed(alloc, session.serial())
+    }
+}
+
+/// What is told of the rollback: nothing of a statement's own transaction.
+fn rolled_back_tokens(alloc: Global, session: &SessionState) -> Result<TokenList, Memory>
+    ensures { IfOk result (λ tokens. tokens ≡ unless_own session.now.is_own (transaction_rolled_back session.now.txn.serial)) }
+{
+    if session.is_own() {
+        Ok(TokenList::none(alloc))
+    } else {
+        transaction_rolled_back(alloc, session.serial())
     }
 }
 
@@ -178,7 +201,7 @@ fn go_back<P: Port>(
     name: &Units,
 ) -> Result<Effect, Failure>
     requires ready { Ready session.old (P.past port.old) }
-    ensures does { Did (P.past port.old) (P.past port.new) (with_room (goes_back name.now session.old.txn (rollback_answer name.now session.old.txn))) session.old (Ok result) session.new }
+    ensures does { Did (P.past port.old) (P.past port.new) (with_room (goes_back name.now session.old (rollback_answer name.now session.old.txn))) session.old (Ok result) session.new }
     ensures ready { Ready session.new (P.past port.new) }
     ensures none { IfOk result (λ effect. effect.sets ≡ []) }
 {
@@ -213,11 +236,11 @@ fn roll_back_whole<P: Port>(
 ) -> Result<Effect, Failure>
     requires ready { Ready session.old (P.past port.old) }
     requires begun { session.old.is_open ≡ true }
-    ensures does { Did (P.past port.old) (P.past port.new) (with_room (rolls_back_whole session.old.txn)) session.old (Ok result) session.new }
+    ensures does { Did (P.past port.old) (P.past port.new) (with_room (rolls_back_whole session.old)) session.old (Ok result) session.new }
     ensures ready { Ready session.new (P.past port.new) }
     ensures none { IfOk result (λ effect. effect.sets ≡ []) }
 {
-    let tokens = affordable(session, transaction_rolled_back(alloc, session.serial()))?;
+    let tokens = affordable(session, rolled_back_tokens(alloc, session))?;
     match session.ask(port, &Op::Rollback) {
         Reply::Ended { .. } => Ok(Effect::sending(alloc, tokens)),
         _ => unreachable!(),

@@ -5,8 +5,8 @@
 //! caller. Only tests show that memory is not said to be wanting where there is enough.
 #![tactic(auto)]
 
-mod built;
 mod text;
 mod variables;
 
 pub use text::read_text;
+pub use variables::{vars_behind, vars_of};

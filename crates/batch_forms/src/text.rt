@@ -1,18 +1,18 @@
 //! Texts: what one is read as, by its tree.
 
-ghost use Rattle.std.specs.Prelude.{◌≡◌, Err, IfOk};
+ghost use Rattle.std.specs.Prelude.{◌≡◌, Err, IfOk, pos};
 ghost use Rattle.batch_meaning.specs.Meaning.{vars_in_text};
-ghost use Rattle.batch_meaning.specs.Statements.{IsRead, ReadsAs, body_of, text_of};
+ghost use Rattle.batch_meaning.specs.declared.form.ReadText.TheVariants.{Defines, Statements};
+ghost use Rattle.batch_meaning.specs.Statements.{IsRead, ReadsAs, text_of};
 ghost use Rattle.query_parser.specs.declared.fault.ParseFault.TheVariants.{Refused as RefusedFault};
 
-use crate::built::are_built;
 use crate::variables::vars_of;
 use batch_meaning::ReadText;
 use session_vars::Vars;
 use sqlite_items::Items;
 use std::alloc::Global;
 use stmt_parser::{ParseFault, parse_batch};
-use tsql_tree::{Batch, Statement};
+use tsql_tree::{Batch, Definition, Statement};
 use value_types::{Memory, Units};
 
 /// What a text is read as, and the variables that it declares.
@@ -49,19 +49,31 @@ fn text_of(alloc: Global, batch: Batch) -> Result<(ReadText, Vars), Memory>
 {
     match batch {
         Batch::Body(statements) => body_of(alloc, statements),
-        Batch::Definition(_, _, _) => Ok((ReadText::NotBuilt, Vars::new(alloc))),
+        Batch::Definition(line, of, text) => defined(alloc, line, of, text),
     }
 }
 
-/// What statements are read as, all of which are built, or not all.
+/// What statements are read as.
 fn body_of(alloc: Global, statements: Items<Statement>) -> Result<(ReadText, Vars), Memory>
-    ensures text { IfOk result (λ read. read.0 ≡ body_of statements) }
+    ensures text { IfOk result (λ read. read.0 ≡ Statements statements) }
     ensures vars { IfOk result (λ read. read.1 ≡ vars_in_text read.0) }
 {
-    if are_built(statements.as_slice()) {
-        let vars = vars_of(alloc, statements.as_slice())?;
-        Ok((ReadText::Statements(statements), vars))
-    } else {
-        Ok((ReadText::NotBuilt, Vars::new(alloc)))
-    }
+    let vars = vars_of(alloc, statements.as_slice())?;
+    Ok((ReadText::Statements(statements), vars))
+}
+
+/// The definition of a procedure or trigger, of this line and text.
+fn defined(
+    alloc: Global,
+    line: u32,
+    of: Definition,
+    text: Units,
+) -> Result<(ReadText, Vars), Memory>
+    ensures text { IfOk result (λ read. read.0 ≡ Defines (pos line) of text) }
+    ensures vars { IfOk result (λ read. read.1 ≡ vars_in_text read.0) }
+{
+    let Ok(line) = i32::try_from(line) else {
+        return Err(Memory);
+    };
+    Ok((ReadText::Defines(line, of, text), Vars::new(alloc)))
 }

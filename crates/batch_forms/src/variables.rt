@@ -1,7 +1,7 @@
 //! The variables that statements declare, at any depth, in the order of the text.
 
-ghost use Rattle.std.specs.Prelude.{◌≡◌, [], map, OnOk, IfOk};
-ghost use Rattle.batch_meaning.specs.Statements.{declares_all, declares_one, in_turn, vars_in, vars_of};
+ghost use Rattle.std.specs.Prelude.{◌≡◌, map, OnOk, IfOk};
+ghost use Rattle.batch_meaning.specs.Statements.{declares_all, declares_one, in_turn, vars_behind, vars_in, vars_of};
 
 use session_vars::Vars;
 use std::alloc::Global;
@@ -11,11 +11,17 @@ use value_types::Memory;
 /// How many variables can stand.
 const COUNT_LIMIT: u16 = 65_535;
 
-/// The variables of a batch.
-pub(crate) fn vars_of(alloc: Global, statements: &[Statement]) -> Result<Vars, Memory>
+/// The variables of a batch or of a trigger.
+pub fn vars_of(alloc: Global, statements: &[Statement]) -> Result<Vars, Memory>
     ensures { IfOk result (λ vars. vars ≡ vars_of statements.now) }
 {
-    let mut vars = Vars::new(alloc);
+    vars_behind(alloc, Vars::new(alloc), statements)
+}
+
+/// The variables that statements declare behind these.
+pub fn vars_behind(alloc: Global, mut vars: Vars, statements: &[Statement]) -> Result<Vars, Memory>
+    ensures { IfOk result (λ all. all ≡ vars_behind vars statements.now) }
+{
     add_all(alloc, statements, &mut vars)?;
     Ok(vars)
 }

@@ -1,5 +1,5 @@
 -- Plain statements one after another, where no transaction is open, and a batch of them.
-use Rattle.std.proofs.Common.{◌≡◌, ℕ, pos, Bool, true, false, if◌then◌else◌, List, [], ◌∷◌, ◌++◌, refl, sym, ap, ◌∙◌, subst, append_assoc, append-nil}
+use Rattle.std.proofs.Common.{◌≡◌, inl, inr, ℕ, Bool, true, false, if◌then◌else◌, List, [], ◌∷◌, ◌++◌, refl, sym, ap, ◌∙◌, subst, append_assoc, append-nil}
 use Rattle.tsql_tree.specs.declared.statement.Statement.{Statement}
 use Rattle.binder.specs.Names.{form_of}
 use Rattle.step_model.specs.declared.change.Planned.{Planned}
@@ -9,31 +9,27 @@ use Rattle.step_model.specs.Net.{Net}
 use Rattle.step_model.specs.Own.{Progress as Stand, none_open, progress_from, progress_of}
 use Rattle.tds_tokens.specs.declared.token.Token.{Token}
 use Rattle.batch_meaning.specs.declared.exit.Exit.{Exit}
-use Rattle.batch_meaning.specs.declared.exit.Exit.TheVariants.{On, Leave, Again, Return, Raise, End}
+use Rattle.batch_meaning.specs.declared.exit.Exit.TheVariants.{On, Leave, Again, Return, Raise, RaiseUp, End}
 use Rattle.batch_meaning.specs.Doing.{Doing, over, makes, ◌then◌, Held}
-use Rattle.batch_meaning.specs.declared.form.ReadText.{ReadText}
-use Rattle.batch_meaning.specs.declared.form.ReadText.TheVariants as text
 use Rattle.batch_meaning.specs.declared.raised.Raised.{Raised}
-use Rattle.batch_meaning.specs.Failures.{naming, plain}
-use Rattle.batch_meaning.specs.Selecting.{not_built}
-use Rattle.batch_meaning.specs.Meaning.{batch, each_of, ends, ends_doomed, goes_on, has_failed, mean_of, meaning, runs_text, vars_in_text}
+use Rattle.batch_meaning.specs.Failures.{naming}
+use Rattle.batch_meaning.specs.Meaning.{batch, each_of, ends, ends_doomed, goes_on, has_failed, mean_of, meaning}
 use Rattle.batch_meaning.specs.Progress.{SessionProgress, begins, counts, made, sends, statement_limit}
 use Rattle.batch_meaning.specs.Raised.{Around, around_batch, error_token, raised_at}
 use Rattle.batch_meaning.specs.Statements.{vars_of}
 use Rattle.batch_meaning.specs.Tokens.{batch_done}
 use Rattle.statement_paths.proofs.Apart.{held_apart}
 use Rattle.reading_laws.proofs.Parts.{from_both}
-use Rattle.batch_laws.specs.Committing.{is_plain, Agrees, ArePlain, Commits, Ends, IfOn, IsIdle, Leaves, Runs, Stays}
-use Rattle.batch_laws.specs.Laws.{BatchRuns, EndsAtOnce, PlainRun, RefusedEnds, UnbuiltEnds}
+use Rattle.batch_laws.specs.Committing.{is_plain, Agrees, ArePlain, Commits, Ends, Fires, FiresAmong, IfOn, IsIdle, Leaves, NoneFires, Runs, Stays}
+use Rattle.batch_laws.specs.Laws.{BatchRuns, PlainRun, RefusedEnds}
 use Rattle.batch_laws.proofs.Ending.{Ended}
-use Rattle.batch_laws.proofs.Idle.{mean_keeps, mean_stays}
 use Rattle.batch_laws.proofs.Leaving.{commits_both}
-use Rattle.batch_laws.proofs.Turns.{mean_ended}
+use Rattle.batch_laws.proofs.Turns.{Finished, FinishedOr, fires_further, mean_finished}
 
 -- ---- one statement
 
 -- where none was open none is
-closed_leaves : (was now : Bool) (exchanges : List Exchange) (planned : List Planned) → was ≡ false → Leaves was now none_open exchanges planned
+pub closed_leaves : (was now : Bool) (exchanges : List Exchange) (planned : List Planned) → was ≡ false → Leaves was now none_open exchanges planned
     → (now ≡ false) × (progress_of exchanges ≡ none_open) × (commits_of exchanges ≡ commit_of (Net planned))
 closed_leaves true now exchanges planned shut leaves = absurd (let no : true ≡ false = shut in cc)
 closed_leaves false true exchanges planned shut leaves = absurd leaves
@@ -50,18 +46,70 @@ pub record Closed (around : Around) (statement : Statement) (p : SessionProgress
   pub idle : IsIdle new
   pub stays : Stays p new
 
-pub mean_closed : (levels : ℕ) (around : Around) (statement : Statement) (p new : SessionProgress) (exchanges : List Exchange) (exit : Exit) → is_plain (form_of statement) ≡ true → IsIdle p → Held (mean_of levels statement around) p exchanges exit new
-    → Closed around statement p exchanges exit new
-mean_closed levels around statement p new exchanges exit is idle held = by_ended (mean_ended levels around statement p new exchanges exit none_open agrees is held)
-  where
-    agrees : Agrees p.is_open none_open
-    agrees = subst (λ (b : Bool). Agrees b none_open) (sym idle.shut) refl
+idle_agrees : (p : SessionProgress) → IsIdle p → Agrees p.is_open none_open
+idle_agrees p idle = subst (λ (b : Bool). Agrees b none_open) (sym idle.shut) refl
 
-    by_ended : Ended around statement (made counts p) new exchanges exit none_open agrees → Closed around statement p exchanges exit new
-    by_ended (sent, planned, tokens, ended, leaves) =
+pub counts_idle : (p : SessionProgress) → IsIdle p → IsIdle (made counts p)
+counts_idle p idle = record { shut = idle.shut; closed = idle.closed; sound = idle.sound }
+
+-- one that fires no triggers
+pub mean_closed : (levels : ℕ) (around : Around) (statement : Statement) (p new : SessionProgress) (exchanges : List Exchange) (exit : Exit) → is_plain (form_of statement) ≡ true → IsIdle p → (Fires around (made counts p) statement exchanges → ⊥) → Held (mean_of levels statement around) p exchanges exit new
+    → Closed around statement p exchanges exit new
+mean_closed levels around statement p new exchanges exit is idle calm held = by_ways (mean_finished levels around statement p new exchanges exit none_open (idle_agrees p idle) is held)
+  where
+    by_ended : Finished around statement (made counts p) new exchanges exit none_open (idle_agrees p idle) → Ended around statement (made counts p) new exchanges exit none_open (idle_agrees p idle) → Closed around statement p exchanges exit new
+    by_ended finished (sent, planned, tokens, ended, leaves) =
         let closed = closed_leaves p.is_open new.is_open exchanges planned idle.shut leaves in
-        let stays = mean_stays levels around statement p new exchanges exit is held (idle.closed, idle.sound) in
-        record { sent = sent; planned = planned; tokens = tokens; ended = ended; none = closed.1; commits = closed.2; idle = record { shut = closed.0; closed = stays.0; sound = stays.1 }; stays = mean_keeps levels around statement p new exchanges exit is held }
+        let shut = finished.idle (idle.closed, idle.sound) in
+        let stays = finished.stays in
+        record {
+          sent = sent;
+          planned = planned;
+          tokens = tokens;
+          ended = ended;
+          none = closed.1;
+          commits = closed.2;
+          idle = record { shut = closed.0; closed = shut.0; sound = shut.1 };
+          stays = record { settings = stays.settings; serial = stays.serial; cursors = stays.cursors; fetched = stays.fetched };
+        }
+
+    by_ways : FinishedOr around statement (made counts p) new exchanges exit none_open (idle_agrees p idle) → Closed around statement p exchanges exit new
+    by_ways (inl finished) = by_ended finished finished.ended
+    by_ways (inr fires) = absurd (calm fires)
+
+-- ---- triggers among statements
+
+-- this one, as it begins, has fired them
+pub fires_here : (around : Around) (statement : Statement) (others : List Statement) (p : SessionProgress) (exchanges front back : List Exchange) → IsIdle p → exchanges ≡ front ++ back → Fires around (made counts p) statement front → FiresAmong around (statement ∷ others) exchanges
+fires_here around statement others p exchanges front back idle parts fires = record {
+  ahead = [];
+  statement = statement;
+  others = others;
+  among = refl;
+  earlier = [];
+  path = exchanges;
+  parts = refl;
+  none = refl;
+  old = made counts p;
+  idle = counts_idle p idle;
+  fires = fires_further around (made counts p) statement front back exchanges parts fires;
+}
+
+-- or one of the others has
+pub fires_later : (around : Around) (statement : Statement) (others : List Statement) (exchanges front back : List Exchange) → exchanges ≡ front ++ back → progress_of front ≡ none_open → FiresAmong around others back → FiresAmong around (statement ∷ others) exchanges
+fires_later around statement others exchanges front back parts none f = record {
+  ahead = statement ∷ f.ahead;
+  statement = f.statement;
+  others = f.others;
+  among = ap (λ (l : List Statement). statement ∷ l) f.among;
+  earlier = front ++ f.earlier;
+  path = f.path;
+  parts = parts ∙ ap (λ (l : List Exchange). front ++ l) f.parts ∙ sym (append_assoc front f.earlier f.path);
+  none = from_both none_open front f.earlier ∙ ap (λ (s : Stand). progress_from s f.earlier) none ∙ f.none;
+  old = f.old;
+  idle = f.idle;
+  fires = f.fires;
+}
 
 -- ---- one behind another
 
@@ -89,16 +137,18 @@ module _ (levels : ℕ) (around : Around) where
         idle,
       )
 
-  run_held : (statements : List Statement) (p new : SessionProgress) (exchanges : List Exchange) (exit : Exit) → ArePlain statements → IsIdle p → Held (each_of one statements around) p exchanges exit new → Ran statements p exchanges exit new
+  run_held : (statements : List Statement) (p new : SessionProgress) (exchanges : List Exchange) (exit : Exit) → ArePlain statements → IsIdle p → NoneFires around statements exchanges → Held (each_of one statements around) p exchanges exit new
+      → Ran statements p exchanges exit new
   unfolding each_of Held
-  run_held [] p new exchanges exit plain_all idle held = (
+  run_held [] p new exchanges exit plain_all idle calm held = (
     ([], ap (λ (q : SessionProgress). q.tokens) held.2 ∙ sym (append-nil p.tokens), (held.1, refl, ap commits_of held.0, held.0, held.2)),
     ap progress_of held.0,
     subst IsIdle (sym held.2) idle,
   )
-  run_held (statement ∷ others) p new exchanges exit plain_all idle held =
+  run_held (statement ∷ others) p new exchanges exit plain_all idle calm held =
       let on = held_apart (one statement around) (λ exit. goes_on (each_of one others around) exit) p new exchanges exit held in
-      by_came on.front on.back on.mid on.came on.parts (mean_closed levels around statement p on.mid on.front on.came plain_all.0 idle on.held) (λ q back now rest. run_held others q new back exit plain_all.1 now rest) on.rest
+      let first = mean_closed levels around statement p on.mid on.front on.came plain_all.0 idle (λ fires. calm (fires_here around statement others p exchanges on.front on.back idle on.parts fires)) on.held in
+      by_came on.front on.back on.mid on.came on.parts first (λ q now rest. run_held others q new on.back exit plain_all.1 now (λ fires. calm (fires_later around statement others exchanges on.front on.back on.parts first.none fires)) rest) on.rest
     where
       stopped : (front back : List Exchange) (mid : SessionProgress) (came : Exit) → exchanges ≡ front ++ back → (first : Closed around statement p front came mid) → (back ≡ []) × (exit ≡ came) × (new ≡ mid)
           → ((exit ≡ came) × ◌≡◌ {A = List Token} [] [] × ◌≡◌ {A = Commits} [] [] × (back ≡ []) × (new ≡ mid) → IfOn came (Runs around others mid exit [] [] back new) ((exit ≡ came) × ◌≡◌ {A = List Token} [] [] × ◌≡◌ {A = Commits} [] [] × (back ≡ []) × (new ≡ mid)))
@@ -108,23 +158,40 @@ module _ (levels : ℕ) (around : Around) where
           (goes (rest.1, refl, refl, rest.0, rest.2))
 
       by_came : (front back : List Exchange) (mid : SessionProgress) (came : Exit) → exchanges ≡ front ++ back → (first : Closed around statement p front came mid)
-          → ((q : SessionProgress) (back : List Exchange) → IsIdle q → Held (each_of one others around) q back exit new → Ran others q back exit new) → Held (goes_on (each_of one others around) came) mid back exit new → Ran (statement ∷ others) p exchanges exit new
+          → ((q : SessionProgress) → IsIdle q → Held (each_of one others around) q back exit new → Ran others q back exit new) → Held (goes_on (each_of one others around) came) mid back exit new → Ran (statement ∷ others) p exchanges exit new
       by_came front back mid On parts first goes rest =
-          let others_ran = goes mid back first.idle rest in
+          let others_ran = goes mid first.idle rest in
           ran_on statement others p mid new exchanges front back On exit parts first others_ran.0.0 (commits_of back) others_ran.0.1 refl others_ran.1 others_ran.2 others_ran.0.2
       by_came front back mid Leave parts first goes rest = stopped front back mid Leave parts first rest (λ is. is)
       by_came front back mid Again parts first goes rest = stopped front back mid Again parts first rest (λ is. is)
-      by_came front back mid Return parts first goes rest = stopped front back mid Return parts first rest (λ is. is)
+      by_came front back mid (Return status) parts first goes rest = stopped front back mid (Return status) parts first rest (λ is. is)
       by_came front back mid (Raise raised) parts first goes rest = stopped front back mid (Raise raised) parts first rest (λ is. is)
+      by_came front back mid (RaiseUp raised) parts first goes rest = stopped front back mid (RaiseUp raised) parts first rest (λ is. is)
       by_came front back mid End parts first goes rest = stopped front back mid End parts first rest (λ is. is)
 
 pub plain_run : PlainRun
 unfolding Held
-plain_run levels around statements old new exchanges exit plain_all idle held = run_held levels around statements old new exchanges exit plain_all idle held
+plain_run levels around statements old new exchanges exit plain_all idle calm held = run_held levels around statements old new exchanges exit plain_all idle calm held
 
 -- ---- a batch
 
-ends_held : (exit : Exit) (p new : SessionProgress) (exchanges : List Exchange) (done : Unit {0}) → p.txn.doomed ≡ false → Held (ends exit) p exchanges done new → (exchanges ≡ []) × (new ≡ made (sends (batch_done (has_failed exit) ∷ [])) p)
+-- in front of more exchanges
+pub fires_first : (around : Around) (statements : List Statement) (exchanges front back : List Exchange) → exchanges ≡ front ++ back → FiresAmong around statements front → FiresAmong around statements exchanges
+fires_first around statements exchanges front back parts f = record {
+  ahead = f.ahead;
+  statement = f.statement;
+  others = f.others;
+  among = f.among;
+  earlier = f.earlier;
+  path = f.path ++ back;
+  parts = parts ∙ ap (λ (l : List Exchange). l ++ back) f.parts ∙ append_assoc f.earlier f.path back;
+  none = f.none;
+  old = f.old;
+  idle = f.idle;
+  fires = fires_further around f.old f.statement f.path back (f.path ++ back) refl f.fires;
+}
+
+pub ends_held : (exit : Exit) (p new : SessionProgress) (exchanges : List Exchange) (done : Unit {0}) → p.txn.doomed ≡ false → Held (ends exit) p exchanges done new → (exchanges ≡ []) × (new ≡ made (sends (batch_done (has_failed exit) ∷ [])) p)
 unfolding ends Held
 ends_held exit p new exchanges done sound held = by_doom p.txn.doomed sound held
   where
@@ -134,10 +201,11 @@ ends_held exit p new exchanges done sound held = by_doom p.txn.doomed sound held
 
 pub batch_runs : BatchRuns
 unfolding batch Held
-batch_runs statements old new exchanges plain_all idle held =
+batch_runs statements old new exchanges plain_all idle calm held =
     let begun : SessionProgress = made (begins (vars_of statements)) old in
     let on = held_apart (meaning statement_limit statements around_batch) ends begun new exchanges tt held in
-    let ran = run_held statement_limit around_batch statements begun on.mid on.front on.came plain_all (record { shut = idle.shut; closed = idle.closed; sound = idle.sound }) on.held in
+    let now : IsIdle begun = record { shut = idle.shut; closed = idle.closed; sound = idle.sound } in
+    let ran = run_held statement_limit around_batch statements begun on.mid on.front on.came plain_all now (λ fires. calm (fires_first around_batch statements exchanges on.front on.back on.parts fires)) on.held in
     by_ran begun on.front on.back on.mid on.came on.parts refl ran (ends_held on.came on.mid new on.back tt ran.2.sound on.rest)
   where
     by_ran : (begun : SessionProgress) (front back : List Exchange) (mid : SessionProgress) (exit : Exit) → exchanges ≡ front ++ back → begun ≡ made (begins (vars_of statements)) old → Ran statement_limit around_batch statements begun front exit mid
@@ -159,16 +227,10 @@ batch_runs statements old new exchanges plain_all idle held =
 
 -- ---- a text that is refused
 
-at_once : (read : ReadText) (raised : Raised) → runs_text read ≡ makes (sends (error_token raised ∷ [])) (over End) → EndsAtOnce read raised
-unfolding batch ◌then◌ Held
-at_once read raised runs old new exchanges sound held =
-    let begun : SessionProgress = made (begins (vars_in_text read)) old in
-    let on : Held (ends End) (made (sends (error_token raised ∷ [])) begun) exchanges tt new = subst (λ (tree : Doing Exit). Held (tree then ends) begun exchanges tt new) runs held in
-    let end = ends_held End (made (sends (error_token raised ∷ [])) begun) new exchanges tt sound on in
-    (end.0, ap (λ (q : SessionProgress). q.tokens) end.1, ap (λ (q : SessionProgress). q.is_open) end.1)
-
 pub refused_ends : RefusedEnds
-refused_ends line code near = at_once (text.Refused line code near) (raised_at line (naming code near)) refl
-
-pub unbuilt_ends : UnbuiltEnds
-unbuilt_ends = at_once text.NotBuilt (raised_at (pos 1) (plain not_built)) refl
+unfolding batch ◌then◌ Held
+refused_ends line code near old new exchanges sound held =
+    let raised : Raised = raised_at line (naming code near) in
+    let begun : SessionProgress = made (begins []) old in
+    let end = ends_held End (made (sends (error_token raised ∷ [])) begun) new exchanges tt sound held in
+    (end.0, ap (λ (q : SessionProgress). q.tokens) end.1, ap (λ (q : SessionProgress). q.is_open) end.1)

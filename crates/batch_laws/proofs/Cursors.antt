@@ -20,7 +20,7 @@ use Rattle.batch_meaning.specs.Progress.{SessionProgress, SessionStep, declares,
 use Rattle.batch_meaning.specs.Selecting.{Effect, no_effect}
 use Rattle.batch_meaning.specs.Transactions.{bound_first}
 use Rattle.batch_meaning.specs.Values.{Assigned, assigned_to}
-use Rattle.batch_meaning.specs.Working.{within, answers, asks_any, binds, enters, leaves, own, prepares}
+use Rattle.batch_meaning.specs.Working.{within, answers, asks_any, binds, enters, leaves, own, prepares, known_by}
 use Rattle.statement_paths.proofs.Cursors.{opens_look, IsLookStep, only_opens}
 use Rattle.batch_laws.specs.Committing.{Agrees, Leaves}
 use Rattle.batch_laws.specs.Cursors.{CloseMoves, DeclareMoves, FetchMoves, Fetches, OpenLeaves, RemoveMoves, Steps, OpenMoves}
@@ -169,8 +169,8 @@ module _ (around : Around) (statement : Statement) (name : List ℕ) (p new : Se
   refused_leaves : Failed p new exchanges came → LeavesIt
   refused_leaves failed = none_leaves p.is_open before exchanges agrees failed.2
 
-  kept_leaves : (select : Select) (answer : Result (Unit {0}) CursorFault) → Held (answered name (λ done. within (select_statement statement select) (opens_bound around name)) answer) p exchanges came new → LeavesIt
-  kept_leaves select (Ok done) held = within_leaves (select_statement statement select) (opens_bound around name) (opens_look around p name) p new exchanges came before agrees held
+  kept_leaves : (select : Select) (answer : Result (Unit {0}) CursorFault) → Held (answered name (λ done. within around (select_statement statement select) (opens_bound around name)) answer) p exchanges came new → LeavesIt
+  kept_leaves select (Ok done) held = within_leaves around (select_statement statement select) (opens_bound around name) (opens_look around p name) p new exchanges came before agrees held
   kept_leaves select (Err fault) held = refused_leaves (fault_fails p new exchanges came name fault held)
 
   query_leaves : (answer : Result Select CursorFault) → Held (answered name (opens_kept around statement name p) answer) p exchanges came new → LeavesIt
@@ -243,23 +243,23 @@ module _ (around : Around) (p0 : SessionProgress) (name : List ℕ) where
   bound_spares shapes (bound.Write write) p new exchanges failure held = ap (λ (q : SessionProgress). q.cursors) held.2
   bound_spares shapes bound.Plain p new exchanges failure held = ap (λ (q : SessionProgress). q.cursors) held.2
 
-  within_spares : (select : Statement) → Spares (within select (opens_bound around name))
+  within_spares : (select : Statement) → Spares (within around select (opens_bound around name))
   unfolding within binds
-  within_spares select = room_spares (own (asks_any (looked_up select)) (binds select (opens_bound around name))) (own_spares (asks_any (looked_up select)) (binds select (opens_bound around name))
-      (bind_spares (prepares select) (λ made. opens_bound around name made.0 made.1) (reads_same (prepares select) (prepares_reads select)) (λ made. bound_spares made.0 made.1)))
+  within_spares select = room_spares (own (asks_any (known_by around select) (looked_up select)) (binds around select (opens_bound around name))) (own_spares (asks_any (known_by around select) (looked_up select)) (binds around select (opens_bound around name))
+      (bind_spares (prepares around select) (λ made. opens_bound around name made.0 made.1) (reads_same (prepares around select) (prepares_reads around select)) (λ made. bound_spares made.0 made.1)))
 
   -- what it makes of the session
-  within_makes : (select : Statement) → Only IsLookStep AnyOp (within select (opens_bound around name))
+  within_makes : (select : Statement) → Only IsLookStep AnyOp (within around select (opens_bound around name))
   unfolding within
-  within_makes select = only_room IsLookStep AnyOp (own (asks_any (looked_up select)) work)
-      (own_makes IsLookStep (asks_any (looked_up select)) work (only_mono IsLookStep IsLookStep IsFetch AnyOp (λ step is. is) (λ op is. tt) work (binds_look select (opens_bound around name) (opens_look around p0 name))))
+  within_makes select = only_room IsLookStep AnyOp (own (asks_any (known_by around select) (looked_up select)) work)
+      (own_makes IsLookStep (asks_any (known_by around select) (looked_up select)) work (only_mono IsLookStep IsLookStep IsFetch AnyOp (λ step is. is) (λ op is. tt) work (binds_look around select (opens_bound around name) (opens_look around p0 name))))
     where
       work : Doing (Result Effect Failure)
-      work = binds select (opens_bound around name)
+      work = binds around select (opens_bound around name)
 
 -- all else is as it was
 abbrev IsSpared : SessionProgress → SessionProgress → Type 0
-IsSpared p q = q ≡ record p { cursors = q.cursors; is_open = q.is_open; touched = q.touched; txn = q.txn }
+IsSpared p q = q ≡ record p { cursors = q.cursors; is_open = q.is_open; is_own = q.is_own; stands = q.stands; touched = q.touched; txn = q.txn }
 
 spared_step : (p : SessionProgress) (step : SessionStep) (q : SessionProgress) → IsLookStep step → IsSpared p q → IsSpared p (made step q)
 spared_step p touches q is same = ap (λ (s : SessionProgress). record s { touched = true }) same
@@ -267,7 +267,7 @@ spared_step p (fills name kinds rows) q is same = ap (λ (s : SessionProgress). 
 spared_step p step q is same = absurd is
 
 spared_op : (p : SessionProgress) (op : Op) (reply : Reply) (q : SessionProgress) → AnyOp op → CanReply op reply → IsSpared p q → IsSpared p (asked op reply q)
-spared_op p op reply q is can same = ap (λ (s : SessionProgress). record s { is_open = (asked op reply q).is_open; touched = (asked op reply q).touched; txn = (asked op reply q).txn }) same
+spared_op p op reply q is can same = ap (λ (s : SessionProgress). record s { is_open = (asked op reply q).is_open; is_own = (asked op reply q).is_own; stands = (asked op reply q).stands; touched = (asked op reply q).touched; txn = (asked op reply q).txn }) same
 
 module _ (around : Around) (statement : Statement) (name : List ℕ) (p new : SessionProgress) (exchanges : List Exchange) where
   open_spared : (came : Result Effect Failure) → Held (opens_cursor around statement name) p exchanges came new → IsSpared p new
@@ -281,7 +281,7 @@ module _ (around : Around) (statement : Statement) (name : List ℕ) (p new : Se
       by_failed : Failed p new exchanges (Err failure) → new.cursors ≡ p.cursors
       by_failed failed = ap (λ (q : SessionProgress). q.cursors) failed.3
 
-      by_answer : (select : Select) (answer : Result (Unit {0}) CursorFault) → Held (answered name (λ done. within (select_statement statement select) (opens_bound around name)) answer) p exchanges (Err failure) new → new.cursors ≡ p.cursors
+      by_answer : (select : Select) (answer : Result (Unit {0}) CursorFault) → Held (answered name (λ done. within around (select_statement statement select) (opens_bound around name)) answer) p exchanges (Err failure) new → new.cursors ≡ p.cursors
       by_answer select (Ok done) was = within_spares around p name (select_statement statement select) p new exchanges failure was
       by_answer select (Err fault) was = by_failed (fault_fails p new exchanges (Err failure) name fault was)
 
@@ -296,4 +296,4 @@ module _ (around : Around) (statement : Statement) (name : List ℕ) (p new : Se
 pub open_moves : OpenMoves
 open_moves around statement name old new exchanges (Ok effect) held = open_spared around statement name old new exchanges (Ok effect) held
 open_moves around statement name old new exchanges (Err failure) held =
-    open_spared around statement name old new exchanges (Err failure) held ∙ ap (λ cursors. record old { cursors = cursors; is_open = new.is_open; touched = new.touched; txn = new.txn }) (open_spares around statement name old new exchanges failure held)
+    open_spared around statement name old new exchanges (Err failure) held ∙ ap (λ cursors. record old { cursors = cursors; is_open = new.is_open; is_own = new.is_own; stands = new.stands; touched = new.touched; txn = new.txn }) (open_spares around statement name old new exchanges failure held)

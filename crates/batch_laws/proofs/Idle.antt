@@ -1,8 +1,11 @@
 -- Plain statements open no transaction of BEGIN TRANSACTION, so where there is none there is none behind them; and all that SET has set
 -- stays, and so do the cursors.
-use Rattle.std.proofs.Common.{◌≡◌, ℕ, zero, suc, Bool, true, false, if◌then◌else◌, is_ok, List, [], ◌∷◌, Result, Ok, Err, refl, sym, ◌∙◌, subst}
-use Rattle.std.specs.Prelude.{◌&&◌, ◌==◌}
+use Rattle.std.proofs.Common.{◌≡◌, ℕ, ℤ, Bool, true, false, if◌then◌else◌, is_ok, List, [], ◌∷◌, Result, Ok, refl, sym, ap, ◌∙◌, subst}
+use Rattle.std.specs.Prelude.{◌||◌, not}
+use Rattle.tsql_tree.specs.declared.definition.Definition.{Definition}
+use Rattle.tsql_tree.specs.declared.definition.Definition.TheVariants.{Table, Procedure, Trigger}
 use Rattle.tsql_tree.specs.declared.definition.TableTree.{TableTree}
+use Rattle.tsql_tree.specs.declared.statement.DropKind.{DropKind}
 use Rattle.tsql_tree.specs.declared.statement.Form.{Form-F}
 use Rattle.tsql_tree.specs.declared.statement.Statement.{Statement}
 use Rattle.bound_tree.specs.declared.write.Bound.{Bound}
@@ -25,21 +28,25 @@ use Rattle.batch_meaning.specs.declared.home.Home.TheVariants.{Nowhere, Open, Ow
 use Rattle.batch_meaning.specs.declared.raised.Raised.{Raised}
 use Rattle.catalog_rows.specs.Definitions.{is_objects}
 use Rattle.batch_meaning.specs.Changing.{object_present}
-use Rattle.batch_meaning.specs.Asking.{assigns_all, fails_naming, unless_refused, where_begun, where_done, where_ended}
+use Rattle.clause_binder.specs.Scope.{is_long}
+use Rattle.batch_meaning.specs.Asking.{assigns_all, fails, fails_naming, unless_refused, where_begun, where_done, where_ended}
 use Rattle.batch_meaning.specs.Doing.{Doing, over, makes, asks, ◌then◌, Held}
-use Rattle.batch_meaning.specs.Failures.{plain}
-use Rattle.batch_meaning.specs.Meaning.{caught_as, concluded, concludes, counted, does, doomed_write, ended_by, fails_for, is_refused_doomed, leaves_rows, line_of, mean_by, mean_form, mean_of, Meaning, or_full, raises, rolls_back_told, sends_some, spends, statements_spent, succeeds}
-use Rattle.batch_meaning.specs.Progress.{SessionProgress, SessionStep, after_doom, assigns, begins, closes_one, counts, declares, dooms, fetches, fills, made, opens, removes, saves, sends, sets, shuts, tells_error, tells_fetch, tells_rows, touches, asked}
-use Rattle.batch_meaning.specs.Raised.{Around, action_in, is_caught_in, raised_at}
+use Rattle.batch_meaning.specs.Meaning.{caught_as, counted, ended_by, fails_for, leaves_rows, line_of, or_full, raises, raises_at, rolls_back_told, sends_some, strikes, succeeds, told_unless_own}
+use Rattle.batch_meaning.specs.Progress.{SessionProgress, SessionStep, after_doom, assigns, begins, closes_one, counts, declares, dooms, fetches, fills, fired_from, fires_from, made, opens, removes, saves, sends, sets, shuts, stands_with, tells_error, tells_fetch, tells_rows, touches, asked}
+use Rattle.batch_meaning.specs.Raised.{Around, action_in, is_caught_in}
 use Rattle.batch_meaning.specs.Selecting.{Effect}
 use Rattle.batch_meaning.specs.Tokens.{command_of}
-use Rattle.batch_meaning.specs.Values.{Assigned}
-use Rattle.batch_meaning.specs.Working.{asks_any, binds, closes, creates, creates_table, enters, leaves, own, prepares, relaxes, unless_objects, within, works, works_bound}
-use Rattle.statement_paths.specs.Paths.{work_for, work_of}
+use Rattle.batch_meaning.specs.Values.{Assigned, outside_limits}
+use Rattle.batch_meaning.specs.Working.{asks_any, binds, closes, enters, known_by, leaves, own, prepares, relaxes, status_bound, statuses, within, works, works_bound}
+use Rattle.batch_meaning.specs.Writes.{change_bound, creates, creates_definition, creates_table, drops, is_odd_list, puts_definition, unless_objects}
+use Rattle.statement_paths.specs.Paths.{changes_of, work_for, work_of}
 use Rattle.statement_paths.proofs.Only.{AnyOp, Only, held_keeps, only_bind, only_if, only_mono, only_naming, only_room, only_then}
-use Rattle.statement_paths.proofs.Owned.{nothing_more}
-use Rattle.statement_paths.proofs.Works.{IsWorkStep, Works, binds_work, creates_works, prepares_reads, reads_work, unless_works, worked_works}
-use Rattle.batch_laws.specs.Committing.{is_plain, Stays}
+use Rattle.statement_paths.proofs.Owned.{Behind as IsLeft, nothing_more}
+use Rattle.statement_paths.proofs.Working.{status_read}
+use Rattle.statement_paths.proofs.Works.{IsWorkStep, Works, binds_work, change_works, creates_works, prepares_reads, reads_work, unless_works, worked_works}
+use Rattle.batch_laws.specs.Committing.{IsBehind, Stays}
+use Rattle.batch_laws.proofs.Named.{dropping_works, trigger_works}
+use Rattle.batch_laws.proofs.Opened.{Inside, stays_in}
 
 -- no transaction is opened by BEGIN TRANSACTION, or counted by COMMIT; SET sets nothing, and no cursor is changed
 abbrev pub IsPlainStep : SessionStep → Type 0
@@ -52,10 +59,13 @@ IsPlainStep (fetches name) = ⊥
 IsPlainStep (shuts name) = ⊥
 IsPlainStep (removes name) = ⊥
 IsPlainStep (tells_fetch status) = ⊥
+IsPlainStep (stands_with vars) = ⊥
+IsPlainStep (fires_from mark) = ⊥
+IsPlainStep (fired_from mark stood) = ⊥
 IsPlainStep step = Unit {0}
 
 -- a tree that makes such steps alone
-abbrev Shut : {A : Type 0} → Doing A → Type 0
+abbrev pub Shut : {A : Type 0} → Doing A → Type 0
 Shut tree = Only IsPlainStep AnyOp tree
 
 work_shuts : (step : SessionStep) → IsWorkStep step → IsPlainStep step
@@ -117,9 +127,9 @@ module _ (Steps : SessionStep → Type 0) where
 own_shuts : {A : Type 0} (asks_some : Bool) (work : Doing (Result A Failure)) → Shut work → Shut (own asks_some work)
 own_shuts asks_some work shut = own_makes IsPlainStep asks_some work shut
 
-binds_shut : (statement : Statement) (go : List TableTree → Bound → Doing (Result Effect Failure)) → ((shapes : List TableTree) (of : Bound) → Shut (go shapes of)) → Shut (binds statement go)
+binds_shut : {A : Type 0} (around : Around) (statement : Statement) (go : List TableTree → Bound → Doing (Result A Failure)) → ((shapes : List TableTree) (of : Bound) → Shut (go shapes of)) → Shut (binds around statement go)
 unfolding binds
-binds_shut statement go shut = only_bind IsPlainStep AnyOp (prepares statement) (λ made. go made.0 made.1) (works_shut (prepares statement) (reads_work (prepares statement) (prepares_reads statement))) (λ made. shut made.0 made.1)
+binds_shut around statement go shut = only_bind IsPlainStep AnyOp (prepares around statement) (λ made. go made.0 made.1) (works_shut (prepares around statement) (reads_work (prepares around statement) (prepares_reads around statement))) (λ made. shut made.0 made.1)
 
 objects_shut : (name : List ℕ) (tree : Doing (Result Effect Failure)) → Shut tree → Shut (unless_objects name tree)
 objects_shut name tree shut = only_if IsPlainStep AnyOp (is_objects name) (fails_naming object_present name) tree (only_naming IsPlainStep AnyOp Effect object_present name) shut
@@ -127,48 +137,79 @@ objects_shut name tree shut = only_if IsPlainStep AnyOp (is_objects name) (fails
 -- ---- every statement that is done with its effect
 
 module _ (around : Around) (p0 : SessionProgress) (statement : Statement) where
-  works_of_shut : Shut (works around statement)
-  unfolding works within
-  works_of_shut = only_room IsPlainStep AnyOp (own (asks_any (looked_up statement)) work) (own_shuts (asks_any (looked_up statement)) work (works_shut work (binds_work statement (works_bound around (form_of statement)) (worked_works around p0 (form_of statement)))))
-    where
-      work : Doing (Result Effect Failure)
-      work = binds statement (works_bound around (form_of statement))
+  abbrev asks_some : Bool
+  asks_some = asks_any (known_by around statement) (looked_up statement)
 
-  creates_shut : (name text : List ℕ) → Shut (creates_table statement name text)
+  within_shut : {A : Type 0} (go : List TableTree → Bound → Doing (Result A Failure)) → ((shapes : List TableTree) (of : Bound) → Works (go shapes of)) → Shut (within around statement go)
+  unfolding within
+  within_shut go works = only_room IsPlainStep AnyOp (own asks_some (binds around statement go)) (own_shuts asks_some (binds around statement go) (works_shut (binds around statement go) (binds_work around statement go works)))
+
+  works_of_shut : Shut (works around statement)
+  unfolding works
+  works_of_shut = within_shut (works_bound around (form_of statement)) (worked_works around p0 (form_of statement))
+
+  pub statuses_shut : Shut (statuses around statement)
+  unfolding statuses
+  statuses_shut = within_shut (status_bound around) (λ shapes of. reads_work (status_bound around shapes of) (status_read around p0 shapes of))
+
+  pub changes_shut : Shut (changes_of around statement)
+  unfolding changes_of within
+  changes_shut = within_shut (change_bound around) (change_works around p0)
+
+  creates_shut : (name text : List ℕ) → Shut (creates_table around statement name text)
   unfolding creates_table
-  creates_shut name text = only_room IsPlainStep AnyOp _ (only_if IsPlainStep AnyOp (asks_any (looked_up statement)) (own true first) second (own_shuts true first (works_shut first (binds_work statement putting (λ shapes of. unless_works name (creates name text) (creates_works name text))))) second_shut)
+  creates_shut name text =
+      only_room IsPlainStep AnyOp _ (only_if IsPlainStep AnyOp asks_some (own true first) second (own_shuts true first (works_shut first (binds_work around statement putting (λ shapes of. unless_works name (creates name text) (creates_works name text))))) second_shut)
     where
       putting : List TableTree → Bound → Doing (Result Effect Failure)
       putting shapes of = unless_objects name (creates name text)
 
       first : Doing (Result Effect Failure)
-      first = binds statement putting
+      first = binds around statement putting
 
       later : List TableTree → Bound → Doing (Result Effect Failure)
       later shapes of = unless_objects name (own true (creates name text))
 
       second : Doing (Result Effect Failure)
-      second = binds statement later
+      second = binds around statement later
 
       second_shut : Shut second
-      second_shut = binds_shut statement later (λ shapes of. objects_shut name (own true (creates name text)) (own_shuts true (creates name text) (works_shut (creates name text) (creates_works name text))))
+      second_shut = binds_shut around statement later (λ shapes of. objects_shut name (own true (creates name text)) (own_shuts true (creates name text) (works_shut (creates name text) (creates_works name text))))
+
+  drops_shut : (kind : DropKind) (name : List ℕ) → Shut (drops around statement kind name)
+  unfolding drops
+  drops_shut kind name = only_room IsPlainStep AnyOp _ (own_shuts (asks_any (known_by around statement) (name ∷ [])) _ (works_shut _ (dropping_works around p0 statement kind name)))
 
   form_shuts : (form : Layer) → Shut (work_for around statement form)
   form_shuts (Form-F.CreateTable table text) = creates_shut table.name text
+  form_shuts (Form-F.Drop kind name) = drops_shut kind name
   form_shuts form = works_of_shut
 
   pub work_shuts_of : Shut (work_of around statement)
   work_shuts_of = form_shuts (form_of statement)
 
+pub definition_shut : (of : Definition) (text : List ℕ) → Shut (creates_definition of text)
+unfolding creates_definition
+definition_shut (Table table) text = tt
+definition_shut (Procedure procedure) text = only_room IsPlainStep AnyOp _ (puts_shut (is_long procedure.name || is_odd_list procedure.parameters) procedure.name (own true (creates procedure.name text)) (own_shuts true (creates procedure.name text) (works_shut (creates procedure.name text) (creates_works procedure.name text))))
+  where
+    puts_shut : (outside : Bool) (name : List ℕ) (tree : Doing (Result Effect Failure)) → Shut tree → Shut (puts_definition outside name tree)
+    puts_shut outside name tree shut = only_if IsPlainStep AnyOp outside (fails outside_limits) (unless_objects name tree) tt (objects_shut name tree shut)
+definition_shut (Trigger trigger) text = only_room IsPlainStep AnyOp _ (own_shuts (not (is_objects trigger.table)) _ (works_shut _ (trigger_works trigger text)))
+
 -- ---- how it ends
 
 rolls_shut : Shut rolls_back_told
 unfolding rolls_back_told
-rolls_shut = λ p. only_if IsPlainStep AnyOp p.is_open (asks ops.Rollback (where_ended (makes (sends _) nothing_more))) nothing_more (tt, by_reply _) tt
+rolls_shut = λ p. only_if IsPlainStep AnyOp p.is_open (asks ops.Rollback (where_ended (told_unless_own p.is_own p.txn.serial))) nothing_more (tt, by_reply (told_unless_own p.is_own p.txn.serial) (told_shut p.is_own p.txn.serial)) tt
   where
-    by_reply : (tokens : List Token) (reply : Reply) → CanReply ops.Rollback reply → Shut (where_ended (makes (sends tokens) nothing_more) reply)
-    by_reply tokens (replies.Ended place) can = (tt, tt)
-    by_reply tokens reply can = absurd can
+    told_shut : (is_own : Bool) (serial : ℕ) → Shut (told_unless_own is_own serial)
+    told_shut true serial = tt
+    told_shut false serial = (tt, tt)
+
+    by_reply : (told : Doing (Unit {0})) → Shut told → (reply : Reply) → CanReply ops.Rollback reply → Shut (where_ended told reply)
+    by_reply told shut (replies.Ended place) can = shut
+    by_reply told shut reply can = absurd can
 
 ended_shut : (action : Action) → Shut (ended_by action)
 unfolding ended_by
@@ -183,21 +224,19 @@ caught_shut act.Doom raised = (tt, tt)
 caught_shut act.Batch raised = tt
 caught_shut act.BatchAndTransaction raised = tt
 
-raises_shut : (around : Around) (statement : Statement) (raised : Raised) → Shut (raises around statement raised)
-unfolding raises
-raises_shut around statement raised = λ p. (
-  tt,
-  only_if IsPlainStep AnyOp (is_caught_in around (or_full around p (command_of (form_of statement)) (line_of statement) raised)) _ _
-      (caught_shut (action_in around p.settings.xact_abort (or_full around p (command_of (form_of statement)) (line_of statement) raised)) (or_full around p (command_of (form_of statement)) (line_of statement) raised))
-      (tt, ended_shut (action_in around p.settings.xact_abort (or_full around p (command_of (form_of statement)) (line_of statement) raised))),
-)
+pub raises_shut : (around : Around) (line : ℤ) (command : ℕ) (raised : Raised) → Shut (raises_at around line command raised)
+unfolding raises_at
+raises_shut around line command raised = λ p. struck_shut p.settings.xact_abort (or_full around p command line raised)
+  where
+    struck_shut : (xact_abort : Bool) (r : Raised) → Shut (strikes around xact_abort command r)
+    struck_shut xact_abort r = (tt, only_if IsPlainStep AnyOp (is_caught_in around r) _ _ (caught_shut (action_in around xact_abort r) r) (tt, ended_shut (action_in around xact_abort r)))
 
 counted_shut : (form : Layer) (rows : ℕ) (next : Doing Exit) → Shut next → Shut (counted form rows next)
 counted_shut form rows next shut = only_if IsPlainStep AnyOp (leaves_rows form) next (makes (tells_rows rows) next) shut (tt, shut)
 
-fails_shut : (around : Around) (statement : Statement) (failure : Failure) → Shut (fails_for around statement failure)
+pub fails_shut : (around : Around) (statement : Statement) (failure : Failure) → Shut (fails_for around statement failure)
 unfolding fails_for
-fails_shut around statement failure = counted_shut (form_of statement) 0 (raises around statement (raised_at (line_of statement) failure)) (raises_shut around statement (raised_at (line_of statement) failure))
+fails_shut around statement failure = counted_shut (form_of statement) 0 (raises around statement _) (raises_shut around (line_of statement) (command_of (form_of statement)) _)
 
 sets_shut : (assigned : List Assigned) (next : Doing Exit) → Shut next → Shut (assigns_all assigned next)
 unfolding assigns_all
@@ -208,52 +247,9 @@ sends_shut : (tokens : List Token) (exit : Exit) → Shut (sends_some tokens (ov
 sends_shut [] exit = tt
 sends_shut (token ∷ tokens) exit = (tt, tt)
 
-succeeds_shut : (statement : Statement) (effect : Effect) (exit : Exit) → Shut (succeeds statement effect (over exit))
+pub succeeds_shut : (statement : Statement) (effect : Effect) (exit : Exit) → Shut (succeeds statement effect (over exit))
 unfolding succeeds
 succeeds_shut statement effect exit = sets_shut effect.sets _ (counted_shut (form_of statement) effect.rows _ (tt, sends_shut effect.tokens exit))
-
-does_shut : (around : Around) (p0 : SessionProgress) (statement : Statement) (exit : Exit) (work : Doing (Result Effect Failure)) → Shut work → Shut (does around statement exit work)
-unfolding does concludes
-does_shut around p0 statement exit work shut = only_then IsPlainStep AnyOp work (concluded around statement (λ effect. succeeds statement effect (over exit))) shut by_came
-  where
-    by_came : (came : Result Effect Failure) → Shut (concluded around statement (λ effect. succeeds statement effect (over exit)) came)
-    by_came (Ok effect) = succeeds_shut statement effect exit
-    by_came (Err failure) = fails_shut around statement failure
-
-plain_shut : (one : Statement → Meaning) (around : Around) (p0 : SessionProgress) (statement : Statement) (form : Layer) → is_plain form ≡ true → Shut (mean_form one around statement form)
-unfolding mean_form
-plain_shut one around p0 statement (Form-F.If test so otherwise) is = absurd (let no : false ≡ true = is in cc)
-plain_shut one around p0 statement (Form-F.While test body) is = absurd (let no : false ≡ true = is in cc)
-plain_shut one around p0 statement Form-F.Break is = absurd (let no : false ≡ true = is in cc)
-plain_shut one around p0 statement Form-F.Continue is = absurd (let no : false ≡ true = is in cc)
-plain_shut one around p0 statement (Form-F.Block body) is = absurd (let no : false ≡ true = is in cc)
-plain_shut one around p0 statement (Form-F.TryCatch body handler) is = absurd (let no : false ≡ true = is in cc)
-plain_shut one around p0 statement (Form-F.Print value) is = absurd (let no : false ≡ true = is in cc)
-plain_shut one around p0 statement (Form-F.RaiseError value class state) is = absurd (let no : false ≡ true = is in cc)
-plain_shut one around p0 statement (Form-F.Throw number value state) is = absurd (let no : false ≡ true = is in cc)
-plain_shut one around p0 statement Form-F.ThrowAgain is = absurd (let no : false ≡ true = is in cc)
-plain_shut one around p0 statement (Form-F.SetOption option) is = absurd (let no : false ≡ true = is in cc)
-plain_shut one around p0 statement (Form-F.BeginTransaction name) is = absurd (let no : false ≡ true = is in cc)
-plain_shut one around p0 statement (Form-F.Commit name) is = absurd (let no : false ≡ true = is in cc)
-plain_shut one around p0 statement (Form-F.Rollback name) is = absurd (let no : false ≡ true = is in cc)
-plain_shut one around p0 statement (Form-F.Save name) is = absurd (let no : false ≡ true = is in cc)
-plain_shut one around p0 statement (Form-F.DeclareCursor name select) is = absurd (let no : false ≡ true = is in cc)
-plain_shut one around p0 statement (Form-F.OpenCursor name) is = absurd (let no : false ≡ true = is in cc)
-plain_shut one around p0 statement (Form-F.Fetch name variables) is = absurd (let no : false ≡ true = is in cc)
-plain_shut one around p0 statement (Form-F.CloseCursor name) is = absurd (let no : false ≡ true = is in cc)
-plain_shut one around p0 statement (Form-F.Deallocate name) is = absurd (let no : false ≡ true = is in cc)
-plain_shut one around p0 statement (Form-F.CreateTable table text) is = does_shut around p0 statement _ _ (creates_shut around p0 statement table.name text)
-plain_shut one around p0 statement form is = does_shut around p0 statement _ _ (works_of_shut around p0 statement)
-
-by_shut : (one : Statement → Meaning) (around : Around) (p0 : SessionProgress) (statement : Statement) → is_plain (form_of statement) ≡ true → Shut (mean_by one statement around)
-unfolding mean_by
-by_shut one around p0 statement is = λ p. only_if IsPlainStep AnyOp (p.txn.doomed && is_refused_doomed (form_of statement)) (fails_for around statement (plain doomed_write)) _ (fails_shut around statement (plain doomed_write)) (plain_shut one around p0 statement (form_of statement) is)
-
-pub mean_shut : (levels : ℕ) (around : Around) (p0 : SessionProgress) (statement : Statement) → is_plain (form_of statement) ≡ true → Shut (mean_of levels statement around)
-unfolding mean_of
-mean_shut zero around p0 statement is = raises_shut around statement (raised_at (line_of statement) (plain statements_spent))
-mean_shut (suc levels) around p0 statement is = λ p. only_if IsPlainStep AnyOp (p.statements_left == 0) (spends statement around) _ (raises_shut around statement (raised_at (line_of statement) (plain statements_spent)))
-    (tt, by_shut (λ inner at. mean_of levels inner at) around p0 statement is)
 
 -- ---- what stays so
 
@@ -280,9 +276,6 @@ shut_op op (replies.Ended place) p is can shut = (refl, refl)
 shut_op (ops.BackTo mark) replies.Done p is can shut = shut
 shut_op (ops.BackTo mark) reply p is can shut = shut
 shut_op op reply p is can shut = shut
-
-pub mean_stays : (levels : ℕ) (around : Around) (statement : Statement) (p new : SessionProgress) (exchanges : List Exchange) (exit : Exit) → is_plain (form_of statement) ≡ true → Held (mean_of levels statement around) p exchanges exit new → IsShut p → IsShut new
-mean_stays levels around statement p new exchanges exit is held shut = held_keeps IsPlainStep AnyOp IsShut by_step shut_op (mean_of levels statement around) p new exchanges exit (mean_shut levels around p statement is) held shut
 
 -- ---- the number of the transaction stays
 
@@ -336,7 +329,7 @@ module _ (p : SessionProgress) where
   kept_op : (op : Op) (reply : Reply) (q : SessionProgress) → AnyOp op → CanReply op reply → IsKept q → IsKept (asked op reply q)
   kept_op op reply q is can same = same
 
-shut_stays : {A : Type 0} (tree : Doing A) (p new : SessionProgress) (exchanges : List Exchange) (a : A) → Shut tree → Held tree p exchanges a new → Stays p new
+pub shut_stays : {A : Type 0} (tree : Doing A) (p new : SessionProgress) (exchanges : List Exchange) (a : A) → Shut tree → Held tree p exchanges a new → Stays p new
 shut_stays tree p new exchanges a shut held =
     let kept = held_keeps IsPlainStep AnyOp (IsKept p) (kept_step p) (kept_op p) tree p new exchanges a shut held (refl, refl, refl) in
     record {
@@ -346,13 +339,36 @@ shut_stays tree p new exchanges a shut held =
       fetched = kept.2;
     }
 
-pub mean_keeps : (levels : ℕ) (around : Around) (statement : Statement) (p new : SessionProgress) (exchanges : List Exchange) (exit : Exit) → is_plain (form_of statement) ≡ true → Held (mean_of levels statement around) p exchanges exit new → Stays p new
-mean_keeps levels around statement p new exchanges exit is held = shut_stays (mean_of levels statement around) p new exchanges exit (mean_shut levels around p statement is) held
+pub shut_idle : {A : Type 0} (tree : Doing A) (p new : SessionProgress) (exchanges : List Exchange) (a : A) → Shut tree → Held tree p exchanges a new → IsShut p → IsShut new
+shut_idle tree p new exchanges a shut held closed = held_keeps IsPlainStep AnyOp IsShut by_step shut_op tree p new exchanges a shut held closed
 
-pub does_keeps : (around : Around) (statement : Statement) (exit : Exit) (p new : SessionProgress) (exchanges : List Exchange) (came : Exit) → Held (does around statement exit (work_of around statement)) p exchanges came new → Stays p new
-does_keeps around statement exit p new exchanges came held =
-    shut_stays (does around statement exit (work_of around statement)) p new exchanges came (does_shut around p statement exit (work_of around statement) (work_shuts_of around p statement)) held
+-- one behind another
+pub stays_then : (p q r : SessionProgress) → Stays p q → Stays q r → Stays p r
+stays_then p q r first later = record { settings = later.settings ∙ first.settings; serial = later.serial ∙ first.serial; cursors = later.cursors ∙ first.cursors; fetched = later.fetched ∙ first.fetched }
 
-pub work_serial : (around : Around) (statement : Statement) (p new : SessionProgress) (exchanges : List Exchange) (came : Result Effect Failure) → Held (work_of around statement) p exchanges came new → new.txn.serial ≡ p.txn.serial
-work_serial around statement p new exchanges came held =
-    held_keeps IsPlainStep AnyOp (IsNumber p.txn.serial) (number_step p.txn.serial) (number_op p.txn.serial) (work_of around statement) p new exchanges came (work_shuts_of around p statement) held refl
+-- ---- behind the work of a plain statement
+
+-- what of its session is as it was
+pub record Behind (p q : SessionProgress) : Type 0 where
+  pub near : IsBehind p q
+  pub tokens : q.tokens ≡ p.tokens
+  pub rows : q.row_count ≡ p.row_count
+  pub stays : Stays p q
+  pub idle : IsShut p → IsShut q
+
+pub is_behind : {A : Type 0} (tree : Doing A) (p q : SessionProgress) (exchanges : List Exchange) (a : A) → Shut tree → Inside tree → IsLeft p q → Held tree p exchanges a q → Behind p q
+is_behind tree p q exchanges a shut inside worked held =
+    let stays = shut_stays tree p q exchanges a shut held in
+    record {
+      near = record {
+        within = record { serial = stays.serial; opened = λ is. stays_in tree p q exchanges a inside is held };
+        is_open = ap (λ (s : SessionProgress). s.is_open) worked.0;
+        is_own = λ is. (worked.1 is).0;
+        settings = stays.settings;
+        bytes = ap (λ (s : SessionProgress). s.bytes_left) worked.0;
+      };
+      tokens = ap (λ (s : SessionProgress). s.tokens) worked.0;
+      rows = ap (λ (s : SessionProgress). s.row_count) worked.0;
+      stays = stays;
+      idle = shut_idle tree p q exchanges a shut held;
+    }

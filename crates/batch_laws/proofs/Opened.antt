@@ -1,7 +1,10 @@
 -- In a transaction that is open the work of a statement begins and ends none, so the state of it stays as it was, but for its savepoints.
+use Rattle.std.specs.Prelude.{◌||◌, not}
 use Rattle.std.proofs.Common.{◌≡◌, ℕ, Bool, true, false, if◌then◌else◌, is_ok, List, [], ◌∷◌, Option, Result, Ok, Err, refl, sym, ap, subst}
 use Rattle.tsql_tree.specs.declared.definition.Definition.{Definition}
+use Rattle.tsql_tree.specs.declared.definition.Definition.TheVariants.{Table, Procedure, Trigger}
 use Rattle.tsql_tree.specs.declared.definition.TableTree.{TableTree}
+use Rattle.tsql_tree.specs.declared.statement.DropKind.{DropKind}
 use Rattle.tsql_tree.specs.declared.statement.Form.{Form-F}
 use Rattle.tsql_tree.specs.declared.statement.Statement.{Statement}
 use Rattle.bound_tree.specs.declared.write.Bound.{Bound}
@@ -16,6 +19,7 @@ use Rattle.step_model.specs.Exchange.{CanReply, Exchange}
 use Rattle.step_model.specs.Ranges.{no_memory}
 use Rattle.txn_rules.specs.declared.state.TxnState.{TxnState}
 use Rattle.txn_rules.specs.Savepoints.{up_to}
+use Rattle.clause_binder.specs.Scope.{is_long}
 use Rattle.batch_meaning.specs.declared.failure.Failure.{Failure}
 use Rattle.batch_meaning.specs.declared.home.Home.{Home}
 use Rattle.batch_meaning.specs.declared.home.Home.TheVariants.{Nowhere, Open, Own}
@@ -25,10 +29,14 @@ use Rattle.batch_meaning.specs.Doing.{Doing, over, reads, makes, defines, asks, 
 use Rattle.batch_meaning.specs.Progress.{SessionProgress, SessionStep, asked, assigns, fills, made, touches}
 use Rattle.batch_meaning.specs.Raised.{Around}
 use Rattle.batch_meaning.specs.Selecting.{Effect}
-use Rattle.batch_meaning.specs.Working.{asks_any, binds, creates, creates_table, enters, leaves, own, prepares, relaxes, unless_objects, within, works, works_bound}
-use Rattle.statement_paths.specs.Paths.{work_for, work_of}
+use Rattle.batch_meaning.specs.Values.{outside_limits}
+use Rattle.batch_meaning.specs.Working.{asks_any, binds, enters, known_by, leaves, own, prepares, relaxes, status_bound, statuses, within, works, works_bound}
+use Rattle.batch_meaning.specs.Writes.{change_bound, creates, creates_definition, creates_table, drops, is_odd_list, puts_definition, unless_objects}
+use Rattle.statement_paths.specs.Paths.{changes_of, work_for}
 use Rattle.statement_paths.proofs.Owned.{nothing_more}
-use Rattle.statement_paths.proofs.Works.{IsOwnStep, Owns, Works, binds_work, creates_works, prepares_reads, reads_work, unless_works, worked_works, works_own}
+use Rattle.batch_laws.proofs.Named.{dropping_works, trigger_works}
+use Rattle.statement_paths.proofs.Working.{status_read}
+use Rattle.statement_paths.proofs.Works.{IsOwnStep, Owns, Works, binds_work, change_works, creates_works, prepares_reads, reads_work, unless_works, worked_works, works_own}
 
 -- an operation that neither begins nor ends a transaction
 abbrev pub IsInside : Op → Type 0
@@ -92,6 +100,9 @@ inside_room tree inside = λ enough. inside_if enough tree (fails no_memory) ins
 inside_naming : (A : Type 0) (number : ℕ) (name : List ℕ) → Inside (fails_naming {A = A} number name)
 inside_naming A number name = λ enough. inside_if enough (over (Err _)) (fails _) tt tt
 
+inside_objects : (name : List ℕ) (tree : Doing (Result Effect Failure)) → Inside tree → Inside (unless_objects name tree)
+inside_objects name tree inside = inside_if (is_objects name) (fails_naming object_present name) tree (inside_naming Effect object_present name) inside
+
 -- ---- around the work
 
 relaxes_inside : Inside relaxes
@@ -126,36 +137,62 @@ module _ {A : Type 0} (work : Doing (Result A Failure)) (inside : Inside work) w
 -- ---- every statement that is done with its effect
 
 module _ (around : Around) (p0 : SessionProgress) (statement : Statement) where
-  works_of_inside : Inside (works around statement)
-  unfolding works within
-  works_of_inside = inside_room (own (asks_any (looked_up statement)) work) (own_inside work (works_inside work (binds_work statement (works_bound around (form_of statement)) (worked_works around p0 (form_of statement)))) (asks_any (looked_up statement)))
-    where
-      work : Doing (Result Effect Failure)
-      work = binds statement (works_bound around (form_of statement))
+  abbrev asks_some : Bool
+  asks_some = asks_any (known_by around statement) (looked_up statement)
 
-  creates_inside : (name text : List ℕ) → Inside (creates_table statement name text)
+  within_inside : {A : Type 0} (go : List TableTree → Bound → Doing (Result A Failure)) → ((shapes : List TableTree) (of : Bound) → Works (go shapes of)) → Inside (within around statement go)
+  unfolding within
+  within_inside go works = inside_room (own asks_some (binds around statement go)) (own_inside (binds around statement go) (works_inside (binds around statement go) (binds_work around statement go works)) asks_some)
+
+  works_of_inside : Inside (works around statement)
+  unfolding works
+  works_of_inside = within_inside (works_bound around (form_of statement)) (worked_works around p0 (form_of statement))
+
+  pub statuses_inside : Inside (statuses around statement)
+  unfolding statuses
+  statuses_inside = within_inside (status_bound around) (λ shapes of. reads_work (status_bound around shapes of) (status_read around p0 shapes of))
+
+  pub changes_inside : Inside (changes_of around statement)
+  unfolding changes_of within
+  changes_inside = within_inside (change_bound around) (change_works around p0)
+
+  creates_inside : (name text : List ℕ) → Inside (creates_table around statement name text)
   unfolding creates_table binds
-  creates_inside name text = inside_room _ (inside_if (asks_any (looked_up statement)) (own true first) second (own_inside first (works_inside first (binds_work statement putting (λ shapes of. unless_works name (creates name text) (creates_works name text)))) true) second_inside)
+  creates_inside name text = inside_room _ (inside_if asks_some (own true first) second (own_inside first (works_inside first (binds_work around statement putting (λ shapes of. unless_works name (creates name text) (creates_works name text)))) true) second_inside)
     where
       putting : List TableTree → Bound → Doing (Result Effect Failure)
       putting shapes of = unless_objects name (creates name text)
 
       first : Doing (Result Effect Failure)
-      first = binds statement putting
+      first = binds around statement putting
 
       later : List TableTree → Bound → Doing (Result Effect Failure)
       later shapes of = unless_objects name (own true (creates name text))
 
       second : Doing (Result Effect Failure)
-      second = binds statement later
+      second = binds around statement later
 
       second_inside : Inside second
-      second_inside = inside_bind (prepares statement) (λ made. later made.0 made.1) (works_inside (prepares statement) (reads_work (prepares statement) (prepares_reads statement)))
-          (λ made. inside_if (is_objects name) (fails_naming object_present name) (own true (creates name text)) (inside_naming Effect object_present name) (own_inside (creates name text) (works_inside (creates name text) (creates_works name text)) true))
+      second_inside = inside_bind (prepares around statement) (λ made. later made.0 made.1) (works_inside (prepares around statement) (reads_work (prepares around statement) (prepares_reads around statement)))
+          (λ made. inside_objects name (own true (creates name text)) (own_inside (creates name text) (works_inside (creates name text) (creates_works name text)) true))
+
+  drops_inside : (kind : DropKind) (name : List ℕ) → Inside (drops around statement kind name)
+  unfolding drops
+  drops_inside kind name = inside_room _ (own_inside _ (works_inside _ (dropping_works around p0 statement kind name)) (asks_any (known_by around statement) (name ∷ [])))
 
   pub form_inside : (form : Layer) → Inside (work_for around statement form)
   form_inside (Form-F.CreateTable table text) = creates_inside table.name text
+  form_inside (Form-F.Drop kind name) = drops_inside kind name
   form_inside form = works_of_inside
+
+pub definition_inside : (of : Definition) (text : List ℕ) → Inside (creates_definition of text)
+unfolding creates_definition
+definition_inside (Table table) text = tt
+definition_inside (Procedure procedure) text = inside_room _ (inside_puts (is_long procedure.name || is_odd_list procedure.parameters) procedure.name (own true (creates procedure.name text)) (own_inside (creates procedure.name text) (works_inside (creates procedure.name text) (creates_works procedure.name text)) true))
+  where
+    inside_puts : (outside : Bool) (name : List ℕ) (tree : Doing (Result Effect Failure)) → Inside tree → Inside (puts_definition outside name tree)
+    inside_puts outside name tree inside = inside_if outside (fails outside_limits) (unless_objects name tree) tt (inside_objects name tree inside)
+definition_inside (Trigger trigger) text = inside_room _ (own_inside _ (works_inside _ (trigger_works trigger text)) (not (is_objects trigger.table)))
 
 -- ---- what stays
 
@@ -194,5 +231,6 @@ module _ (txn : TxnState) where
   inside_keeps (room go) q new exchanges a inside held now = inside_keeps (go held.0) q new exchanges a (inside held.0) held.1 now
   inside_keeps never q new exchanges a inside held now = absurd held
 
-pub work_within : (around : Around) (statement : Statement) (p new : SessionProgress) (exchanges : List Exchange) (came : Result Effect Failure) → p.is_open ≡ true → Held (work_of around statement) p exchanges came new → new.txn ≡ record p.txn { saves = new.txn.saves }
-work_within around statement p new exchanges came is held = (inside_keeps p.txn (work_of around statement) p new exchanges came (form_inside around p statement (form_of statement)) held (is, refl)).1
+-- where a transaction was open the same one is
+pub stays_in : {A : Type 0} (tree : Doing A) (p new : SessionProgress) (exchanges : List Exchange) (came : A) → Inside tree → p.is_open ≡ true → Held tree p exchanges came new → new.txn ≡ record p.txn { saves = new.txn.saves }
+stays_in tree p new exchanges came inside is held = (inside_keeps p.txn tree p new exchanges came inside held (is, refl)).1

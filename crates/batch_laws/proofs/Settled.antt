@@ -1,16 +1,24 @@
 -- Between two statements a transaction is open exactly where BEGIN TRANSACTION has opened one: by induction on the levels of statements.
-use Rattle.std.proofs.Common.{◌≡◌, ◌⊎◌, inl, inr, ℕ, zero, suc, ◌+◌, ◌-◌, ℤ, pos, ◌==◌, not, Bool, true, false, if◌then◌else◌, List, [], ◌∷◌, Option, None, Some, Result, Ok, Err, refl, sym, ap, ◌∙◌, subst, arith}
-use Rattle.std.specs.Prelude.{◌&&◌, min}
+use Rattle.std.proofs.Common.{◌≡◌, ◌⊎◌, inl, inr, ℕ, zero, suc, ◌+◌, ◌-◌, ℤ, pos, ◌==◌, not, Bool, true, false, if◌then◌else◌, is_ok, List, [], ◌∷◌, Option, None, Some, Result, Ok, Err, refl, sym, ap, ◌∙◌, subst, arith}
+use Rattle.std.specs.Prelude.{◌&&◌, ◌||◌, min, nat_le, nat_lt}
 use Rattle.std.proofs.lemmas.Bool.{eqb-false, ne_eqb}
+use Rattle.tsql_tree.specs.declared.definition.Definition.{Definition}
+use Rattle.tsql_tree.specs.declared.definition.Definition.TheVariants.{Table, Procedure, Trigger}
 use Rattle.tsql_tree.specs.declared.definition.TableTree.{TableTree}
+use Rattle.tsql_tree.specs.declared.definition.TriggerTree.{TriggerTree}
 use Rattle.tsql_tree.specs.declared.option.SessionOption.{SessionOption}
+use Rattle.tsql_tree.specs.declared.statement.Argument.{Argument}
+use Rattle.tsql_tree.specs.declared.statement.DropKind.{DropKind}
 use Rattle.tsql_tree.specs.declared.statement.Form.{Form-F}
 use Rattle.tsql_tree.specs.declared.statement.Statement.{Statement}
 use Rattle.bound_tree.specs.declared.write.Bound.{Bound}
 use Rattle.binder.specs.Names.{Layer, form_of, looked_up}
+use Rattle.session_vars.specs.declared.Variable.{Variable}
 use Rattle.catalog_rows.specs.Definitions.{is_objects}
+use Rattle.clause_binder.specs.Scope.{is_long}
 use Rattle.error_table.specs.declared.action.Action.{Action}
 use Rattle.error_table.specs.declared.action.Action.TheVariants as act
+use Rattle.error_table.specs.Act.{base_caught}
 use Rattle.step_model.specs.declared.op.Op.{Op}
 use Rattle.step_model.specs.declared.op.Op.TheVariants as ops
 use Rattle.step_model.specs.declared.reply.Reply.{Reply}
@@ -23,41 +31,54 @@ use Rattle.session_cursors.specs.Cursors as list
 use Rattle.txn_rules.specs.declared.state.BackKind.{BackKind}
 use Rattle.txn_rules.specs.declared.state.BackKind.TheVariants.{Mark, Whole}
 use Rattle.txn_rules.specs.declared.state.TxnState.{TxnState}
-use Rattle.txn_rules.specs.State.{after_begin, after_commit, after_end, commit_answer, is_closed, save_refusal, serial_limit}
+use Rattle.txn_rules.specs.State.{after_begin, after_commit, after_end, after_fire, after_fired, after_save, commit_answer, is_closed, save_refusal, serial_limit}
+use Rattle.tds_tokens.specs.Numbers.{command_none}
 use Rattle.tds_tokens.specs.declared.token.Token.{Token}
 use Rattle.batch_meaning.specs.declared.exit.Exit.{Exit}
-use Rattle.batch_meaning.specs.declared.exit.Exit.TheVariants.{On, Leave, Again, Return, Raise, End}
+use Rattle.batch_meaning.specs.declared.exit.Exit.TheVariants.{On, Leave, Again, Return, Raise, RaiseUp, End}
 use Rattle.batch_meaning.specs.declared.failure.Failure.{Failure}
 use Rattle.batch_meaning.specs.declared.form.ReadText.{ReadText}
 use Rattle.batch_meaning.specs.declared.form.ReadText.TheVariants as text
+use Rattle.batch_meaning.specs.declared.home.Home.{Home}
+use Rattle.batch_meaning.specs.declared.home.Home.TheVariants.{Nowhere, Open, Own}
 use Rattle.batch_meaning.specs.declared.raised.Raised.{Raised}
 use Rattle.batch_meaning.specs.declared.settings.Settings.{Settings}
-use Rattle.batch_meaning.specs.Asking.{assigns_all, comes_to, fails, fails_naming, on_ok, where_ended, with_room, ◌>>=◌}
+use Rattle.batch_meaning.specs.declared.stop.Stop.{Stop}
+use Rattle.batch_meaning.specs.declared.stop.Stop.TheVariants.{Failed, Left as LeftSo}
+use Rattle.batch_meaning.specs.Asking.{assigns_all, comes_to, fails, fails_naming, on_ok, where_done, where_ended, with_room, ◌>>=◌}
+use Rattle.batch_meaning.specs.Calls.{Call, call_vars, depth_limit, finds_call, given_back, too_deep, uneven}
 use Rattle.batch_meaning.specs.Changing.{object_present}
 use Rattle.batch_meaning.specs.Cursors.{answered, fails_for_cursor, opens_bound, opens_cursor, opens_kept, select_statement, closes_cursor, declares_cursor, fetches_cursor, removes_cursor}
 use Rattle.batch_meaning.specs.Doing.{Doing, asks, makes, over, reads, ◌then◌, Held}
 use Rattle.batch_meaning.specs.Failures.{plain}
-use Rattle.batch_meaning.specs.Meaning.{Meaning, batch, branch, caught_as, concluded, concludes, counted, decides, does, doomed_write, each_of, ended_by, ends, ends_doomed, fails_for, goes_on, handled, has_failed, is_refused_doomed, leaves_rows, mean_by, mean_form, mean_of, or_full, raises, raises_again, raises_or_tells, rolls_back_told, runs_text, sends_some, set_by, sets_option, spends, strikes, succeeds, tells, told_as, tries, turned, turns, turns_again}
-use Rattle.batch_meaning.specs.Progress.{SessionProgress, SessionStep, after_doom, asked, assigns, begins, closes_one, counts, declares, dooms, fetches, fills, made, opens, removes, saves, sends, sets, shuts, statement_limit, tells_error, tells_fetch, tells_rows, touches}
-use Rattle.batch_meaning.specs.Raised.{Around, action_in, around_batch, in_catch, in_try, is_caught_in}
-use Rattle.batch_meaning.specs.Selecting.{Effect, bound_over, no_effect}
+use Rattle.batch_meaning.specs.Firing.{closes_own, has_mark, in_trigger, leaves_fired, relaxes_then, settles, trigger_end, undone_to}
+use Rattle.batch_meaning.specs.Meaning.{Meaning, batch, branch, calls, caught_as, concluded, concludes, counted, decides, defined, defines_object, does, doomed_write, each_of, effect_of, ended_by, ends, ends_call, ends_doomed, ends_even, ends_uneven, ends_uneven_as, fails_for, fires, gives_back, goes_on, handled, has_failed, is_refused_doomed, leaves_rows, line_of, mean_by, mean_form, mean_of, or_full, raises, raises_again, raises_at, raises_or_tells, returns_from, rolls_back_told, runs_body, runs_call, runs_fired, runs_text, runs_trigger, runs_triggers, sends_some, set_by, sets_option, spends, strikes, succeeds, tells, tells_behind, told_as, told_unless_own, tries, turned, turns, turns_again, uneven_end, uneven_tokens, unless_stopped, way_of, where_it_fits, writes, written}
+use Rattle.batch_meaning.specs.Progress.{SessionProgress, SessionStep, after_doom, asked, assigns, begins, closes_one, counts, declares, dooms, fetches, fills, fired_from, fires_from, made, opens, removes, saves, sends, sets, shuts, size_of, stands_with, statement_limit, tells_error, tells_fetch, tells_rows, touches}
+use Rattle.batch_meaning.specs.Raised.{Around, action_in, around_batch, in_body, in_catch, in_try, is_caught_in, raised_in}
+use Rattle.batch_meaning.specs.Selecting.{Effect, bound_over, no_effect, not_bound_so, result_full, sending}
 use Rattle.batch_meaning.specs.Settings.{outside_profile, set_option}
-use Rattle.batch_meaning.specs.Tokens.{batch_done, transaction_rolled_back}
+use Rattle.batch_meaning.specs.Statements.{vars_of}
+use Rattle.batch_meaning.specs.Tokens.{batch_done, command_of, done_kind, procedure_done}
 use Rattle.batch_meaning.specs.Transactions.{begins_transaction, bound_first, commits_transaction, rolls_back_transaction, saves_transaction}
-use Rattle.batch_meaning.specs.Values.{Assigned, is_message}
-use Rattle.batch_meaning.specs.Working.{asks_any, binds, composes, composes_bound, creates, creates_table, own, prepares, tests, tests_bound, unless_objects, within, works, works_bound}
-use Rattle.statement_paths.proofs.Only.{AnyOp, Only, held_keeps, only_bind, only_comes, only_mono, only_naming}
+use Rattle.batch_meaning.specs.Values.{Assigned, is_message, outside_limits}
+use Rattle.batch_meaning.specs.Working.{asks_any, binds, closes, composes, composes_bound, known_by, leaves, own, prepares, relaxes, status_bound, statuses, tests, tests_bound, within, works, works_bound}
+use Rattle.batch_meaning.specs.Writes.{Written, change_bound, creates, creates_definition, creates_table, drops, is_odd_list, unless_objects}
+use Rattle.statement_paths.specs.Paths.{IsEntered, IsFired, changes_of, is_write}
+use Rattle.statement_paths.proofs.Only.{AnyOp, Only, held_keeps, only_bind, only_comes, only_if, only_mono, only_naming}
 use Rattle.statement_paths.proofs.Apart.{held_apart}
 use Rattle.statement_paths.proofs.Cursors.{IsCursorStep, Silent, closes_silent, declares_silent, fetches_silent, looks_own, only_fault, opens_look, removes_silent}
-use Rattle.statement_paths.proofs.Owned.{Owned, Refused, own_held}
+use Rattle.statement_paths.proofs.Owned.{Owned, Refused, nothing_more, own_held}
 use Rattle.statement_paths.proofs.Statements.{NoOp}
-use Rattle.statement_paths.proofs.Works.{IsOwnStep, Owns, Works, binds_work, creates_works, prepares_reads, reads_work, unless_works, worked_works, works_own}
+use Rattle.statement_paths.proofs.Working.{status_read}
+use Rattle.statement_paths.proofs.Works.{IsOwnStep, Owns, Works, binds_work, change_works, creates_works, prepares_reads, reads_work, unless_works, worked_works, works_own}
 use Rattle.batch_laws.specs.Settled.{BatchSettles, IsSteady, StatementSettles, SteadyIdle}
 use Rattle.batch_laws.specs.Transactions.{back_for, Begins, Closes, RollsBack, Saves}
 use Rattle.batch_laws.proofs.Idle.{IsShut, own_makes, shut_op}
 use Rattle.batch_laws.proofs.Opened.{IsInside, inside_keeps, own_inside, owns_inside, quiet_inside}
 use Rattle.batch_laws.proofs.Telling.{composes_read, tests_read}
 use Rattle.batch_laws.proofs.Transactions.{back_held, begin_held, close_held, save_held}
+use Rattle.batch_laws.proofs.Named.{calling_reads, dropping_works, trigger_works}
+use Rattle.batch_laws.proofs.Writing.{Unfired, writes_apart}
 
 -- ---- numbers
 
@@ -126,12 +147,16 @@ same_steady p new is steady = subst IsSteady (sym is) steady
 abbrev IsSteadyStep : SessionStep → Type 0
 IsSteadyStep (opens name) = ⊥
 IsSteadyStep closes_one = ⊥
+IsSteadyStep (fires_from mark) = ⊥
+IsSteadyStep (fired_from mark stood) = ⊥
 IsSteadyStep step = Unit {0}
 
 steady_step : (step : SessionStep) (p : SessionProgress) → IsSteadyStep step → IsSteady p → IsSteady (made step p)
 steady_step dooms p is steady = doom_steady p.is_open p.txn steady
 steady_step (opens name) p is steady = absurd is
 steady_step closes_one p is steady = absurd is
+steady_step (fires_from mark) p is steady = absurd is
+steady_step (fired_from mark stood) p is steady = absurd is
 steady_step (begins vars) p is steady = steady
 steady_step counts p is steady = steady
 steady_step touches p is steady = steady
@@ -147,6 +172,7 @@ steady_step (fetches name) p is steady = steady
 steady_step (shuts name) p is steady = steady
 steady_step (removes name) p is steady = steady
 steady_step (tells_fetch status) p is steady = steady
+steady_step (stands_with vars) p is steady = steady
 
 steady_op : (op : Op) (reply : Reply) (p : SessionProgress) → IsInside op → CanReply op reply → IsSteady p → IsSteady (asked op reply p)
 steady_op (ops.Fetch table start stop hold part) (replies.Ended place) p is can steady = absurd can
@@ -168,6 +194,15 @@ ended_steady : (p : SessionProgress) (op : Op) (place : ℕ) → IsSteady (asked
 ended_steady p op place = (refl, λ closed. refl)
 
 -- ---- trees
+
+-- the end of locks
+abbrev IsRelax : Op → Type 0
+IsRelax ops.Relax = Unit {0}
+IsRelax op = ⊥
+
+made_same : (step : SessionStep) (p new : SessionProgress) (exchanges : List Exchange) (done : Unit {0}) → Held (makes step (over tt)) p exchanges done new → new ≡ made step p
+unfolding Held
+made_same step p new exchanges done held = held.2
 
 abbrev pub Settles : {A : Type 0} → Doing A → Type 0
 Settles {A = A} tree = (p new : SessionProgress) (exchanges : List Exchange) (a : A) → IsSteady p → Held tree p exchanges a new → IsSteady new
@@ -217,8 +252,8 @@ own_settles : {A : Type 0} (asks_some : Bool) (work : Doing (Result A Failure)) 
 own_settles {A = A} asks_some work owns p new exchanges came steady held = by_open p.is_open refl
   where
     by_ways : Refused p came exchanges new ⊎ Owned asks_some p.is_open work p came exchanges new → new.is_open ≡ p.is_open
-    by_ways (inl refused) = ap (λ (q : SessionProgress). q.is_open) refused.leaves
-    by_ways (inr owned) = ap (λ (q : SessionProgress). q.is_open) owned.leaves
+    by_ways (inl refused) = ap (λ (q : SessionProgress). q.is_open) refused.leaves.0
+    by_ways (inr owned) = ap (λ (q : SessionProgress). q.is_open) owned.leaves.0
 
     by_open : (is_open : Bool) → p.is_open ≡ is_open → IsSteady new
     by_open true is =
@@ -232,10 +267,10 @@ own_settles {A = A} asks_some work owns p new exchanges came steady held = by_op
         (own_makes IsOwnStep asks_some work (only_mono IsOwnStep IsOwnStep IsQuiet AnyOp (λ step is. is) (λ op is. tt) work owns)) held (closed, steady.1 closed) in
         (by_ways (own_held work owns p new exchanges came asks_some held) ∙ is ∙ ap not (sym shut.0), λ now. shut.1)
 
-within_settles : {A : Type 0} (statement : Statement) (go : List TableTree → Bound → Doing (Result A Failure)) → ((shapes : List TableTree) (of : Bound) → Owns (go shapes of)) → Settles (within statement go)
+within_settles : {A : Type 0} (around : Around) (statement : Statement) (go : List TableTree → Bound → Doing (Result A Failure)) → ((shapes : List TableTree) (of : Bound) → Owns (go shapes of)) → Settles (within around statement go)
 unfolding within binds
-within_settles statement go owns = room_settles (own (asks_any (looked_up statement)) (binds statement go)) (own_settles (asks_any (looked_up statement)) (binds statement go)
-    (only_bind IsOwnStep IsQuiet (prepares statement) (λ made. go made.0 made.1) (works_own (prepares statement) (reads_work (prepares statement) (prepares_reads statement))) (λ made. owns made.0 made.1)))
+within_settles around statement go owns = room_settles (own (asks_any (known_by around statement) (looked_up statement)) (binds around statement go)) (own_settles (asks_any (known_by around statement) (looked_up statement)) (binds around statement go)
+    (only_bind IsOwnStep IsQuiet (prepares around statement) (λ made. go made.0 made.1) (works_own (prepares around statement) (reads_work (prepares around statement) (prepares_reads around statement))) (λ made. owns made.0 made.1)))
 
 -- ---- works
 
@@ -248,32 +283,58 @@ quiet_settles tree works = calm_settles tree (only_mono IsOwnStep IsSteadyStep I
     own_steady (fills name kinds rows) is = tt
     own_steady step is = absurd is
 
+objects_settle : (name : List ℕ) (tree : Doing (Result Effect Failure)) → Settles tree → Settles (unless_objects name tree)
+objects_settle name tree settles = if_settles (is_objects name) (fails_naming object_present name) tree (calm_settles (fails_naming {A = Effect} object_present name) (only_naming IsSteadyStep IsInside Effect object_present name)) settles
+
 module _ (around : Around) (p0 : SessionProgress) (statement : Statement) where
   works_settles : Settles (works around statement)
   unfolding works
-  works_settles = within_settles statement (works_bound around (form_of statement)) (λ shapes of. works_own (works_bound around (form_of statement) shapes of) (worked_works around p0 (form_of statement) shapes of))
+  works_settles = within_settles around statement (works_bound around (form_of statement)) (λ shapes of. works_own (works_bound around (form_of statement) shapes of) (worked_works around p0 (form_of statement) shapes of))
 
   tests_settles : Settles (tests around statement)
   unfolding tests
-  tests_settles = within_settles statement (tests_bound around) (λ shapes of. works_own (tests_bound around shapes of) (reads_work (tests_bound around shapes of) (tests_read around p0 shapes of)))
+  tests_settles = within_settles around statement (tests_bound around) (λ shapes of. works_own (tests_bound around shapes of) (reads_work (tests_bound around shapes of) (tests_read around p0 shapes of)))
 
   composes_settles : Settles (composes around statement)
   unfolding composes
-  composes_settles = within_settles statement (composes_bound around statement) (λ shapes of. works_own (composes_bound around statement shapes of) (reads_work (composes_bound around statement shapes of) (composes_read around p0 statement shapes of)))
+  composes_settles = within_settles around statement (composes_bound around statement) (λ shapes of. works_own (composes_bound around statement shapes of) (reads_work (composes_bound around statement shapes of) (composes_read around p0 statement shapes of)))
 
-  creates_settles : (name text : List ℕ) → Settles (creates_table statement name text)
+  statuses_settle : Settles (statuses around statement)
+  unfolding statuses
+  statuses_settle = within_settles around statement (status_bound around) (λ shapes of. works_own (status_bound around shapes of) (reads_work (status_bound around shapes of) (status_read around p0 shapes of)))
+
+  changes_settle : Settles (changes_of around statement)
+  unfolding changes_of within
+  changes_settle = within_settles around statement (change_bound around) (λ shapes of. works_own (change_bound around shapes of) (change_works around p0 shapes of))
+
+  creates_settles : (name text : List ℕ) → Settles (creates_table around statement name text)
   unfolding creates_table binds
-  creates_settles name text = room_settles (if asks_any (looked_up statement) then own true (binds statement putting) else binds statement later) (if_settles (asks_any (looked_up statement)) (own true (binds statement putting)) (binds statement later)
-      (own_settles true (binds statement putting) (works_own (binds statement putting) (binds_work statement putting (λ shapes of. unless_works name (creates name text) (creates_works name text)))))
-      (bind_settles (prepares statement) (λ made. later made.0 made.1) (quiet_settles (prepares statement) (reads_work (prepares statement) (prepares_reads statement)))
-      (λ made. if_settles (is_objects name) (fails_naming object_present name) (own true (creates name text)) (calm_settles (fails_naming {A = Effect} object_present name) (only_naming IsSteadyStep IsInside Effect object_present name))
-      (own_settles true (creates name text) (works_own (creates name text) (creates_works name text))))))
+  creates_settles name text = room_settles (if asks_any (known_by around statement) (looked_up statement) then own true (binds around statement putting) else binds around statement later)
+      (if_settles (asks_any (known_by around statement) (looked_up statement)) (own true (binds around statement putting)) (binds around statement later)
+      (own_settles true (binds around statement putting) (works_own (binds around statement putting) (binds_work around statement putting (λ shapes of. unless_works name (creates name text) (creates_works name text)))))
+      (bind_settles (prepares around statement) (λ made. later made.0 made.1) (quiet_settles (prepares around statement) (reads_work (prepares around statement) (prepares_reads around statement)))
+      (λ made. objects_settle name (own true (creates name text)) (own_settles true (creates name text) (works_own (creates name text) (creates_works name text))))))
     where
       putting : List TableTree → Bound → Doing (Result Effect Failure)
       putting shapes of = unless_objects name (creates name text)
 
       later : List TableTree → Bound → Doing (Result Effect Failure)
       later shapes of = unless_objects name (own true (creates name text))
+
+  drops_settle : (kind : DropKind) (name : List ℕ) → Settles (drops around statement kind name)
+  unfolding drops
+  drops_settle kind name = room_settles _ (own_settles (asks_any (known_by around statement) (name ∷ [])) _ (works_own _ (dropping_works around p0 statement kind name)))
+
+  calls_settle : (status : Option (List ℕ)) (name : List ℕ) (arguments : List Argument) → Settles (finds_call around statement status name arguments)
+  unfolding finds_call
+  calls_settle status name arguments = room_settles _ (own_settles (asks_any (known_by around statement) (name ∷ [])) _ (works_own _ (reads_work _ (calling_reads around statement status name arguments))))
+
+definition_settles : (of : Definition) (text : List ℕ) → Settles (creates_definition of text)
+unfolding creates_definition
+definition_settles (Table table) text = over_settles (Err (plain not_bound_so))
+definition_settles (Procedure procedure) text = room_settles _ (if_settles (is_long procedure.name || is_odd_list procedure.parameters) (fails outside_limits) (unless_objects procedure.name (own true (creates procedure.name text))) (over_settles (Err (plain outside_limits)))
+    (objects_settle procedure.name (own true (creates procedure.name text)) (own_settles true (creates procedure.name text) (works_own (creates procedure.name text) (creates_works procedure.name text)))))
+definition_settles (Trigger trigger) text = room_settles _ (own_settles (not (is_objects trigger.table)) _ (works_own _ (trigger_works trigger text)))
 
 -- ---- cursors
 
@@ -303,8 +364,8 @@ opens_settles : (around : Around) (p0 : SessionProgress) (statement : Statement)
 unfolding opens_cursor
 opens_settles around p0 statement name = first_settles statement (λ p. answered name (opens_kept around statement name p) (list.query_of name p.cursors)) (λ p.
     answered_settles name (opens_kept around statement name p) (list.query_of name p.cursors) (λ select.
-    answered_settles name (λ done. within (select_statement statement select) (opens_bound around name)) (list.fill_answer name p.cursors) (λ done.
-    within_settles (select_statement statement select) (opens_bound around name) (λ shapes of. looks_own (opens_bound around name shapes of) (opens_look around p0 name shapes of)))))
+    answered_settles name (λ done. within around (select_statement statement select) (opens_bound around name)) (list.fill_answer name p.cursors) (λ done.
+    within_settles around (select_statement statement select) (opens_bound around name) (λ shapes of. looks_own (opens_bound around name shapes of) (opens_look around p0 name shapes of)))))
 
 -- ---- transactions
 
@@ -358,10 +419,14 @@ unfolding rolls_back_told Held
 rolled_sound p new exchanges done steady held = by_open p.is_open refl exchanges held
   where
     Told : Doing (Unit {0})
-    Told = makes (sends (transaction_rolled_back p.txn.serial ∷ [])) (over tt)
+    Told = told_unless_own p.is_own p.txn.serial
+
+    by_told : (is_own : Bool) (later : List Exchange) (q : SessionProgress) → IsSteady q × (q.txn.doomed ≡ false) → Held (told_unless_own is_own p.txn.serial) q later done new → IsSteady new × (new.txn.doomed ≡ false)
+    by_told true later q sound so = subst (λ (s : SessionProgress). IsSteady s × (s.txn.doomed ≡ false)) (sym so.2) sound
+    by_told false later q sound so = subst (λ (s : SessionProgress). IsSteady s × (s.txn.doomed ≡ false)) (sym so.2) sound
 
     by_reply : (x : Exchange) (later : List Exchange) (reply : Reply) → CanReply ops.Rollback reply → Held (where_ended Told reply) (asked ops.Rollback reply p) later done new → IsSteady new × (new.txn.doomed ≡ false)
-    by_reply x later (replies.Ended place) can so = (same_steady (made (sends (transaction_rolled_back p.txn.serial ∷ [])) (asked ops.Rollback (replies.Ended place) p)) new so.2 (ended_steady p ops.Rollback place), ap (λ (q : SessionProgress). q.txn.doomed) so.2)
+    by_reply x later (replies.Ended place) can so = by_told p.is_own later (asked ops.Rollback (replies.Ended place) p) (ended_steady p ops.Rollback place, refl) so
     by_reply x later reply can so = absurd can
 
     by_open : (is_open : Bool) → p.is_open ≡ is_open → (xs : List Exchange) → Held (if is_open then asks ops.Rollback (where_ended Told) else over tt) p xs done new → IsSteady new × (new.txn.doomed ≡ false)
@@ -380,19 +445,22 @@ ended_settles act.Batch = over_settles End
 ended_settles act.BatchAndTransaction = then_settles rolls_back_told (λ done. over End) told_settles (λ done. over_settles End)
 
 caught_settles : (action : Action) (raised : Raised) → Settles (caught_as action raised)
-caught_settles act.Statement raised = over_settles (Raise raised)
-caught_settles act.Doom raised = makes_settles dooms (over (Raise raised)) tt (over_settles (Raise raised))
-caught_settles act.Batch raised = over_settles (Raise raised)
-caught_settles act.BatchAndTransaction raised = over_settles (Raise raised)
+caught_settles act.Statement raised = over_settles (way_of (base_caught raised.number raised.by) raised)
+caught_settles act.Doom raised = makes_settles dooms (over (way_of (base_caught raised.number raised.by) raised)) tt (over_settles (way_of (base_caught raised.number raised.by) raised))
+caught_settles act.Batch raised = over_settles (way_of (base_caught raised.number raised.by) raised)
+caught_settles act.BatchAndTransaction raised = over_settles (way_of (base_caught raised.number raised.by) raised)
 
 strikes_settles : (around : Around) (xact_abort : Bool) (command : ℕ) (raised : Raised) → Settles (strikes around xact_abort command raised)
-strikes_settles around xact_abort command raised = makes_settles (tells_error raised.number) (if is_caught_in around raised then caught_as (action_in around xact_abort raised) raised else told_as (action_in around xact_abort raised) command raised) tt
-    (if_settles (is_caught_in around raised) (caught_as (action_in around xact_abort raised) raised) (told_as (action_in around xact_abort raised) command raised) (caught_settles (action_in around xact_abort raised) raised)
+strikes_settles around xact_abort command raised = makes_settles (tells_error raised.number) (if is_caught_in around raised then caught_as (action_in around xact_abort raised) raised else told_as (done_kind around) (action_in around xact_abort raised) command raised) tt
+    (if_settles (is_caught_in around raised) (caught_as (action_in around xact_abort raised) raised) (told_as (done_kind around) (action_in around xact_abort raised) command raised) (caught_settles (action_in around xact_abort raised) raised)
     (makes_settles (sends _) (ended_by (action_in around xact_abort raised)) tt (ended_settles (action_in around xact_abort raised))))
 
+at_settles : (around : Around) (line : ℤ) (command : ℕ) (raised : Raised) → Settles (raises_at around line command raised)
+unfolding raises_at
+at_settles around line command raised = reads_settles (λ p. strikes around p.settings.xact_abort command (or_full around p command line raised)) (λ p. strikes_settles around p.settings.xact_abort command (or_full around p command line raised))
+
 raises_settles : (around : Around) (statement : Statement) (raised : Raised) → Settles (raises around statement raised)
-unfolding raises
-raises_settles around statement raised = reads_settles (λ p. strikes around p.settings.xact_abort _ (or_full around p _ _ raised)) (λ p. strikes_settles around p.settings.xact_abort _ (or_full around p _ _ raised))
+raises_settles around statement raised = at_settles around (line_of statement) (command_of (form_of statement)) raised
 
 counted_settles : (form : Layer) (rows : ℕ) (next : Doing Exit) → Settles next → Settles (counted form rows next)
 counted_settles form rows next more = if_settles (leaves_rows form) next (makes (tells_rows rows) next) more (makes_settles (tells_rows rows) next tt more)
@@ -451,6 +519,148 @@ unfolding decides
 decides_settles around p0 statement go each = concludes_settles around statement (λ holds. makes (tells_error (pos 0)) (go holds)) (tests around statement) (tests_settles around p0 statement)
     (λ holds. makes_settles (tells_error (pos 0)) (go holds) tt (each holds))
 
+-- ---- the end of a call
+
+fits_settles : (around : Around) (statement : Statement) (tokens : List Token) (next : Doing Exit) → Settles next → Settles (where_it_fits around statement tokens next)
+fits_settles around statement tokens next more = reads_settles _ (λ p. if_settles (nat_lt p.bytes_left (size_of tokens)) (fails_for around statement (plain result_full)) next (fails_settles around statement (plain result_full)) more)
+
+uneven_settles : (around : Around) (statement : Statement) (status : ℤ) (raised : Raised) (caught : Bool) (action : Action) → Settles (ends_uneven_as around statement status raised caught action)
+uneven_settles around statement status raised caught action = fits_settles around statement (uneven_tokens caught action status raised) _
+    (makes_settles (tells_rows 0) _ tt (makes_settles (tells_error raised.number) _ tt (makes_settles (sends (uneven_tokens caught action status raised)) _ tt (by_caught caught))))
+  where
+    by_caught : (caught : Bool) → Settles (uneven_end caught action raised)
+    by_caught true = caught_settles action raised
+    by_caught false = ended_settles action
+
+ends_settle : (around : Around) (statement : Statement) (count : ℕ) (status : ℤ) → Settles (ends_call around statement count status)
+unfolding ends_even ends_uneven
+ends_settle around statement count status = reads_settles _ (λ p. if_settles (p.txn.count == count) (ends_even around statement status) (ends_uneven around statement status raised)
+    (fits_settles around statement (procedure_done status) (succeeds statement (sending (procedure_done status)) (over On)) (succeeds_settles statement (sending (procedure_done status)) On))
+    (reads_settles _ (λ q. uneven_settles around statement status raised (is_caught_in around raised) (action_in around q.settings.xact_abort raised))))
+  where
+    raised : Raised
+    raised = raised_in around.procedure (line_of statement) (plain uneven)
+
+-- ---- the end of a write that has fired triggers
+
+-- where they begin to run a transaction is counted
+fire_steady : (mark : ℕ) (txn : TxnState) → SteadyBy true (after_fire mark txn)
+fire_steady mark txn = by_test (is_closed txn) refl
+  where
+    by_test : (closed : Bool) → is_closed txn ≡ closed → SteadyBy true (after_save [] mark (if closed then record txn { count = 1 } else txn))
+    by_test true is = steady_open (after_save [] mark (record txn { count = 1 })) refl
+    by_test false is = steady_open (after_save [] mark txn) is
+
+fired_steady : (mark : ℕ) (stood : Bool) (p : SessionProgress) → IsSteady p → IsSteady (made (fired_from mark stood) p)
+fired_steady mark stood p steady = by_test p.stands
+  where
+    by_test : (stands : Bool) → SteadyBy p.is_open (if stands then after_fired mark p.txn else p.txn)
+    by_test true = steady
+    by_test false = steady
+
+relaxes_inside : Only IsSteadyStep IsRelax relaxes
+unfolding relaxes
+relaxes_inside = λ p. only_if IsSteadyStep IsRelax p.touched (asks ops.Relax (where_done nothing_more)) nothing_more (tt, by_reply) tt
+  where
+    by_reply : (reply : Reply) → CanReply ops.Relax reply → Only IsSteadyStep IsRelax (where_done nothing_more reply)
+    by_reply replies.Done can = tt
+    by_reply reply can = absurd can
+
+relaxes_settles : Settles relaxes
+relaxes_settles = calm_settles relaxes (only_mono IsSteadyStep IsSteadyStep IsRelax IsInside (λ step is. is) relax_inside relaxes relaxes_inside)
+  where
+    relax_inside : (op : Op) → IsRelax op → IsInside op
+    relax_inside ops.Relax is = tt
+    relax_inside op is = absurd is
+
+-- the end of the locks leaves the transaction as it is
+relaxed_same : (p new : SessionProgress) (exchanges : List Exchange) (done : Unit {0}) → Held relaxes p exchanges done new → (new.is_open ≡ p.is_open) × (new.txn ≡ p.txn)
+unfolding relaxes Held
+relaxed_same p new exchanges done held = by_test p.touched exchanges held
+  where
+    by_reply : (reply : Reply) (later : List Exchange) → CanReply ops.Relax reply → Held (where_done nothing_more reply) (asked ops.Relax reply p) later done new → (new.is_open ≡ p.is_open) × (new.txn ≡ p.txn)
+    by_reply replies.Done later can so = (ap (λ (q : SessionProgress). q.is_open) so.2, ap (λ (q : SessionProgress). q.txn) so.2)
+    by_reply reply later can so = absurd can
+
+    by_test : (test : Bool) (xs : List Exchange) → Held (if test then asks ops.Relax (where_done nothing_more) else nothing_more) p xs done new → (new.is_open ≡ p.is_open) × (new.txn ≡ p.txn)
+    by_test true [] was = absurd was
+    by_test true (x ∷ later) was = by_reply x.reply later was.2 was.3
+    by_test false xs was = (ap (λ (q : SessionProgress). q.is_open) was.2, ap (λ (q : SessionProgress). q.txn) was.2)
+
+-- behind the end of a transaction of its own none is open
+closes_end : (succeeded : Bool) (p new : SessionProgress) (exchanges : List Exchange) (done : Unit {0}) → Held (closes succeeded) p exchanges done new → IsSteady new
+unfolding closes Held
+closes_end true p new [] done held = absurd held
+closes_end true p new (x ∷ later) done held = by_reply x.reply held.2 held.3
+  where
+    by_reply : (reply : Reply) → CanReply ops.Commit reply → Held (where_ended nothing_more reply) (asked ops.Commit reply p) later done new → IsSteady new
+    by_reply (replies.Ended place) can so = same_steady (asked ops.Commit (replies.Ended place) p) new so.2 (ended_steady p ops.Commit place)
+    by_reply reply can so = absurd can
+closes_end false p new [] done held = absurd held
+closes_end false p new (x ∷ later) done held = by_reply x.reply held.2 held.3
+  where
+    by_reply : (reply : Reply) → CanReply ops.Rollback reply → Held (where_ended nothing_more reply) (asked ops.Rollback reply p) later done new → IsSteady new
+    by_reply (replies.Ended place) can so = same_steady (asked ops.Rollback (replies.Ended place) p) new so.2 (ended_steady p ops.Rollback place)
+    by_reply reply can so = absurd can
+
+closes_settles : (succeeded : Bool) → Settles (closes succeeded)
+closes_settles succeeded p new exchanges done steady held = closes_end succeeded p new exchanges done held
+
+leaves_settles : (home : Home) (succeeded : Bool) → Settles (leaves home succeeded)
+unfolding leaves
+leaves_settles Nowhere succeeded = over_settles tt
+leaves_settles Open succeeded = relaxes_settles
+leaves_settles Own succeeded = then_settles relaxes (λ done. closes succeeded) relaxes_settles (λ done. closes_settles succeeded)
+
+closes_own_settles : (home : Home) (succeeded : Bool) → Settles (closes_own home succeeded)
+closes_own_settles Own succeeded = closes_settles succeeded
+closes_own_settles Open succeeded = over_settles tt
+closes_own_settles Nowhere succeeded = over_settles tt
+
+-- behind an operation that is done
+done_settles : (op : Op) (next : Doing (Unit {0})) → IsInside op → Settles next → Settles (asks op (where_done next))
+unfolding Held
+done_settles op next inside more p new [] done steady held = absurd held
+done_settles op next inside more p new (x ∷ later) done steady held = by_reply x.reply held.2 held.3
+  where
+    by_reply : (reply : Reply) → CanReply op reply → Held (where_done next reply) (asked op reply p) later done new → IsSteady new
+    by_reply replies.Done can so = more (asked op replies.Done p) new later done (steady_op op replies.Done p inside can steady) so
+    by_reply reply can so = absurd so
+
+undone_settles : (mark : ℕ) (there : Bool) (next : Doing (Unit {0})) → Settles next → Settles (undone_to mark there (relaxes_then next))
+unfolding relaxes_then
+undone_settles mark true next more = done_settles (ops.BackTo mark) (asks ops.Relax (where_done next)) tt (done_settles ops.Relax next tt more)
+undone_settles mark false next more = done_settles ops.Relax next tt more
+
+leaving_settles : (home : Home) (mark : ℕ) (stood succeeded : Bool) → Settles (leaves_fired home mark stood succeeded)
+unfolding leaves_fired
+leaving_settles home mark stood succeeded = reads_settles _ (λ p. then_settles (if p.stands then settles home mark succeeded p else over tt) _ (if_settles p.stands (settles home mark succeeded p) (over tt) (by_end succeeded p) (over_settles tt)) (λ done. fired_settle))
+  where
+    by_end : (succeeded : Bool) (p : SessionProgress) → Settles (settles home mark succeeded p)
+    by_end true p = leaves_settles home true
+    by_end false p = undone_settles mark (has_mark mark p) (closes_own home false) (closes_own_settles home false)
+
+    fired_settle : Settles (makes (fired_from mark stood) nothing_more)
+    fired_settle p new exchanges done steady held = same_steady (made (fired_from mark stood) p) new (made_same (fired_from mark stood) p new exchanges done held) (fired_steady mark stood p steady)
+
+-- a statement's own transaction that is undone has ended
+undone_ends : (mark : ℕ) (p new : SessionProgress) (exchanges : List Exchange) (done : Unit {0}) → Held (undone_to mark true (relaxes_then (closes false))) p exchanges done new → IsSteady new
+unfolding relaxes_then Held
+undone_ends mark p new [] done held = absurd held
+undone_ends mark p new (x ∷ later) done held = by_back x.reply held.2 held.3
+  where
+    by_relax : (q : SessionProgress) (later : List Exchange) → Held (asks ops.Relax (where_done (closes false))) q later done new → IsSteady new
+    by_relax q [] so = absurd so
+    by_relax q (y ∷ rest) so = by_done y.reply so.2 so.3
+      where
+        by_done : (reply : Reply) → CanReply ops.Relax reply → Held (where_done (closes false) reply) (asked ops.Relax reply q) rest done new → IsSteady new
+        by_done replies.Done can now = closes_end false (asked ops.Relax replies.Done q) new rest done now
+        by_done reply can now = absurd can
+
+    by_back : (reply : Reply) → CanReply (ops.BackTo mark) reply → Held (where_done (asks ops.Relax (where_done (closes false))) reply) (asked (ops.BackTo mark) reply p) later done new → IsSteady new
+    by_back replies.Done can so = by_relax (asked (ops.BackTo mark) replies.Done p) later so
+    by_back reply can so = absurd can
+
 -- ---- statements that hold statements
 
 module _ (one : Statement → Meaning) (each : (inner : Statement) (at : Around) → Settles (one inner at)) (p0 : SessionProgress) where
@@ -458,8 +668,9 @@ module _ (one : Statement → Meaning) (each : (inner : Statement) (at : Around)
   goes_settles next more On = more
   goes_settles next more Leave = over_settles Leave
   goes_settles next more Again = over_settles Again
-  goes_settles next more Return = over_settles Return
+  goes_settles next more (Return status) = over_settles (Return status)
   goes_settles next more (Raise raised) = over_settles (Raise raised)
+  goes_settles next more (RaiseUp raised) = over_settles (RaiseUp raised)
   goes_settles next more End = over_settles End
 
   pub all_settle : (statements : List Statement) (around : Around) → Settles (each_of one statements around)
@@ -472,8 +683,59 @@ module _ (one : Statement → Meaning) (each : (inner : Statement) (at : Around)
   handled_settles handler around On = over_settles On
   handled_settles handler around Leave = over_settles Leave
   handled_settles handler around Again = over_settles Again
-  handled_settles handler around Return = over_settles Return
+  handled_settles handler around (Return status) = over_settles (Return status)
+  handled_settles handler around (RaiseUp raised) = over_settles (RaiseUp raised)
   handled_settles handler around End = over_settles End
+
+  body_settles : (vars : List Variable) (settings : Settings → Settings) (body : List Statement) (around : Around) → Settles (runs_body one vars settings body around)
+  unfolding runs_body
+  body_settles vars settings body around = reads_settles _ (λ p. makes_settles (stands_with vars) _ tt (makes_settles (sets (settings p.settings)) _ tt (then_settles (each_of one body around) _ (all_settle body around)
+      (λ left. reads_settles _ (λ inner. makes_settles (stands_with p.vars) _ tt (makes_settles (sets p.settings) (over (left, inner.vars)) tt (over_settles (left, inner.vars))))))))
+
+  -- triggers, one after another
+  triggers_settle : (around : Around) (w : Written) (triggers : List TriggerTree) → Settles (runs_triggers one around w triggers)
+  unfolding runs_triggers runs_trigger
+  triggers_settle around w [] = reads_settles _ (λ p. over_settles (tells_behind one w.effect p))
+  triggers_settle around w (trigger ∷ triggers) = then_settles (runs_trigger one around w.fired trigger) _ (then_settles (runs_body one (vars_of trigger.body) in_trigger trigger.body (in_body trigger.name (Some w.fired) around)) (λ came. over came.0)
+      (body_settles (vars_of trigger.body) in_trigger trigger.body (in_body trigger.name (Some w.fired) around)) (λ came. over_settles came.0)) (λ left. reads_settles _ (λ p. by_end (triggers_settle around w triggers) (trigger_end left p)))
+    where
+      by_end : Settles (runs_triggers one around w triggers) → (end : Result (Unit {0}) Stop) → Settles (unless_stopped one (runs_triggers one around w triggers) end)
+      by_end more (Ok done) = more
+      by_end more (Err stop) = over_settles (Err stop)
+
+  fired_settles : (around : Around) (w : Written) → Settles (runs_fired one around w)
+  unfolding runs_fired
+  fired_settles around w = if_settles (nat_le depth_limit around.depth) (over (Err (Failed (plain too_deep)))) (runs_triggers one around w w.fires) (over_settles (Err (Failed (plain too_deep)))) (triggers_settle around w w.fires)
+
+  -- a write that fires triggers begins them in its transaction, which is counted as open then
+  fires_steady : (around : Around) (home : Home) (w : Written) (p mid new : SessionProgress) (exchanges : List Exchange) (came : Result Effect Stop) (entered : List Exchange) → IsSteady p → IsEntered p.is_open p.settings.manner entered home → mid ≡ record p { is_open = true; touched = mid.touched }
+      → Held (fires one around home w) mid exchanges came new → IsSteady new
+  unfolding fires Held
+  fires_steady around home w p mid new exchanges came entered steady enters still held =
+      let on = held_apart relaxes _ mid new exchanges came held in
+      by_room on.mid (relaxed_same mid on.mid on.front on.came on.held) on.back on.rest.0 on.rest.1
+    where
+      stood : (q : SessionProgress) → (q.is_open ≡ mid.is_open) × (q.txn ≡ mid.txn) → (q.is_open ≡ true) × (q.txn ≡ p.txn)
+      stood q same = (same.0 ∙ ap (λ (s : SessionProgress). s.is_open) still, same.1 ∙ ap (λ (s : SessionProgress). s.txn) still)
+
+      by_home : (home : Home) (q : SessionProgress) (later : List Exchange) → (q.is_open ≡ true) × (q.txn ≡ p.txn) → (is_open : Bool) → p.is_open ≡ is_open → IsEntered is_open p.settings.manner entered home → (done : Unit {0}) (r : SessionProgress)
+          → Held (undone_to w.mark true (relaxes_then (closes_own home false))) q later done r → IsSteady r
+      by_home Own q later same is_open is begun done r was = undone_ends w.mark q r later done was
+      by_home Open q later same true is begun done r was =
+          undone_settles w.mark true (closes_own Open false) (over_settles tt) q r later done (subst (λ (b : Bool). SteadyBy b q.txn) (sym same.0) (subst (SteadyBy true) (sym same.1) (subst (λ (b : Bool). SteadyBy b p.txn) is steady))) was
+      by_home Open q later same false is begun done r was = absurd (let no : Open ≡ Own = begun.1 in cc)
+      by_home Nowhere q later same true is begun done r was = absurd (let no : Nowhere ≡ Open = begun.1 in cc)
+      by_home Nowhere q later same false is begun done r was = absurd (let no : Nowhere ≡ Own = begun.1 in cc)
+
+      by_room : (q : SessionProgress) → (q.is_open ≡ mid.is_open) × (q.txn ≡ mid.txn) → (later : List Exchange) (enough : Bool)
+          → Held (if enough then (reads λ s. makes (fires_from w.mark) (runs_fired one around w then λ came. leaves_fired home w.mark s.stands (is_ok came) then λ done. over (effect_of one w.effect came)))
+          else (undone_to w.mark true (relaxes_then (closes_own home false)) then λ done. over (Err (Failed (plain no_memory))))) q later came new → IsSteady new
+      by_room q same later true was =
+          then_settles (runs_fired one around w) _ (fired_settles around w) (λ ran. then_settles (leaves_fired home w.mark q.stands (is_ok ran)) _ (leaving_settles home w.mark q.stands (is_ok ran)) (λ done. over_settles (effect_of one w.effect ran)))
+          (made (fires_from w.mark) q) new later came (subst (λ (b : Bool). SteadyBy b (after_fire w.mark q.txn)) (sym (stood q same).0) (fire_steady w.mark q.txn)) was
+      by_room q same later false was =
+          let end = held_apart (undone_to w.mark true (relaxes_then (closes_own home false))) _ q new later came was in
+          same_steady end.mid new end.rest.2 (by_home home q end.front (stood q same) p.is_open refl enters end.came end.mid end.held)
 
   module _ (around : Around) (statement : Statement) where
     branch_settles : (so : Statement) (otherwise : Option Statement) (holds : Bool) → Settles (branch one around so otherwise holds)
@@ -493,37 +755,79 @@ module _ (one : Statement → Meaning) (each : (inner : Statement) (at : Around)
     unfolding tries
     tries_settles body handler = then_settles (each_of one body (in_try around)) (λ exit. handled (λ raised. each_of one handler (in_catch raised around)) exit) (all_settle body (in_try around)) (handled_settles handler around)
 
-    form_settles : (form : Layer) → Settles (mean_form one around statement form)
+    written_settles : (came : Result Effect Stop) → Settles (written around statement came)
+    written_settles (Ok effect) = succeeds_settles statement effect On
+    written_settles (Err (Failed failure)) = fails_settles around statement failure
+    written_settles (Err (LeftSo exit)) = makes_settles (tells_rows 0) (over exit) tt (over_settles exit)
+
+    writes_settle : is_write (form_of statement) ≡ true → Settles (writes one around statement then written around statement)
+    writes_settle is = then_settles (writes one around statement) (written around statement) work_settles written_settles
+      where
+        by_ways : (p new : SessionProgress) (exchanges : List Exchange) (came : Result Effect Stop) → IsSteady p
+            → ((changed : Result Written Failure) × Held (changes_of around statement) p exchanges changed new × Unfired changed came) ⊎ IsFired around p statement (λ home done mid behind. Held (fires one around home done) mid behind came new) exchanges → IsSteady new
+        by_ways p new exchanges came steady (inl unfired) = changes_settle around p0 statement p new exchanges unfired.0 steady unfired.1
+        by_ways p new exchanges came steady (inr fired) = fires_steady around fired.came fired.done p fired.mid new fired.behind came fired.writes.entered steady fired.writes.enters fired.still fired.goes
+
+        work_settles : Settles (writes one around statement)
+        work_settles p new exchanges came steady held = by_ways p new exchanges came steady (writes_apart one around statement p new exchanges came is held)
+
+    gives_settles : (variable : Option (List ℕ)) (arguments : List Argument) (call : Call) (count : ℕ) (vars : List Variable) (number : ℤ) → Settles (gives_back around statement variable arguments call count vars number)
+    unfolding gives_back
+    gives_settles variable arguments call count vars number = concludes_settles around statement (λ assigned. assigns_all assigned (ends_call around statement count number)) (reads λ p. comes_to (given_back p.vars variable arguments call number vars))
+        (calm_settles (reads λ p. comes_to (given_back p.vars variable arguments call number vars)) (λ p. only_comes IsSteadyStep IsInside (given_back p.vars variable arguments call number vars)))
+        (λ assigned. sets_settles assigned (ends_call around statement count number) (ends_settle around statement count number))
+
+    returns_settle : (variable : Option (List ℕ)) (arguments : List Argument) (call : Call) (count : ℕ) (vars : List Variable) (came : Exit) → Settles (returns_from around statement variable arguments call count vars came)
+    returns_settle variable arguments call count vars (Raise raised) = makes_settles (tells_rows 0) (over (Raise raised)) tt (over_settles (Raise raised))
+    returns_settle variable arguments call count vars (RaiseUp raised) = makes_settles (tells_rows 0) (over (Raise raised)) tt (over_settles (Raise raised))
+    returns_settle variable arguments call count vars End = makes_settles (tells_rows 0) (over End) tt (over_settles End)
+    returns_settle variable arguments call count vars (Return number) = gives_settles variable arguments call count vars number
+    returns_settle variable arguments call count vars On = gives_settles variable arguments call count vars (pos 0)
+    returns_settle variable arguments call count vars Leave = gives_settles variable arguments call count vars (pos 0)
+    returns_settle variable arguments call count vars Again = gives_settles variable arguments call count vars (pos 0)
+
+    call_settles : (variable : Option (List ℕ)) (name : List ℕ) (arguments : List Argument) → Settles (calls one around statement variable name arguments)
+    unfolding calls runs_call
+    call_settles variable name arguments = concludes_settles around statement (runs_call one around statement variable arguments) (finds_call around statement variable name arguments) (calls_settle around p0 statement variable name arguments)
+        (λ call. reads_settles _ (λ p. then_settles (runs_body one (call_vars call) (λ settings. settings) call.procedure.body (in_body call.procedure.name None around)) _ (body_settles (call_vars call) (λ settings. settings) call.procedure.body (in_body call.procedure.name None around))
+        (λ came. returns_settle variable arguments call p.txn.count came.1 came.0)))
+
+    form_settles : (form : Layer) → form_of statement ≡ form → Settles (mean_form one around statement form)
     unfolding mean_form
-    form_settles (Form-F.If test so otherwise) = decides_settles around p0 statement (branch one around so otherwise) (branch_settles so otherwise)
-    form_settles (Form-F.While test body) = decides_settles around p0 statement (turns one around statement body) (turns_settles body)
-    form_settles Form-F.Break = makes_settles (tells_error (pos 0)) (over Leave) tt (over_settles Leave)
-    form_settles Form-F.Continue = makes_settles (tells_error (pos 0)) (over Again) tt (over_settles Again)
-    form_settles (Form-F.Block body) = all_settle body around
-    form_settles (Form-F.TryCatch body handler) = tries_settles body handler
-    form_settles (Form-F.Print value) = tells_settles around p0 statement
-    form_settles (Form-F.RaiseError value class state) = tells_settles around p0 statement
-    form_settles (Form-F.Throw number value state) = tells_settles around p0 statement
-    form_settles Form-F.ThrowAgain = again_settles around statement around.caught
-    form_settles (Form-F.Return value) = does_settles around statement Return (works around statement) (works_settles around p0 statement)
-    form_settles (Form-F.SetOption option) = option_settles around statement option
-    form_settles (Form-F.BeginTransaction name) = does_settles around statement On (begins_transaction statement name) (begins_settles statement name)
-    form_settles (Form-F.Commit name) = does_settles around statement On (commits_transaction statement) (commits_settles statement)
-    form_settles (Form-F.Rollback name) = does_settles around statement On (rolls_back_transaction statement name) (rolls_settles statement name)
-    form_settles (Form-F.Save name) = does_settles around statement On (saves_transaction statement name) (saves_settles statement name)
-    form_settles (Form-F.CreateTable table text) = does_settles around statement On (creates_table statement table.name text) (creates_settles around p0 statement table.name text)
-    form_settles (Form-F.DeclareCursor name select) = does_settles around statement On (declares_cursor statement name select) (silent_settles (declares_cursor statement name select) (declares_silent statement name select))
-    form_settles (Form-F.OpenCursor name) = does_settles around statement On (opens_cursor around statement name) (opens_settles around p0 statement name)
-    form_settles (Form-F.Fetch name variables) = does_settles around statement On (fetches_cursor statement name variables) (silent_settles (fetches_cursor statement name variables) (fetches_silent statement name variables))
-    form_settles (Form-F.CloseCursor name) = does_settles around statement On (closes_cursor statement name) (silent_settles (closes_cursor statement name) (closes_silent statement name))
-    form_settles (Form-F.Deallocate name) = does_settles around statement On (removes_cursor statement name) (silent_settles (removes_cursor statement name) (removes_silent statement name))
-    form_settles form = does_settles around statement On (works around statement) (works_settles around p0 statement)
+    form_settles (Form-F.If test so otherwise) is = decides_settles around p0 statement (branch one around so otherwise) (branch_settles so otherwise)
+    form_settles (Form-F.While test body) is = decides_settles around p0 statement (turns one around statement body) (turns_settles body)
+    form_settles Form-F.Break is = makes_settles (tells_error (pos 0)) (over Leave) tt (over_settles Leave)
+    form_settles Form-F.Continue is = makes_settles (tells_error (pos 0)) (over Again) tt (over_settles Again)
+    form_settles (Form-F.Block body) is = all_settle body around
+    form_settles (Form-F.TryCatch body handler) is = tries_settles body handler
+    form_settles (Form-F.Print value) is = tells_settles around p0 statement
+    form_settles (Form-F.RaiseError value class state) is = tells_settles around p0 statement
+    form_settles (Form-F.Throw number value state) is = tells_settles around p0 statement
+    form_settles Form-F.ThrowAgain is = again_settles around statement around.caught
+    form_settles (Form-F.Return value) is = concludes_settles around statement (λ status. succeeds statement no_effect (over (Return status))) (statuses around statement) (statuses_settle around p0 statement) (λ status. succeeds_settles statement no_effect (Return status))
+    form_settles (Form-F.SetOption option) is = option_settles around statement option
+    form_settles (Form-F.BeginTransaction name) is = does_settles around statement On (begins_transaction statement name) (begins_settles statement name)
+    form_settles (Form-F.Commit name) is = does_settles around statement On (commits_transaction statement) (commits_settles statement)
+    form_settles (Form-F.Rollback name) is = does_settles around statement On (rolls_back_transaction statement name) (rolls_settles statement name)
+    form_settles (Form-F.Save name) is = does_settles around statement On (saves_transaction statement name) (saves_settles statement name)
+    form_settles (Form-F.CreateTable table text) is = does_settles around statement On (creates_table around statement table.name text) (creates_settles around p0 statement table.name text)
+    form_settles (Form-F.Drop kind name) is = does_settles around statement On (drops around statement kind name) (drops_settle around p0 statement kind name)
+    form_settles (Form-F.Insert table columns rows) is = writes_settle (ap is_write is)
+    form_settles (Form-F.Update table assignments filter) is = writes_settle (ap is_write is)
+    form_settles (Form-F.Delete table filter) is = writes_settle (ap is_write is)
+    form_settles (Form-F.Execute status name arguments) is = call_settles status name arguments
+    form_settles (Form-F.DeclareCursor name select) is = does_settles around statement On (declares_cursor statement name select) (silent_settles (declares_cursor statement name select) (declares_silent statement name select))
+    form_settles (Form-F.OpenCursor name) is = does_settles around statement On (opens_cursor around statement name) (opens_settles around p0 statement name)
+    form_settles (Form-F.Fetch name variables) is = does_settles around statement On (fetches_cursor statement name variables) (silent_settles (fetches_cursor statement name variables) (fetches_silent statement name variables))
+    form_settles (Form-F.CloseCursor name) is = does_settles around statement On (closes_cursor statement name) (silent_settles (closes_cursor statement name) (closes_silent statement name))
+    form_settles (Form-F.Deallocate name) is = does_settles around statement On (removes_cursor statement name) (silent_settles (removes_cursor statement name) (removes_silent statement name))
+    form_settles form is = does_settles around statement On (works around statement) (works_settles around p0 statement)
 
     by_settles : Settles (mean_by one statement around)
     unfolding mean_by
     by_settles = reads_settles (λ p. if p.txn.doomed && is_refused_doomed (form_of statement) then fails_for around statement (plain doomed_write) else mean_form one around statement (form_of statement))
         (λ p. if_settles (p.txn.doomed && is_refused_doomed (form_of statement)) (fails_for around statement (plain doomed_write)) (mean_form one around statement (form_of statement))
-        (fails_settles around statement (plain doomed_write)) (form_settles (form_of statement)))
+        (fails_settles around statement (plain doomed_write)) (form_settles (form_of statement) refl))
 
 -- ---- the cycle
 
@@ -537,9 +841,18 @@ mean_settles (suc levels) p0 statement around =
 
 -- ---- batches
 
+defined_settles : (line : ℤ) (came : Result Effect Failure) → Settles (defined line came)
+defined_settles line (Ok effect) = makes_settles (tells_rows 0) _ tt (makes_settles (tells_error (pos 0)) (over On) tt (over_settles On))
+defined_settles line (Err failure) = makes_settles (tells_rows 0) _ tt (at_settles around_batch line command_none _)
+
+object_settles : (line : ℤ) (of : Definition) (text : List ℕ) → Settles (defines_object line of text)
+unfolding defines_object
+object_settles line of text = reads_settles _ (λ p. if_settles p.txn.doomed (defined line (Err (plain doomed_write))) (creates_definition of text then defined line) (defined_settles line (Err (plain doomed_write)))
+    (then_settles (creates_definition of text) (defined line) (definition_settles of text) (defined_settles line)))
+
 text_settles : (p0 : SessionProgress) (read : ReadText) → Settles (runs_text read)
 text_settles p0 (text.Statements statements) = all_settle (λ inner at. mean_of statement_limit inner at) (λ inner at. mean_settles statement_limit p0 inner at) p0 statements around_batch
-text_settles p0 text.NotBuilt = makes_settles (sends _) (over End) tt (over_settles End)
+text_settles p0 (text.Defines line of units) = object_settles line of units
 text_settles p0 (text.Refused line code near) = makes_settles (sends _) (over End) tt (over_settles End)
 
 -- at its end none is doomed

@@ -5,6 +5,7 @@ use Rattle.tsql_tree.specs.declared.definition.TableTree.{TableTree}
 use Rattle.tsql_tree.specs.declared.statement.Form.{Form-F}
 use Rattle.error_table.specs.declared.action.Action.TheVariants as act
 use Rattle.step_model.specs.declared.change.Planned.{Planned}
+use Rattle.error_table.specs.Act.{base_caught}
 use Rattle.step_model.specs.declared.manner.Manner.{Manner}
 use Rattle.step_model.specs.declared.op.Op.TheVariants as ops
 use Rattle.step_model.specs.declared.reply.Reply.TheVariants as replies
@@ -13,18 +14,19 @@ use Rattle.step_model.specs.Fits.{commit_of}
 use Rattle.step_model.specs.Net.{Net}
 use Rattle.step_model.specs.Own.{MarkedAt, Progress as Stand, none_open}
 use Rattle.constraint_check.specs.Reads.{rows_table}
-use Rattle.txn_rules.specs.declared.state.TxnState.{TxnState}
 use Rattle.session_cursors.specs.declared.fault.CursorFault.{CursorFault}
-use Rattle.txn_rules.specs.State.{is_closed, no_transaction}
-use Rattle.batch_meaning.specs.declared.exit.Exit.TheVariants.{On, End, Return, Raise}
+use Rattle.txn_rules.specs.State.{after_end, is_closed, no_transaction}
+use Rattle.tds_tokens.specs.declared.token.DoneKind.TheVariants.{Done}
+use Rattle.batch_meaning.specs.declared.exit.Exit.TheVariants.{On, End}
 use Rattle.batch_meaning.specs.declared.raised.Raised.{Raised}
 use Rattle.batch_meaning.specs.Changing.{created}
+use Rattle.batch_meaning.specs.Meaning.{way_of}
 use Rattle.batch_meaning.specs.Progress.{SessionProgress, fetches, first_progress, made, tells_fetch}
 use Rattle.batch_meaning.specs.Raised.{error_token}
 use Rattle.batch_meaning.specs.Selecting.{no_effect}
 use Rattle.batch_meaning.specs.Tokens.{statement_failed}
 use Rattle.statement_paths.specs.Paths.{definition_put, replied}
-use Rattle.batch_laws.specs.Committing.{exit_for, is_plain, IsIdle, Leaves, StrikesBy}
+use Rattle.batch_laws.specs.Committing.{is_plain, told_of, IsIdle, Leaves, StrikesBy}
 use Rattle.batch_laws.specs.Cursors.{Fetches}
 use Rattle.batch_laws.specs.Settled.{IsSteady}
 use Rattle.batch_laws.specs.Transactions.{CommitsBy, LeavesAll}
@@ -60,15 +62,19 @@ behind_last p name variables = (refl, refl)
 none_fetched : (p new : SessionProgress) (name : List ℕ) (variables : List (List ℕ)) (fault : CursorFault) → Fetches p name variables (Err fault) (Ok no_effect) new → ⊥
 none_fetched p new name variables fault fetched = fetched
 
--- CREATE TABLE is plain, and a block is not; RETURN leaves the batch
+-- CREATE TABLE and RETURN are plain, and a block is not
 create_plain : (table : TableTree) (text : List ℕ) → is_plain (Form-F.CreateTable table text) ≡ true
 create_plain table text = refl
+
+return_plain : is_plain (Form-F.Return None) ≡ true
+return_plain = refl
 
 block_holds : is_plain (Form-F.Block []) ≡ false
 block_holds = refl
 
-return_leaves : exit_for (Form-F.Return None) ≡ Return
-return_leaves = refl
+-- EXEC runs other statements
+call_runs : (name : List ℕ) → is_plain (Form-F.Execute None name []) ≡ false
+call_runs name = refl
 
 module _ (manner : Manner) (name text : List ℕ) (mark place : ℕ) where
   abbrev put : List Exchange
@@ -103,17 +109,21 @@ module _ (manner : Manner) (name text : List ℕ) (mark place : ℕ) where
   all_committed = (refl, refl)
 
 -- an error that ends its statement is told, and the batch goes on
-told_on : (manner : Manner) (is_open : Bool) (txn : TxnState) (command : ℕ) (raised : Raised) → StrikesBy manner false act.Statement is_open txn command raised On (error_token raised ∷ statement_failed command ∷ []) [] txn
-told_on manner is_open txn command raised = (refl, refl, refl, refl)
+told_on : (p : SessionProgress) (is_open : Bool) (command : ℕ) (raised : Raised) → StrikesBy p false act.Statement is_open (told_of Done false act.Statement command raised) raised On (error_token raised ∷ statement_failed Done command ∷ []) [] p.txn
+told_on p is_open command raised = (refl, refl, refl, refl)
 
 -- one that is caught sends nothing
-caught_silent : (manner : Manner) (is_open : Bool) (txn : TxnState) (command : ℕ) (raised : Raised) → StrikesBy manner true act.Statement is_open txn command raised (Raise raised) [] [] txn
-caught_silent manner is_open txn command raised = (refl, refl, refl, refl)
+caught_silent : (p : SessionProgress) (is_open : Bool) (command : ℕ) (raised : Raised) → StrikesBy p true act.Statement is_open (told_of Done true act.Statement command raised) raised (way_of (base_caught raised.number raised.by) raised) [] [] p.txn
+caught_silent p is_open command raised = (refl, refl, refl, refl)
 
 -- but one that would end the transaction dooms it
-caught_dooms : (manner : Manner) (is_open : Bool) (txn : TxnState) (command : ℕ) (raised : Raised) → is_closed txn ≡ false → StrikesBy manner true act.Doom is_open txn command raised (Raise raised) [] [] (record txn { doomed = true })
-caught_dooms manner is_open txn command raised is = rw is (refl, refl, refl, refl)
+caught_dooms : (p : SessionProgress) (is_open : Bool) (raised : Raised) → is_closed p.txn ≡ false → StrikesBy p true act.Doom is_open [] raised (way_of (base_caught raised.number raised.by) raised) [] [] (record p.txn { doomed = true })
+caught_dooms p is_open raised is = rw is (refl, refl, refl, refl)
 
 -- one that would end a transaction ends the batch alone where none is open
-told_alone : (manner : Manner) (txn : TxnState) (command : ℕ) (raised : Raised) → StrikesBy manner false act.BatchAndTransaction false txn command raised End (error_token raised ∷ []) [] txn
-told_alone manner txn command raised = (refl, refl, refl, refl)
+told_alone : (p : SessionProgress) (command : ℕ) (raised : Raised) → StrikesBy p false act.BatchAndTransaction false (told_of Done false act.BatchAndTransaction command raised) raised End (error_token raised ∷ []) [] p.txn
+told_alone p command raised = (refl, refl, refl, refl)
+
+-- the end of a statement's own transaction is not told
+own_untold : (p : SessionProgress) (place : ℕ) (raised : Raised) → p.is_own ≡ true → StrikesBy p false act.BatchAndTransaction true (error_token raised ∷ []) raised End (error_token raised ∷ []) (replied p.settings.manner ops.Rollback (replies.Ended place) ∷ []) (after_end p.txn)
+own_untold p place raised is = rw is (refl, (place, refl), refl, refl)

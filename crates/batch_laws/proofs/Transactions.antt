@@ -23,7 +23,7 @@ use Rattle.batch_meaning.specs.Progress.{SessionProgress, asked, opens, saves, s
 use Rattle.batch_meaning.specs.Selecting.{Effect, bound_over, no_effect, result_full, sending}
 use Rattle.batch_meaning.specs.Settings.{outside_profile}
 use Rattle.batch_meaning.specs.Tokens.{transaction_begun, transaction_committed, transaction_rolled_back}
-use Rattle.batch_meaning.specs.Transactions.{begins_outermost, begins_over, begins_transaction, bound_first, commits_by, commits_transaction, goes_back, next_serial, nothing_open, rolls_back_to, rolls_back_transaction, rolls_back_whole, saves_transaction, saves_unless}
+use Rattle.batch_meaning.specs.Transactions.{begins_outermost, begins_over, begins_transaction, bound_first, commits_by, commits_transaction, goes_back, next_serial, nothing_open, rolls_back_to, rolls_back_transaction, rolls_back_whole, saves_transaction, saves_unless, unless_own}
 use Rattle.statement_paths.specs.Paths.{replied}
 use Rattle.statement_paths.proofs.Dialogs.{is_replied}
 use Rattle.batch_laws.specs.Committing.{Agrees}
@@ -130,34 +130,34 @@ module _ (p new : SessionProgress) (exchanges : List Exchange) (came : Result Ef
       by_answer (Ok false) = (failed.2, failed.3)
       by_answer (Err number) = (failed.2, failed.3)
 
-  close_asks : Held (asks ops.Commit (where_ended (over (Ok (sending (transaction_committed p.txn.serial ∷ [])))))) p exchanges came new → Closes p (Ok true) came exchanges new
+  close_asks : Held (asks ops.Commit (where_ended (over (Ok (sending (unless_own p.is_own (transaction_committed p.txn.serial))))))) p exchanges came new → Closes p (Ok true) came exchanges new
   unfolding Held
   close_asks held = by_list exchanges refl held
     where
-      by_list : (xs : List Exchange) → exchanges ≡ xs → Held (asks ops.Commit (where_ended (over (Ok (sending (transaction_committed p.txn.serial ∷ [])))))) p xs came new → Closes p (Ok true) came exchanges new
+      by_list : (xs : List Exchange) → exchanges ≡ xs → Held (asks ops.Commit (where_ended (over (Ok (sending (unless_own p.is_own (transaction_committed p.txn.serial))))))) p xs came new → Closes p (Ok true) came exchanges new
       by_list [] is was = absurd was
       by_list (x ∷ later) is was = by_reply x.reply refl was.2 was.3
         where
-          by_reply : (reply : Reply) → x.reply ≡ reply → CanReply ops.Commit reply → Held {A = Result Effect Failure} (where_ended (over (Ok (sending (transaction_committed p.txn.serial ∷ [])))) reply) (asked ops.Commit reply p) later came new → Closes p (Ok true) came exchanges new
+          by_reply : (reply : Reply) → x.reply ≡ reply → CanReply ops.Commit reply → Held {A = Result Effect Failure} (where_ended (over (Ok (sending (unless_own p.is_own (transaction_committed p.txn.serial))))) reply) (asked ops.Commit reply p) later came new → Closes p (Ok true) came exchanges new
           by_reply (replies.Ended place) told can so = subst (λ (r : Result Effect Failure). Closes p (Ok true) r exchanges new) (sym so.1)
               (refl, (place, is ∙ ap (λ (y : Exchange). y ∷ later) (is_replied x p.settings.manner ops.Commit (replies.Ended place) was.0 was.1 told) ∙ ap (λ (l : List Exchange). replied p.settings.manner ops.Commit (replies.Ended place) ∷ l) so.0, so.2))
           by_reply reply told can so = absurd can
 
-  close_by : (answer : Result Bool ℤ) → Held (commits_by p.txn answer) p exchanges came new → Closes p answer came exchanges new
+  close_by : (answer : Result Bool ℤ) → Held (commits_by p answer) p exchanges came new → Closes p answer came exchanges new
   unfolding Held
   close_by (Err number) held = close_refused (Err number) (record { number = number; name = None }, held.1, held.0, held.2)
   close_by (Ok false) held = subst (λ (r : Result Effect Failure). Closes p (Ok false) r exchanges new) (sym held.1) (held.0, refl, held.2)
   close_by (Ok true) held = by_bytes (bytes_or _ _ held)
     where
-      by_bytes : Failed ⊎ Held (asks ops.Commit (where_ended (over (Ok (sending (transaction_committed p.txn.serial ∷ [])))))) p exchanges came new → Closes p (Ok true) came exchanges new
+      by_bytes : Failed ⊎ Held (asks ops.Commit (where_ended (over (Ok (sending (unless_own p.is_own (transaction_committed p.txn.serial))))))) p exchanges came new → Closes p (Ok true) came exchanges new
       by_bytes (inl failed) = close_refused (Ok true) failed
       by_bytes (inr here) = close_asks here
 
   pub close_held : (statement : Statement) → Held (commits_transaction statement) p exchanges came new → Closes p (commit_answer p.txn) came exchanges new
   unfolding commits_transaction
-  close_held statement held = by_first (first_or statement (λ q. commits_by q.txn (commit_answer q.txn)) held)
+  close_held statement held = by_first (first_or statement (λ q. commits_by q (commit_answer q.txn)) held)
     where
-      by_first : Failed ⊎ Held (commits_by p.txn (commit_answer p.txn)) p exchanges came new → Closes p (commit_answer p.txn) came exchanges new
+      by_first : Failed ⊎ Held (commits_by p (commit_answer p.txn)) p exchanges came new → Closes p (commit_answer p.txn) came exchanges new
       by_first (inl failed) = close_refused (commit_answer p.txn) failed
       by_first (inr here) = close_by (commit_answer p.txn) here
 
@@ -171,24 +171,24 @@ module _ (p new : SessionProgress) (exchanges : List Exchange) (came : Result Ef
       by_answer (Ok (Mark mark)) = (failed.2, failed.3)
       by_answer (Err number) = (failed.2, failed.3)
 
-  whole_asks : Held (asks ops.Rollback (where_ended (over (Ok (sending (transaction_rolled_back p.txn.serial ∷ [])))))) p exchanges came new → RollsBack p (Ok Whole) came exchanges new
+  whole_asks : Held (asks ops.Rollback (where_ended (over (Ok (sending (unless_own p.is_own (transaction_rolled_back p.txn.serial))))))) p exchanges came new → RollsBack p (Ok Whole) came exchanges new
   unfolding Held
   whole_asks held = by_list exchanges refl held
     where
-      by_list : (xs : List Exchange) → exchanges ≡ xs → Held (asks ops.Rollback (where_ended (over (Ok (sending (transaction_rolled_back p.txn.serial ∷ [])))))) p xs came new → RollsBack p (Ok Whole) came exchanges new
+      by_list : (xs : List Exchange) → exchanges ≡ xs → Held (asks ops.Rollback (where_ended (over (Ok (sending (unless_own p.is_own (transaction_rolled_back p.txn.serial))))))) p xs came new → RollsBack p (Ok Whole) came exchanges new
       by_list [] is was = absurd was
       by_list (x ∷ later) is was = by_reply x.reply refl was.2 was.3
         where
-          by_reply : (reply : Reply) → x.reply ≡ reply → CanReply ops.Rollback reply → Held {A = Result Effect Failure} (where_ended (over (Ok (sending (transaction_rolled_back p.txn.serial ∷ [])))) reply) (asked ops.Rollback reply p) later came new → RollsBack p (Ok Whole) came exchanges new
+          by_reply : (reply : Reply) → x.reply ≡ reply → CanReply ops.Rollback reply → Held {A = Result Effect Failure} (where_ended (over (Ok (sending (unless_own p.is_own (transaction_rolled_back p.txn.serial))))) reply) (asked ops.Rollback reply p) later came new → RollsBack p (Ok Whole) came exchanges new
           by_reply (replies.Ended place) told can so = subst (λ (r : Result Effect Failure). RollsBack p (Ok Whole) r exchanges new) (sym so.1)
               (refl, (place, is ∙ ap (λ (y : Exchange). y ∷ later) (is_replied x p.settings.manner ops.Rollback (replies.Ended place) was.0 was.1 told) ∙ ap (λ (l : List Exchange). replied p.settings.manner ops.Rollback (replies.Ended place) ∷ l) so.0, so.2))
           by_reply reply told can so = absurd can
 
-  whole_back : Held (rolls_back_whole p.txn) p exchanges came new → RollsBack p (Ok Whole) came exchanges new
+  whole_back : Held (rolls_back_whole p) p exchanges came new → RollsBack p (Ok Whole) came exchanges new
   unfolding rolls_back_whole
   whole_back held = by_bytes (bytes_or _ _ held)
     where
-      by_bytes : Failed ⊎ Held (asks ops.Rollback (where_ended (over (Ok (sending (transaction_rolled_back p.txn.serial ∷ [])))))) p exchanges came new → RollsBack p (Ok Whole) came exchanges new
+      by_bytes : Failed ⊎ Held (asks ops.Rollback (where_ended (over (Ok (sending (unless_own p.is_own (transaction_rolled_back p.txn.serial))))))) p exchanges came new → RollsBack p (Ok Whole) came exchanges new
       by_bytes (inl failed) = back_refused (Ok Whole) failed
       by_bytes (inr here) = whole_asks here
 
@@ -205,7 +205,7 @@ module _ (p new : SessionProgress) (exchanges : List Exchange) (came : Result Ef
               (is ∙ ap (λ (y : Exchange). y ∷ later) (is_replied x p.settings.manner (ops.BackTo mark) replies.Done was.0 was.1 told) ∙ ap (λ (l : List Exchange). replied p.settings.manner (ops.BackTo mark) replies.Done ∷ l) so.0, refl, so.2)
           by_reply reply told can so = absurd can
 
-  back_by : (name : List ℕ) (answer : Result BackKind ℤ) → Held (goes_back name p.txn answer) p exchanges came new → RollsBack p answer came exchanges new
+  back_by : (name : List ℕ) (answer : Result BackKind ℤ) → Held (goes_back name p answer) p exchanges came new → RollsBack p answer came exchanges new
   unfolding Held
   back_by name (Ok Whole) held = whole_back held
   back_by name (Ok (Mark mark)) held = mark_back mark held
@@ -215,20 +215,20 @@ module _ (p new : SessionProgress) (exchanges : List Exchange) (came : Result Ef
       by_room (inl failed) = back_refused (Err number) failed
       by_room (inr here) = back_refused (Err number) (record { number = number; name = Some name }, here.1, here.0, here.2)
 
-  back_to : (name : Option (List ℕ)) → Held (rolls_back_to name p.txn) p exchanges came new → RollsBack p (back_for name p.txn) came exchanges new
+  back_to : (name : Option (List ℕ)) → Held (rolls_back_to name p) p exchanges came new → RollsBack p (back_for name p.txn) came exchanges new
   unfolding Held
   back_to None held = by_closed (is_closed p.txn) held
     where
-      by_closed : (closed : Bool) → Held (if closed then fails nothing_open else rolls_back_whole p.txn) p exchanges came new → RollsBack p (if closed then Err (pos nothing_open) else Ok Whole) came exchanges new
+      by_closed : (closed : Bool) → Held (if closed then fails nothing_open else rolls_back_whole p) p exchanges came new → RollsBack p (if closed then Err (pos nothing_open) else Ok Whole) came exchanges new
       by_closed true was = back_refused (Err (pos nothing_open)) (plain nothing_open, was.1, was.0, was.2)
       by_closed false was = whole_back was
   back_to (Some name) held = back_by name (rollback_answer name p.txn) held
 
   pub back_held : (statement : Statement) (name : Option (List ℕ)) → Held (rolls_back_transaction statement name) p exchanges came new → RollsBack p (back_for name p.txn) came exchanges new
   unfolding rolls_back_transaction
-  back_held statement name held = by_first (first_or statement (λ q. rolls_back_to name q.txn) held)
+  back_held statement name held = by_first (first_or statement (λ q. rolls_back_to name q) held)
     where
-      by_first : Failed ⊎ Held (rolls_back_to name p.txn) p exchanges came new → RollsBack p (back_for name p.txn) came exchanges new
+      by_first : Failed ⊎ Held (rolls_back_to name p) p exchanges came new → RollsBack p (back_for name p.txn) came exchanges new
       by_first (inl failed) = back_refused (back_for name p.txn) failed
       by_first (inr here) = back_to name here
 

@@ -5,7 +5,6 @@ use Rattle.std.specs.List.{list_any}
 use Rattle.value_types.specs.declared.table_name.TableName.{TableName}
 use Rattle.value_types.specs.declared.value.Value.{Value}
 use Rattle.tsql_tree.specs.declared.definition.TableTree.{TableTree}
-use Rattle.bound_tree.specs.declared.write.Bound.{Bound}
 use Rattle.lock_modes.specs.declared.KeyPart.{KeyPart}
 use Rattle.step_model.specs.declared.change.Deed.{Deed}
 use Rattle.step_model.specs.declared.change.Deed.TheVariants as deed
@@ -24,13 +23,12 @@ use Rattle.step_model.specs.Ranges.{Rows, Keeps, range_limit}
 use Rattle.constraint_check.specs.declared.check_read.CheckRead.{CheckRead}
 use Rattle.constraint_check.specs.Reads.{reads_for, shape_of}
 use Rattle.constraint_check.specs.Judged.{judge}
-use Rattle.dml_exec.specs.declared.refusal.Level.{Level}
 use Rattle.dml_exec.specs.declared.refusal.Refusal.{Refusal}
 use Rattle.dml_exec.specs.declared.refusal.Refusal.TheVariants.{Memory}
 use Rattle.dml_exec.specs.declared.written.Attempt.{Attempt}
 use Rattle.dml_exec.specs.declared.written.Written.{Written}
 use Rattle.dml_exec.specs.Asking.{on_ok, ◌>>=◌, with_room, with_room_if}
-use Rattle.dml_exec.specs.Reading.{TableRead, behind_gone, fits, fetch_of, fetches, from, is_short, key_width, reads_on, rows_from, rows_in, table_fetch, reads_table, images_from, images_of, reads_of}
+use Rattle.dml_exec.specs.Reading.{behind_gone, fits, fetch_of, fetches, from, is_short, key_width, reads_on, rows_from, rows_in}
 use Rattle.dml_exec.specs.Writing.{no_room, done_by, asks_deed, writes_one, writes_all, halted, is_one_key, rows_checked, broken_by, checks_one, checks_all, works, ends, marked, attempts, writes}
 use Rattle.dml_exec.proofs.Halts.{by_outcome}
 use Rattle.batch_laws.specs.Committing.{put_by}
@@ -102,18 +100,6 @@ reads_rows : (shape : Option TableTree) (one : Bool) (fetch : Op) → Reads (row
 unfolding rows_in
 reads_rows shape true fetch = reads_bind (fetches (key_width shape) (fits shape) fetch []) (λ came. over (Ok came.0)) (reads_one (key_width shape) (fits shape) fetch []) (λ came stand. refl)
 reads_rows shape false fetch = reads_from (key_width shape) (fits shape) range_limit fetch []
-
-reads_images : (shapes : List TableTree) (level : Level) (images : List Rows) (reads : List TableRead) → Reads (images_from shapes level images reads)
-unfolding images_from reads_table
-reads_images shapes level images [] = λ stand. refl
-reads_images shapes level images (read ∷ reads) = reads_bind (reads_table shapes level read) (λ rows. with_room Memory (images_from shapes level (images ++ rows ∷ []) reads))
-    (reads_rows (shape_of read.0 shapes) false (table_fetch level read))
-    (λ rows. reads_room Memory (images_from shapes level (images ++ rows ∷ []) reads) (reads_images shapes level (images ++ rows ∷ []) reads))
-
--- the images of a statement
-pub images_read : (shapes : List TableTree) (level : Level) (of : Bound) → Reads (images_of shapes level of)
-unfolding images_of
-images_read shapes level of = reads_room Memory (images_from shapes level [] (reads_of of)) (reads_images shapes level [] (reads_of of))
 
 -- ---- checks
 

@@ -1,39 +1,41 @@
 -- Own: what a statement leaves of its transaction and commits, and what it sends, beside what it has asked. One that succeeded in an open
 -- transaction has left its changes behind what that had written; one in a transaction of its own has committed them, as one commit, where
 -- they change anything. One that failed has left the transaction as it was, or its error has ended it.
-use Rattle.std.specs.Prelude.{◌≡◌, ◌⊎◌, ℕ, pos, min, if◌then◌else◌, Bool, true, false, List, [], ◌∷◌, ◌++◌, Result, Ok, Err}
+use Rattle.std.specs.Prelude.{◌≡◌, ◌⊎◌, ℕ, ℤ, pos, min, if◌then◌else◌, Bool, true, false, List, [], ◌∷◌, ◌++◌, Result, Ok, Err}
 use Rattle.std.specs.List.{AllByRecursion}
 use Rattle.tsql_tree.specs.declared.statement.Form.{Form-F}
 use Rattle.tsql_tree.specs.declared.statement.Statement.{Statement}
 use Rattle.binder.specs.Names.{Layer, form_of}
 use Rattle.error_table.specs.declared.action.Action.{Action}
 use Rattle.error_table.specs.declared.action.Action.TheVariants as act
+use Rattle.error_table.specs.Act.{base_caught}
 use Rattle.step_model.specs.declared.change.Change.{Change}
 use Rattle.step_model.specs.declared.change.Planned.{Planned}
-use Rattle.step_model.specs.declared.manner.Manner.{Manner}
 use Rattle.step_model.specs.declared.op.Op.TheVariants.{Rollback}
 use Rattle.step_model.specs.declared.reply.Reply.TheVariants.{Ended}
 use Rattle.step_model.specs.Exchange.{Exchange}
 use Rattle.step_model.specs.Fits.{commit_of, commits_from}
 use Rattle.step_model.specs.Net.{Net}
-use Rattle.step_model.specs.Own.{Progress as Stand, none_open, progress_from}
+use Rattle.step_model.specs.Own.{Progress as Stand, none_open, progress_from, progress_of}
 use Rattle.dml_exec.specs.declared.refusal.Refusal.{Refusal}
 use Rattle.dml_exec.specs.declared.written.Written.{Written}
 use Rattle.dml_exec.specs.declared.written.Written.TheVariants as written
 use Rattle.txn_rules.specs.declared.state.TxnState.{TxnState}
 use Rattle.txn_rules.specs.State.{after_end, is_closed}
+use Rattle.tds_tokens.specs.declared.token.DoneKind.{DoneKind}
 use Rattle.tds_tokens.specs.declared.token.Token.{Token}
 use Rattle.batch_meaning.specs.declared.exit.Exit.{Exit}
-use Rattle.batch_meaning.specs.declared.exit.Exit.TheVariants.{On, Leave, Again, Return, Raise, End}
+use Rattle.batch_meaning.specs.declared.exit.Exit.TheVariants.{On, Leave, Again, Return, Raise, RaiseUp, End}
 use Rattle.batch_meaning.specs.declared.failure.Failure.{Failure}
 use Rattle.batch_meaning.specs.declared.raised.Raised.{Raised}
-use Rattle.batch_meaning.specs.Meaning.{leaves_rows, line_of, or_full, told_tokens}
+use Rattle.batch_meaning.specs.Meaning.{leaves_rows, line_of, or_full, told_tokens, way_of}
 use Rattle.batch_meaning.specs.Progress.{SessionProgress, after_doom, assigns, counts, greatest_count, made}
-use Rattle.batch_meaning.specs.Raised.{Around, action_in, error_token, is_caught_in, raised_at}
-use Rattle.batch_meaning.specs.Selecting.{Effect}
-use Rattle.batch_meaning.specs.Tokens.{command_of, transaction_rolled_back}
+use Rattle.batch_meaning.specs.Raised.{Around, action_in, is_caught_in, raised_in}
+use Rattle.batch_meaning.specs.Selecting.{Effect, no_effect}
+use Rattle.batch_meaning.specs.Tokens.{command_of, done_kind, transaction_rolled_back}
+use Rattle.batch_meaning.specs.Transactions.{unless_own}
 use Rattle.batch_meaning.specs.Values.{Assigned}
-use Rattle.statement_paths.specs.Paths.{HasDone, HasFailed, replied}
+use Rattle.statement_paths.specs.Paths.{HasDone, HasFailed, HasReturned, IsFired, replied}
 
 -- ---- the changes of a write
 
@@ -78,31 +80,44 @@ caught_txn act.Doom txn = after_doom txn
 caught_txn act.Batch txn = txn
 caught_txn act.BatchAndTransaction txn = txn
 
--- An error strikes, by whether it is caught, by what it ends, and by whether a transaction is open: one that is caught is raised and not
--- told, and may doom its transaction; one that ends an open transaction is told, and that is rolled back, and told; any other is told, and
--- leaves its transaction. The state of that is given where the error strikes, and behind it.
-abbrev pub StrikesBy : Manner → Bool → Action → Bool → TxnState → ℕ → Raised → Exit → List Token → List Exchange → TxnState → Type 0
-StrikesBy manner true action is_open txn command raised exit tokens exchanges after = (exit ≡ Raise raised) × (tokens ≡ []) × (exchanges ≡ []) × (after ≡ caught_txn action txn)
-StrikesBy manner false act.BatchAndTransaction true txn command raised exit tokens exchanges after = (exit ≡ End)
-    × ((place : ℕ) × (exchanges ≡ replied manner Rollback (Ended place) ∷ [])) × (tokens ≡ error_token raised ∷ transaction_rolled_back txn.serial ∷ []) × (after ≡ after_end txn)
-StrikesBy manner false action is_open txn command raised exit tokens exchanges after = (exit ≡ exit_behind action) × (tokens ≡ told_tokens action command raised) × (exchanges ≡ []) × (after ≡ txn)
+-- what is told of an error, by whether it is caught
+abbrev pub told_of : DoneKind → Bool → Action → ℕ → Raised → List Token
+told_of kind true action command raised = []
+told_of kind false action command raised = told_tokens kind action command raised
 
--- as it is raised, with its number in @@ERROR
-abbrev pub StrikesAs : Around → SessionProgress → TxnState → Statement → Raised → Exit → List Token → List Exchange → SessionProgress → Type 0
-StrikesAs around p txn statement raised exit tokens exchanges new =
-    StrikesBy p.settings.manner (is_caught_in around raised) (action_in around p.settings.xact_abort raised) p.is_open txn (command_of (form_of statement)) raised exit tokens exchanges new.txn × (new.error ≡ raised.number)
+-- An error strikes, by whether it is caught, by what it ends, and by whether a transaction is open: one that is caught is raised, and may doom its
+-- transaction; one that ends an open transaction is told, and that is rolled back, and told, unless it is a statement's own; any other is told, and
+-- leaves its transaction. What is told first is given, and the state of the transaction behind it.
+abbrev pub StrikesBy : SessionProgress → Bool → Action → Bool → List Token → Raised → Exit → List Token → List Exchange → TxnState → Type 0
+StrikesBy p true action is_open told raised exit tokens exchanges after = (exit ≡ way_of (base_caught raised.number raised.by) raised) × (tokens ≡ told) × (exchanges ≡ []) × (after ≡ caught_txn action p.txn)
+StrikesBy p false act.BatchAndTransaction true told raised exit tokens exchanges after = (exit ≡ End)
+    × ((place : ℕ) × (exchanges ≡ replied p.settings.manner Rollback (Ended place) ∷ [])) × (tokens ≡ told ++ unless_own p.is_own (transaction_rolled_back p.txn.serial)) × (after ≡ after_end p.txn)
+StrikesBy p false action is_open told raised exit tokens exchanges after = (exit ≡ exit_behind action) × (tokens ≡ told) × (exchanges ≡ []) × (after ≡ p.txn)
+
+-- with its number in @@ERROR; this is its session where it strikes
+abbrev pub StrikesWith : Around → SessionProgress → List Token → Raised → Exit → List Token → List Exchange → SessionProgress → Type 0
+StrikesWith around p told raised exit tokens exchanges new =
+    StrikesBy p (is_caught_in around raised) (action_in around p.settings.xact_abort raised) p.is_open told raised exit tokens exchanges new.txn × (new.error ≡ raised.number)
+
+-- as it is raised
+abbrev pub StrikesAs : Around → SessionProgress → ℕ → Raised → Exit → List Token → List Exchange → SessionProgress → Type 0
+StrikesAs around p command raised exit tokens exchanges new =
+    StrikesWith around p (told_of (done_kind around) (is_caught_in around raised) (action_in around p.settings.xact_abort raised) command raised) raised exit tokens exchanges new
 
 -- where it is not caught, and the batch may send too little to tell it, it is one that says so
-abbrev pub Strikes : Around → SessionProgress → TxnState → Statement → Raised → Exit → List Token → List Exchange → SessionProgress → Type 0
-Strikes around p txn statement raised exit tokens exchanges new =
-    StrikesAs around p txn statement (or_full around p (command_of (form_of statement)) (line_of statement) raised) exit tokens exchanges new
+abbrev pub StrikesAt : Around → SessionProgress → ℕ → ℤ → Raised → Exit → List Token → List Exchange → SessionProgress → Type 0
+StrikesAt around p command line raised exit tokens exchanges new = StrikesAs around p command (or_full around p command line raised) exit tokens exchanges new
+
+-- of a statement
+abbrev pub Strikes : Around → SessionProgress → Statement → Raised → Exit → List Token → List Exchange → SessionProgress → Type 0
+Strikes around p statement raised exit tokens exchanges new = StrikesAt around p (command_of (form_of statement)) (line_of statement) raised exit tokens exchanges new
 
 -- ---- a statement that is done with its effect
 
--- RETURN leaves the batch
-abbrev pub exit_for : Layer → Exit
-exit_for (Form-F.Return value) = Return
-exit_for form = On
+-- what a statement has done that succeeded, by its form, and how it goes on: RETURN leaves its batch, procedure or trigger, with its status
+abbrev pub DoneBy : Layer → Around → SessionProgress → Statement → Exit → List Planned → Effect → List Exchange → Type 0
+DoneBy (Form-F.Return value) around p statement exit planned effect exchanges = (status : ℤ) × HasReturned around p statement status exchanges × (exit ≡ Return status) × (planned ≡ []) × (effect ≡ no_effect)
+DoneBy form around p statement exit planned effect exchanges = HasDone around p statement planned effect exchanges × (exit ≡ On)
 
 -- the session behind assignments, one after another
 abbrev pub assigned_all : List Assigned → SessionProgress → SessionProgress
@@ -123,23 +138,31 @@ pub record IsWithin (p : SessionProgress) (txn : TxnState) : Type 0 where
   pub serial : txn.serial ≡ p.txn.serial
   pub opened : p.is_open ≡ true → txn ≡ record p.txn { saves = txn.saves }
 
+-- A session behind the work of a statement that failed: the same transaction is open, or none; it is set as it was, and may send as much.
+pub record IsBehind (p struck : SessionProgress) : Type 0 where
+  pub within : IsWithin p struck.txn
+  pub is_open : struck.is_open ≡ p.is_open
+  pub is_own : p.is_open ≡ true → struck.is_own ≡ p.is_own
+  pub settings : struck.settings ≡ p.settings
+  pub bytes : struck.bytes_left ≡ p.bytes_left
+
 -- it succeeded: it has done its work, sent what that came to, set @@ROWCOUNT and @@ERROR, and assigned variables
 abbrev pub Succeeds : Around → SessionProgress → Statement → Exit → List Token → List Planned → List Exchange → SessionProgress → Type 0
-Succeeds around p statement exit tokens planned exchanges new = (exit ≡ exit_for (form_of statement)) × ((effect : Effect) × HasDone around p statement planned effect exchanges × (tokens ≡ effect.tokens)
-    × (new.row_count ≡ rows_behind (form_of statement) effect.rows p.row_count) × (new.error ≡ pos 0) × (new.vars ≡ (assigned_all effect.sets p).vars) × IsWithin p new.txn)
+Succeeds around p statement exit tokens planned exchanges new = (effect : Effect) × DoneBy (form_of statement) around p statement exit planned effect exchanges × (tokens ≡ effect.tokens)
+    × (new.row_count ≡ rows_behind (form_of statement) effect.rows p.row_count) × (new.error ≡ pos 0) × (new.vars ≡ (assigned_all effect.sets p).vars) × IsWithin p new.txn
 
 -- it failed, and its error struck
 abbrev pub Fails : Around → SessionProgress → Statement → Exit → List Token → List Exchange → SessionProgress → Type 0
-Fails around p statement exit tokens exchanges new = (failure : Failure) × (work behind : List Exchange) × (struck : TxnState) × (exchanges ≡ work ++ behind)
-    × HasFailed p statement work × IsWithin p struck × Strikes around p struck statement (raised_at (line_of statement) failure) exit tokens behind new
+Fails around p statement exit tokens exchanges new = (failure : Failure) × (work behind : List Exchange) × (struck : SessionProgress) × (exchanges ≡ work ++ behind)
+    × HasFailed around p statement work × IsBehind p struck × Strikes around struck statement (raised_in around.procedure (line_of statement) failure) exit tokens behind new
 
 -- what it planned stays where it succeeded
 abbrev pub Ends : Around → SessionProgress → Statement → Exit → List Token → List Planned → List Exchange → SessionProgress → Type 0
 Ends around p statement exit tokens planned exchanges new = Succeeds around p statement exit tokens planned exchanges new ⊎ ((planned ≡ []) × Fails around p statement exit tokens exchanges new)
 
--- The forms of statements that are done with their effect: SELECT, INSERT, UPDATE, DELETE, CREATE TABLE, DROP, DECLARE, SET of a variable and
--- RETURN; and EXEC, which is not built. The others hold statements, begin or end transactions, set options, change cursors, or raise errors
--- and send messages of their own.
+-- The forms of statements that are done with their effect: SELECT, CREATE TABLE, DROP, DECLARE, SET of a variable and RETURN; and INSERT, UPDATE and
+-- DELETE, where no trigger is fired. The others hold statements or run a procedure, begin or end transactions, set options, change cursors, or raise
+-- errors and send messages of their own.
 abbrev pub is_plain : Layer → Bool
 is_plain (Form-F.If test so otherwise) = false
 is_plain (Form-F.While test body) = false
@@ -152,6 +175,7 @@ is_plain (Form-F.RaiseError value class state) = false
 is_plain (Form-F.Throw number value state) = false
 is_plain Form-F.ThrowAgain = false
 is_plain (Form-F.SetOption option) = false
+is_plain (Form-F.Execute status name arguments) = false
 is_plain (Form-F.BeginTransaction name) = false
 is_plain (Form-F.Commit name) = false
 is_plain (Form-F.Rollback name) = false
@@ -165,6 +189,12 @@ is_plain form = true
 
 abbrev pub ArePlain : List Statement → Type 0
 ArePlain statements = AllByRecursion (λ statement. is_plain (form_of statement) ≡ true) statements
+
+-- ---- triggers
+
+-- a write has changed something and fires triggers, which run next
+abbrev pub Fires : Around → SessionProgress → Statement → List Exchange → Type 0
+Fires around p statement exchanges = IsFired around p statement (λ home done mid behind. Unit {0}) exchanges
 
 -- ---- what stays of a session
 
@@ -189,8 +219,9 @@ abbrev pub IfOn : Exit → Type 0 → Type 0 → Type 0
 IfOn On Goes Stops = Goes
 IfOn Leave Goes Stops = Stops
 IfOn Again Goes Stops = Stops
-IfOn Return Goes Stops = Stops
+IfOn (Return status) Goes Stops = Stops
 IfOn (Raise raised) Goes Stops = Stops
+IfOn (RaiseUp raised) Goes Stops = Stops
 IfOn End Goes Stops = Stops
 
 -- Each of these did this, from where the one before it had left its session, until one left the others.
@@ -209,7 +240,8 @@ Runs around (statement ∷ others) p exit tokens commits exchanges new = (came :
 
 -- One that was left in the middle, where no transaction was open, has committed nothing, or done all its work.
 abbrev pub LeftAt : Around → SessionProgress → Statement → Commits → List Exchange → Type 0
-LeftAt around p statement commits exchanges = (commits ≡ []) ⊎ ((planned : List Planned) × (effect : Effect) × HasDone around p statement planned effect exchanges × (commits ≡ commit_of (Net planned)))
+LeftAt around p statement commits exchanges =
+    (commits ≡ []) ⊎ ((exit : Exit) × (planned : List Planned) × (effect : Effect) × DoneBy (form_of statement) around p statement exit planned effect exchanges × (commits ≡ commit_of (Net planned)))
 
 -- Plain statements one after another, up to the one that was left.
 abbrev pub LeftRuns : Around → List Statement → SessionProgress → Commits → List Exchange → Type 0
@@ -217,3 +249,20 @@ LeftRuns around [] p commits exchanges = (commits ≡ []) × (exchanges ≡ [])
 LeftRuns around (statement ∷ others) p commits exchanges = LeftAt around (made counts p) statement commits exchanges
     ⊎ ((came : Exit) × (mid : SessionProgress) × (sent : List Token) × (planned : List Planned) × (rest : Commits) × (front back : List Exchange)
     × (commits ≡ commit_of (Net planned) ++ rest) × (exchanges ≡ front ++ back) × Ends around (made counts p) statement came sent planned front mid × Stays p mid × IsIdle mid × IfOn came (LeftRuns around others mid rest back) ((rest ≡ []) × (back ≡ [])))
+
+-- One of these statements, which began where no transaction was open, has fired triggers.
+pub record FiresAmong (around : Around) (statements : List Statement) (exchanges : List Exchange) : Type 0 where
+  pub ahead : List Statement
+  pub statement : Statement
+  pub others : List Statement
+  pub among : statements ≡ ahead ++ statement ∷ others
+  pub earlier : List Exchange
+  pub path : List Exchange
+  pub parts : exchanges ≡ earlier ++ path
+  pub none : progress_of earlier ≡ none_open
+  pub old : SessionProgress
+  pub idle : IsIdle old
+  pub fires : Fires around old statement path
+
+abbrev pub NoneFires : Around → List Statement → List Exchange → Type 0
+NoneFires around statements exchanges = FiresAmong around statements exchanges → ⊥

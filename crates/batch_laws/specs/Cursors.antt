@@ -52,10 +52,10 @@ CloseMoves = (statement : Statement) (name : List ℕ) → Moves (λ old. Steps 
 abbrev pub RemoveMoves : Type 0
 RemoveMoves = (statement : Statement) (name : List ℕ) → Moves (λ old. Steps old (removes name) (remove_answer name old.cursors)) (removes_cursor statement name)
 
--- of the session only the cursors are others behind OPEN, where it succeeded; and what is asked of the port
+-- of the session only the cursors are others behind OPEN, where it succeeded; and what the port's replies make of it
 abbrev pub OpenKeeps : SessionProgress → Result Effect Failure → SessionProgress → Type 0
-OpenKeeps old (Ok effect) new = new ≡ record old { cursors = new.cursors; is_open = new.is_open; touched = new.touched; txn = new.txn }
-OpenKeeps old (Err failure) new = new ≡ record old { is_open = new.is_open; touched = new.touched; txn = new.txn }
+OpenKeeps old (Ok effect) new = new ≡ record old { cursors = new.cursors; is_open = new.is_open; is_own = new.is_own; stands = new.stands; touched = new.touched; txn = new.txn }
+OpenKeeps old (Err failure) new = new ≡ record old { is_open = new.is_open; is_own = new.is_own; stands = new.stands; touched = new.touched; txn = new.txn }
 
 abbrev pub OpenMoves : Type 0
 OpenMoves = (around : Around) (statement : Statement) (name : List ℕ) (old new : SessionProgress) (exchanges : List Exchange) (came : Result Effect Failure) → Held (opens_cursor around statement name) old exchanges came new → OpenKeeps old came new

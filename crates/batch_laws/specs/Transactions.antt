@@ -17,7 +17,7 @@ use Rattle.batch_meaning.specs.Doing.{Held}
 use Rattle.batch_meaning.specs.Progress.{SessionProgress, asked, closes_one, made, opens, saves}
 use Rattle.batch_meaning.specs.Selecting.{Effect, no_effect, sending}
 use Rattle.batch_meaning.specs.Tokens.{transaction_begun, transaction_committed, transaction_rolled_back}
-use Rattle.batch_meaning.specs.Transactions.{begins_transaction, commits_transaction, next_serial, nothing_open, rolls_back_transaction, saves_transaction}
+use Rattle.batch_meaning.specs.Transactions.{begins_transaction, commits_transaction, next_serial, nothing_open, rolls_back_transaction, saves_transaction, unless_own}
 use Rattle.statement_paths.specs.Paths.{replied}
 use Rattle.batch_laws.specs.Committing.{Agrees}
 
@@ -32,16 +32,16 @@ module _ (p : SessionProgress) where
   Begins name false (Ok effect) exchanges new = (exchanges ≡ replied p.settings.manner ops.Begin replies.Began ∷ []) × (effect ≡ sending (transaction_begun (next_serial p.txn) ∷ [])) × (new ≡ made (opens name) (asked ops.Begin replies.Began p))
   Begins name is_open (Err failure) exchanges new = IsRefused exchanges new ⊎ ((is_open ≡ false) × (exchanges ≡ replied p.settings.manner ops.Begin replies.Memory ∷ []) × (new ≡ asked ops.Begin replies.Memory p))
 
-  -- COMMIT, by its answer: the outermost commits, and an inner one is counted
+  -- COMMIT, by its answer: the outermost commits, which is told unless the transaction is a statement's own, and an inner one is counted
   abbrev pub Closes : Result Bool ℤ → Result Effect Failure → List Exchange → SessionProgress → Type 0
-  Closes (Ok true) (Ok effect) exchanges new = (effect ≡ sending (transaction_committed p.txn.serial ∷ [])) × ((place : ℕ) × (exchanges ≡ replied p.settings.manner ops.Commit (replies.Ended place) ∷ []) × (new ≡ asked ops.Commit (replies.Ended place) p))
+  Closes (Ok true) (Ok effect) exchanges new = (effect ≡ sending (unless_own p.is_own (transaction_committed p.txn.serial))) × ((place : ℕ) × (exchanges ≡ replied p.settings.manner ops.Commit (replies.Ended place) ∷ []) × (new ≡ asked ops.Commit (replies.Ended place) p))
   Closes (Ok false) (Ok effect) exchanges new = (exchanges ≡ []) × (effect ≡ no_effect) × (new ≡ made closes_one p)
   Closes (Err number) (Ok effect) exchanges new = ⊥
   Closes answer (Err failure) exchanges new = IsRefused exchanges new
 
   -- ROLLBACK, by its answer: the whole of a transaction, or what is behind a mark
   abbrev pub RollsBack : Result BackKind ℤ → Result Effect Failure → List Exchange → SessionProgress → Type 0
-  RollsBack (Ok Whole) (Ok effect) exchanges new = (effect ≡ sending (transaction_rolled_back p.txn.serial ∷ [])) × ((place : ℕ) × (exchanges ≡ replied p.settings.manner ops.Rollback (replies.Ended place) ∷ []) × (new ≡ asked ops.Rollback (replies.Ended place) p))
+  RollsBack (Ok Whole) (Ok effect) exchanges new = (effect ≡ sending (unless_own p.is_own (transaction_rolled_back p.txn.serial))) × ((place : ℕ) × (exchanges ≡ replied p.settings.manner ops.Rollback (replies.Ended place) ∷ []) × (new ≡ asked ops.Rollback (replies.Ended place) p))
   RollsBack (Ok (Mark mark)) (Ok effect) exchanges new = (exchanges ≡ replied p.settings.manner (ops.BackTo mark) replies.Done ∷ []) × (effect ≡ no_effect) × (new ≡ asked (ops.BackTo mark) replies.Done p)
   RollsBack (Err number) (Ok effect) exchanges new = ⊥
   RollsBack answer (Err failure) exchanges new = IsRefused exchanges new

@@ -1,6 +1,7 @@
 //! Laws of statements and batches: what they leave of their transaction and commit, and what they send. A statement that succeeded in an
 //! open transaction has left its changes behind what that had written; one in a transaction of its own has committed them, as one
-//! commit. One that failed has left its transaction as it was, or its error has ended it.
+//! commit. One that failed has left its transaction as it was, or its error has ended it. EXEC, and a write that fires triggers, do what the
+//! statements do that they run.
 //!
 //! Read `specs/Committing.antt` first, then `specs/Laws.antt` and the others in the order of `specs/Lib.antt`; what a statement has
 //! asked is in `statement_paths`. The functions do nothing: each one's contract is a law of the trees of `batch_meaning` and of the dialogs of
@@ -8,12 +9,12 @@
 //! mean. That the commits of exchanges are those in the log is no part of it (`commits_once` of `step_model`).
 #![tactic(auto)]
 
-ghost use Rattle.std.specs.Prelude.{Bool};
+ghost use Rattle.std.specs.Prelude.{Bool, ℤ};
 ghost use Rattle.batch_meaning.specs.declared.raised.Raised.{Raised};
 ghost use Rattle.batch_meaning.specs.Selecting.{Effect};
 ghost use Rattle.batch_laws.specs.Control.{DoomedStrikes, FormControls, NamedDoes, SpentStrikes};
 ghost use Rattle.batch_laws.specs.Cursors.{CloseMoves, DeclareMoves, FetchMoves, OpenLeaves, OpenMoves, RemoveMoves};
-ghost use Rattle.batch_laws.specs.Laws.{BatchCommits, BatchRuns, EachInTurn, EffectTells, ErrorStrikes, FailureLeaves, LeftRun, MessageLeaves, PlainEnds, PlainRun, RefusedEnds, StatementEnds, TestLeaves, UnbuiltEnds, WorkLeaves, WorkTells, WritesWhole};
+ghost use Rattle.batch_laws.specs.Laws.{BatchCommits, BatchRuns, DefinesEnds, DefinitionRuns, EachInTurn, EffectTells, ErrorStrikes, FailureLeaves, LeftRun, MessageLeaves, PlainEnds, PlainRun, RefusedEnds, StatementEnds, StatusLeaves, TestLeaves, WorkLeaves, WorkTells, WriteLeaves, WritesWhole};
 ghost use Rattle.batch_laws.specs.Settled.{BatchSettles, StatementSettles, SteadyIdle};
 ghost use Rattle.batch_laws.specs.Transactions.{BeginLeaves, CommitLeaves, RollbackLeaves, SaveLeaves};
 
@@ -25,17 +26,20 @@ pub fn law_writes()
 {}
 
 /// The work of a statement that succeeded leaves its changes in the open transaction, or they are committed in its own; where
-/// it failed, the transaction is as it was.
-#[tactic(auto, using(crate::proofs::Statements::work_leaves, crate::proofs::Statements::failure_leaves))]
+/// it failed, the transaction is as it was. So it is of a write that fires no triggers; one that does has its changes in an open
+/// transaction where these begin to run, and has committed nothing.
+#[tactic(auto, using(crate::proofs::Statements::work_leaves, crate::proofs::Statements::failure_leaves, crate::proofs::Writing::write_leaves))]
 pub fn law_work()
     ensures done { WorkLeaves }
     ensures failed { FailureLeaves }
+    ensures write { WriteLeaves }
 {}
 
 /// A statement that is done with its effect has done its work, sent what that came to and left its changes; or it has
 /// failed, its error has struck, and the transaction is as it was, or rolled back. What is assigned and counted is told of its
-/// session, and so is the state of its transaction; all that SET has set stays, and so do its cursors.
-#[tactic(auto, using(crate::proofs::Ending::statement_ends, crate::proofs::Turns::plain_ends))]
+/// session, and so is the state of its transaction; all that SET has set stays, and so do its cursors. Or it is a write, and has
+/// fired triggers: then `law_forms` says what it does.
+#[tactic(auto, using(crate::proofs::Turns::statement_ends, crate::proofs::Turns::plain_ends))]
 pub fn law_statement()
     ensures ends { StatementEnds }
     ensures begun { PlainEnds }
@@ -49,15 +53,17 @@ pub fn law_told()
     ensures works { WorkTells Effect }
     ensures tests { WorkTells Bool }
     ensures messages { WorkTells Raised }
+    ensures statuses { WorkTells ℤ }
     ensures effect { EffectTells }
     ensures errors { ErrorStrikes }
 {}
 
-/// A test and a message only read, and leave their transaction as it was.
-#[tactic(auto, using(crate::proofs::Telling::test_leaves, crate::proofs::Telling::message_leaves))]
+/// A test, a message and the status of RETURN only read, and leave their transaction as it was.
+#[tactic(auto, using(crate::proofs::Telling::test_leaves, crate::proofs::Telling::message_leaves, crate::proofs::Telling::status_leaves))]
 pub fn law_read()
     ensures tests { TestLeaves }
     ensures messages { MessageLeaves }
+    ensures statuses { StatusLeaves }
 {}
 
 /// BEGIN TRANSACTION, SAVE TRANSACTION and ROLLBACK commit nothing; the first two leave what the transaction has, and the last
@@ -85,8 +91,9 @@ pub fn law_cursors()
 
 /// A statement that may begin, and is not refused since its transaction is doomed, does what its form says: one on transactions
 /// or cursors its own work; IF the statement that its test says, WHILE its body and then the same again, TRY its statements and,
-/// where an error of theirs was caught, those of CATCH, and a block its statements; PRINT, RAISERROR and THROW send their message,
-/// or it strikes, and SET sets. Of one that may not begin, or is refused, an error strikes at once.
+/// where an error of theirs was caught, those of CATCH, and a block its statements; EXEC the statements of its procedure, and a write
+/// those of the triggers that it fires; PRINT, RAISERROR and THROW send their message, or it strikes, and SET sets. Of one that may
+/// not begin, or is refused, an error strikes at once.
 #[tactic(auto, using(crate::proofs::Control::named_does, crate::proofs::Control::form_controls, crate::proofs::Control::spent_strikes, crate::proofs::Control::doomed_strikes))]
 pub fn law_forms()
     ensures works { NamedDoes }
@@ -102,22 +109,30 @@ pub fn law_turns()
     ensures { EachInTurn }
 {}
 
-/// Plain statements, and a batch of them, that begin where no transaction is open have sent and committed what each has, one
-/// after another; a batch then its end. No transaction is open behind them.
+/// Plain statements, and a batch of them, that begin where no transaction is open and fire no triggers have sent and committed what
+/// each has, one after another; a batch then its end. No transaction is open behind them.
 #[tactic(auto, using(crate::proofs::Batches::plain_run, crate::proofs::Batches::batch_runs))]
 pub fn law_batch()
     ensures statements { PlainRun }
     ensures batch { BatchRuns }
 {}
 
-/// A batch whose text is refused, or not built, asks nothing: its error is told, and its end.
-#[tactic(auto, using(crate::proofs::Batches::refused_ends, crate::proofs::Batches::unbuilt_ends))]
+/// A batch whose text is refused asks nothing: its error is told, and its end.
+#[tactic(auto, using(crate::proofs::Batches::refused_ends))]
 pub fn law_refused()
-    ensures refused { RefusedEnds }
-    ensures unbuilt { UnbuiltEnds }
+    ensures { RefusedEnds }
 {}
 
-/// A batch of plain statements that was left in the middle, for want of memory, has committed whole statements alone.
+/// A batch that defines a procedure or a trigger puts the definition in the open transaction, or in one of its own, and tells
+/// nothing; or that is refused or fails, its error strikes, and the transaction is as it was, or rolled back.
+#[tactic(auto, using(crate::proofs::Defining::defines_ends, crate::proofs::Defining::definition_runs))]
+pub fn law_defines()
+    ensures object { DefinesEnds }
+    ensures batch { DefinitionRuns }
+{}
+
+/// A batch of plain statements that fire no triggers and that was left in the middle, for want of memory, has committed whole statements
+/// alone.
 #[tactic(auto, using(crate::proofs::Lefts::left_run))]
 pub fn law_left()
     ensures { LeftRun }

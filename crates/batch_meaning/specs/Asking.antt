@@ -26,7 +26,7 @@ use Rattle.dml_exec.specs.declared.refusal.Refusal.{Refusal}
 use Rattle.dml_exec.specs.declared.refusal.Refusal.TheVariants as refusal
 use Rattle.dml_exec.specs.declared.written.Written.{Written}
 use Rattle.dml_exec.specs.declared.written.Written.TheVariants as written
-use Rattle.dml_exec.specs.Reading.{behind_gone, images_of}
+use Rattle.dml_exec.specs.Reading.{GivenRows, behind_gone, fetches_any, images_of}
 use Rattle.dml_exec.specs.Writing.{attempts}
 use Rattle.tds_tokens.specs.declared.token.Token.{Token}
 use Rattle.batch_meaning.specs.declared.failure.Failure.{Failure}
@@ -112,12 +112,21 @@ abbrev pub with_found : List Definition → Option Definition → List Definitio
 with_found definitions None = definitions
 with_found definitions (Some definition) = definitions ++ definition ∷ []
 
+-- the names that are not looked up, each with what it stands for: one thing or nothing
+abbrev pub KnownNames : Type 0
+KnownNames = List ℕ → Option (Option Definition)
+
+-- what a name stands for, which is looked up where it is not known
+abbrev pub finds_by : Option (Option Definition) → List ℕ → Doing (Result (Option Definition) Failure)
+finds_by None name = look_up name
+finds_by (Some found) name = with_room (over (Ok found))
+
 -- names are looked up one after another, behind these definitions; the first that is no table's is the last
-unfoldable pub looks_up : List Definition → List (List ℕ) → Doing (Result (List Definition) Failure)
-looks_up definitions [] = over (Ok definitions)
-looks_up definitions (name ∷ names) = do
-  found ← look_up name
-  if is_table found then with_room (looks_up (with_found definitions found) names) else over (Ok definitions)
+unfoldable pub looks_up : KnownNames → List Definition → List (List ℕ) → Doing (Result (List Definition) Failure)
+looks_up known_names definitions [] = over (Ok definitions)
+looks_up known_names definitions (name ∷ names) = do
+  found ← finds_by (known_names name) name
+  if is_table found then with_room (looks_up known_names (with_found definitions found) names) else over (Ok definitions)
 
 -- ---- all definitions
 
@@ -194,19 +203,24 @@ abbrev pub unless_stopped : {A : Type 0} → Result A Refusal → Doing (Result 
 unless_stopped (Ok a) = over (Ok a)
 unless_stopped (Err why) = fails (number_of why)
 
-abbrev pub unless_broken : Result Written Refusal → Doing (Result (Unit {0}) Failure)
-unless_broken (Ok (written.Done mark)) = over (Ok tt)
+-- a write that is done gives its statement's mark
+abbrev pub unless_broken : Result Written Refusal → Doing (Result ℕ Failure)
+unless_broken (Ok (written.Done mark)) = over (Ok mark)
 unless_broken (Ok (written.Refused number name)) = over (Err (record { number = number; name = Some name }))
 unless_broken (Err why) = fails (number_of why)
 
--- the tables that a statement reads, at the session's level or at another one; where it names none, nothing is read
-unfoldable pub reads_at : Level → List TableTree → Bound → Doing (Result (List Rows) Failure)
-reads_at level [] of = over (Ok [])
-reads_at level (shape ∷ shapes) of = holds (images_of (shape ∷ shapes) level of) unless_stopped
+abbrev pub touches_if : {A : Type 0} → Bool → Doing A → Doing A
+touches_if true tree = makes touches tree
+touches_if false tree = tree
 
-unfoldable pub reads_images : List TableTree → Bound → Doing (Result (List Rows) Failure)
-reads_images shapes of = reads λ p. reads_at p.settings.level shapes of
+-- the tables that a statement reads, at the session's level or at another one; where it names none, nothing is read
+unfoldable pub reads_at : GivenRows → Level → List TableTree → Bound → Doing (Result (List Rows) Failure)
+reads_at given level [] of = over (Ok [])
+reads_at given level (shape ∷ shapes) of = touches_if (fetches_any given of) (images_of given (shape ∷ shapes) level of gives unless_stopped)
+
+unfoldable pub reads_images : GivenRows → List TableTree → Bound → Doing (Result (List Rows) Failure)
+reads_images given shapes of = reads λ p. reads_at given p.settings.level shapes of
 
 -- changes are asked, and checked by these shapes
-unfoldable pub applies : List TableTree → List Planned → Doing (Result (Unit {0}) Failure)
+unfoldable pub applies : List TableTree → List Planned → Doing (Result ℕ Failure)
 applies shapes changes = holds (attempts shapes changes) (λ attempt. unless_broken attempt.came)

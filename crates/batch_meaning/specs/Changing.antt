@@ -1,8 +1,12 @@
--- Own: what a write comes to, apart from what is asked for it: its changes, and how many rows it tells. And what CREATE TABLE and DROP
--- TABLE change: a definition is a row of `objects`.
-use Rattle.std.specs.Prelude.{ℕ, ◌&&◌, Bool, not, if◌then◌else◌, List, [], ◌∷◌, ◌++◌, Option, Some, None, Result, Ok, Err}
+-- Own: what a write comes to, apart from what is asked for it: its changes, and how many rows it tells. And what CREATE and DROP change: a
+-- definition is a row of `objects`.
+use Rattle.std.specs.Prelude.{ℕ, ◌-◌, ◌&&◌, Bool, not, if◌then◌else◌, List, [], ◌∷◌, ◌++◌, filter_map, get_or, length, map, Option, Some, None, Result, Ok, Err}
 use Rattle.std.specs.List.{list_any}
 use Rattle.value_types.specs.Units.{same_units}
+use Rattle.tsql_tree.specs.declared.definition.Definition.{Definition}
+use Rattle.tsql_tree.specs.declared.definition.Definition.TheVariants.{Trigger}
+use Rattle.tsql_tree.specs.declared.definition.Event.{Event}
+use Rattle.tsql_tree.specs.declared.definition.Event.TheVariants as event
 use Rattle.tsql_tree.specs.declared.definition.TableTree.{TableTree}
 use Rattle.bound_tree.specs.declared.expr.BoundTest.{BoundTest}
 use Rattle.bound_tree.specs.declared.write.BoundWrite.{BoundWrite}
@@ -16,6 +20,7 @@ use Rattle.step_model.specs.declared.op.Op.TheVariants.{Insert}
 use Rattle.step_model.specs.Ranges.{Rows, no_memory}
 use Rattle.constraint_check.specs.Reads.{rows_table, shape_of}
 use Rattle.dml_exec.specs.Planning.{Plan, Chg, erased_at, rows_told, table_written}
+use Rattle.tds_tokens.specs.declared.token.DoneKind.{DoneKind}
 use Rattle.tds_tokens.specs.Numbers.{command_insert, command_delete, command_update}
 use Rattle.batch_meaning.specs.declared.failure.Failure.{Failure}
 use Rattle.batch_meaning.specs.Raised.{Around}
@@ -58,10 +63,22 @@ write_command (write.Update table sets filter inner) = command_update
 write_command (write.Delete table filter inner) = command_delete
 
 -- what a write tells: how many rows
-abbrev pub told_by : Bool → BoundWrite → List Planned → Effect
-told_by no_count of changes = record { sets = []; rows = rows_told of changes; tokens = statement_done no_count (write_command of) (rows_told of changes) ∷ [] }
+abbrev pub told_by : DoneKind → Bool → BoundWrite → List Planned → Effect
+told_by kind no_count of changes = record { sets = []; rows = rows_told of changes; tokens = statement_done kind no_count (write_command of) (rows_told of changes) ∷ [] }
 
--- ---- CREATE TABLE
+-- the event that a write is
+abbrev pub event_of : BoundWrite → Event
+event_of (write.Insert table places given) = event.Insert
+event_of (write.Update table sets filter inner) = event.Update
+event_of (write.Delete table filter inner) = event.Delete
+
+-- the rows that a write's target had when it was read; an INSERT reads none of it
+abbrev pub target_rows : BoundWrite → List Rows → Rows
+target_rows (write.Insert table places given) images = []
+target_rows (write.Update table sets filter inner) images = get_or images (length images - 1) []
+target_rows (write.Delete table filter inner) images = get_or images (length images - 1) []
+
+-- ---- CREATE
 
 abbrev pub object_present : ℕ
 object_present = 2714
@@ -70,9 +87,9 @@ object_present = 2714
 abbrev pub created : List ℕ → List ℕ → Op
 created name text = Insert (rows_table objects_name) (object_key name) (row_of name text)
 
--- ---- DROP TABLE
+-- ---- DROP
 
--- no table of that name is there
+-- nothing of that kind and name is there
 abbrev pub not_there : ℕ
 not_there = 3701
 
@@ -94,13 +111,25 @@ unless_referred name tables = if is_referred name tables then Err (naming is_par
 abbrev pub whole : List ℕ → BoundWrite
 whole name = write.Delete (rows_table name) None []
 
--- and behind them its definition
-abbrev pub with_definition : List ℕ → List Planned → List Planned
-with_definition name changes = changes ++ erased_at (rows_table objects_name) (object_key name) ∷ []
+-- a definition is erased
+abbrev pub definition_erased : List ℕ → Planned
+definition_erased name = erased_at (rows_table objects_name) (object_key name)
 
-abbrev pub dropped_as : List ℕ → Result (List Planned) Failure → Result (List Planned) Failure
-dropped_as name (Ok changes) = Ok (with_definition name changes)
-dropped_as name (Err failure) = Err failure
+-- the names of the triggers of a table, which go with it
+abbrev pub trigger_of : List ℕ → Definition → Option (List ℕ)
+trigger_of table (Trigger trigger) = if same_units trigger.table table then Some trigger.name else None
+trigger_of table other = None
 
-abbrev pub dropped : Around → SessionProgress → TableTree → List ℕ → List Rows → Result (List Planned) Failure
-dropped around p shape name images = dropped_as name (planned_as (Chg (values_of p.vars) (system_in around p) shape [] (whole name) images))
+abbrev pub triggers_of : List ℕ → List Definition → List (List ℕ)
+triggers_of table definitions = filter_map (trigger_of table) definitions
+
+-- and behind its rows its triggers, and its own definition
+abbrev pub with_definitions : List Definition → List ℕ → List Planned → List Planned
+with_definitions definitions name changes = changes ++ (map definition_erased (triggers_of name definitions) ++ definition_erased name ∷ [])
+
+abbrev pub dropped_as : List Definition → List ℕ → Result (List Planned) Failure → Result (List Planned) Failure
+dropped_as definitions name (Ok changes) = Ok (with_definitions definitions name changes)
+dropped_as definitions name (Err failure) = Err failure
+
+abbrev pub dropped : Around → SessionProgress → List Definition → TableTree → List ℕ → List Rows → Result (List Planned) Failure
+dropped around p definitions shape name images = dropped_as definitions name (planned_as (Chg (values_of p.vars) (system_in around p) shape [] (whole name) images))

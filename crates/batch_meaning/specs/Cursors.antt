@@ -86,7 +86,7 @@ module _ (around : Around) where
 
   -- one that is open already is not answered again
   abbrev pub opens_kept : Statement → List ℕ → SessionProgress → Select → Doing (Result Effect Failure)
-  opens_kept statement name p select = answered name (λ done. within (select_statement statement select) (opens_bound name)) (fill_answer name p.cursors)
+  opens_kept statement name p select = answered name (λ done. within around (select_statement statement select) (opens_bound name)) (fill_answer name p.cursors)
 
   unfoldable pub opens_cursor : Statement → List ℕ → Doing (Result Effect Failure)
   opens_cursor statement name = bound_first statement λ p. answered name (opens_kept statement name p) (query_of name p.cursors)

@@ -10,7 +10,10 @@ pub mod Values  -- raiserror_of, rows_assigned: what a statement makes of the va
 pub mod Selecting  -- result_of: what a query comes to, apart from what is asked for it
 pub mod Changing  -- planned_over: what a write comes to, apart from what is asked for it
 pub mod Asking  -- looks_up, reads_images, applies: what the parts of a statement ask
-pub mod Working  -- works_form: what a statement that reads or writes tables asks, and what comes of it
+pub mod Working  -- within, works: what a statement that reads tables asks, and what comes of it
+pub mod Writes  -- changes, drops, creates_definition: what a statement that changes something asks, up to where its triggers run
 pub mod Transactions  -- begins_transaction: what the statements on transactions ask
 pub mod Cursors  -- opens_cursor: what the statements on cursors ask, and what comes of them
+pub mod Calls  -- finds_call, given_back: what a call runs, and what it gives back
+pub mod Firing  -- leaves_fired: what becomes of a write by how its triggers end
 pub mod Meaning  -- batch: what statements ask, what they end, and what comes of the replies

@@ -1,34 +1,49 @@
 -- Own: what a batch means: its statements one after another, what each of them ends, and where an error goes. A statement's case is a
 -- function of what stands around it, of how far the session has come and of the meaning of the statements that it holds. A meaning
 -- is a tree; the code asks the port, and goes on by its replies.
-use Rattle.std.specs.Prelude.{ℕ, zero, suc, ℤ, pos, ◌==◌, ◌&&◌, Bool, true, false, nat_lt, if◌then◌else◌, List, [], ◌∷◌, Option, None, Some, Result, Ok, Err}
+use Rattle.std.specs.Prelude.{ℕ, zero, suc, ℤ, pos, ◌==◌, ◌&&◌, Bool, true, false, nat_le, nat_lt, is_ok, if◌then◌else◌, List, [], ◌∷◌, Option, None, Some, Result, Ok, Err}
+use Rattle.tsql_tree.specs.declared.definition.Definition.{Definition}
+use Rattle.tsql_tree.specs.declared.definition.TriggerTree.{TriggerTree}
 use Rattle.tsql_tree.specs.declared.option.SessionOption.{SessionOption}
+use Rattle.tsql_tree.specs.declared.statement.Argument.{Argument}
 use Rattle.tsql_tree.specs.declared.statement.Form.{Form-F}
 use Rattle.tsql_tree.specs.declared.statement.Statement.{Statement, out-Statement}
-use Rattle.binder.specs.Names.{Layer, form_of}
+use Rattle.binder.specs.Names.{Layer, form_of, looked_up}
 use Rattle.error_table.specs.declared.action.Action.{Action}
 use Rattle.error_table.specs.declared.action.Action.TheVariants as action
+use Rattle.error_table.specs.declared.action.Caught.{Caught}
+use Rattle.error_table.specs.declared.action.Caught.TheVariants.{LevelUp}
+use Rattle.error_table.specs.Act.{base_caught}
 use Rattle.step_model.specs.declared.op.Op.TheVariants as ops
+use Rattle.step_model.specs.Ranges.{no_memory}
+use Rattle.tds_tokens.specs.Numbers.{command_none}
+use Rattle.tds_tokens.specs.declared.token.DoneKind.{DoneKind}
 use Rattle.tds_tokens.specs.declared.token.Token.{Token}
 use Rattle.batch_meaning.specs.declared.exit.Exit.{Exit}
-use Rattle.batch_meaning.specs.declared.exit.Exit.TheVariants.{On, Leave, Again, Return, Raise, End}
+use Rattle.batch_meaning.specs.declared.exit.Exit.TheVariants.{On, Leave, Again, Return, Raise, RaiseUp, End}
 use Rattle.batch_meaning.specs.declared.failure.Failure.{Failure}
 use Rattle.batch_meaning.specs.declared.form.ReadText.{ReadText}
 use Rattle.batch_meaning.specs.declared.form.ReadText.TheVariants as text
 use Rattle.batch_meaning.specs.declared.raised.Raised.{Raised}
+use Rattle.batch_meaning.specs.declared.home.Home.{Home}
 use Rattle.batch_meaning.specs.declared.settings.Settings.{Settings}
+use Rattle.batch_meaning.specs.declared.stop.Stop.{Stop}
+use Rattle.batch_meaning.specs.declared.stop.Stop.TheVariants.{Failed, Left}
 use Rattle.batch_meaning.specs.Failures.{plain, naming}
-use Rattle.batch_meaning.specs.Raised.{Around, action_in, again, around_batch, error_token, in_catch, in_try, is_caught_in, raised_at}
+use Rattle.batch_meaning.specs.Raised.{Around, Fired, action_in, again, around_batch, error_token, in_body, in_catch, in_try, is_caught_in, raised_at, raised_in}
 use Rattle.batch_meaning.specs.Settings.{outside_profile, set_option}
 use Rattle.batch_meaning.specs.Statements.{vars_of}
-use Rattle.batch_meaning.specs.Tokens.{batch_done, command_of, statement_failed, transaction_rolled_back}
-use Rattle.batch_meaning.specs.Progress.{SessionProgress, begins, counts, dooms, sends, sets, size_of, statement_limit, tells_error, tells_rows}
-use Rattle.batch_meaning.specs.Doing.{Doing, over, reads, makes, asks, ◌then◌}
-use Rattle.batch_meaning.specs.Selecting.{Effect, messages, no_effect, not_built, result_full, sending}
+use Rattle.batch_meaning.specs.Tokens.{batch_done, command_of, done_kind, procedure_done, statement_failed, transaction_rolled_back}
+use Rattle.batch_meaning.specs.Progress.{SessionProgress, begins, counts, dooms, fires_from, sends, sets, size_of, stands_with, statement_limit, tells_error, tells_rows}
+use Rattle.batch_meaning.specs.Doing.{Doing, over, reads, makes, asks, room, ◌then◌}
+use Rattle.batch_meaning.specs.Selecting.{Effect, messages, no_effect, result_full, sending}
 use Rattle.batch_meaning.specs.Values.{is_message}
 use Rattle.session_vars.specs.declared.Variable.{Variable}
-use Rattle.batch_meaning.specs.Asking.{assigns_all, where_ended}
-use Rattle.batch_meaning.specs.Working.{composes, creates_table, tests, works}
+use Rattle.batch_meaning.specs.Asking.{assigns_all, comes_to, where_ended}
+use Rattle.batch_meaning.specs.Working.{asks_any, binds, composes, enters, known_by, leaves, relaxes, statuses, tests, works}
+use Rattle.batch_meaning.specs.Writes.{Written, change_bound, creates_definition, creates_table, drops}
+use Rattle.batch_meaning.specs.Calls.{Call, call_vars, depth_limit, finds_call, given_back, too_deep, uneven}
+use Rattle.batch_meaning.specs.Firing.{closes_own, in_trigger, leaves_fired, relaxes_then, trigger_end, undone_to}
 use Rattle.batch_meaning.specs.Cursors.{closes_cursor, declares_cursor, fetches_cursor, opens_cursor, removes_cursor}
 use Rattle.batch_meaning.specs.Transactions.{begins_transaction, commits_transaction, rolls_back_transaction, saves_transaction}
 
@@ -53,16 +68,20 @@ doomed_write = 3930
 unfoldable pub rolls_back_open : Doing (Unit {0})
 rolls_back_open = reads λ p. if p.is_open then asks ops.Rollback (where_ended (over tt)) else over tt
 
--- and that is told
+abbrev pub told_unless_own : Bool → ℕ → Doing (Unit {0})
+told_unless_own true serial = over tt
+told_unless_own false serial = makes (sends (transaction_rolled_back serial ∷ [])) (over tt)
+
+-- and that is told, unless it is a statement's own
 unfoldable pub rolls_back_told : Doing (Unit {0})
-rolls_back_told = reads λ p. if p.is_open then asks ops.Rollback (where_ended (makes (sends (transaction_rolled_back p.txn.serial ∷ [])) (over tt))) else over tt
+rolls_back_told = reads λ p. if p.is_open then asks ops.Rollback (where_ended (told_unless_own p.is_own p.txn.serial)) else over tt
 
 -- what is told of an error, by what it ends: the end of its statement where the batch goes on
-abbrev pub told_tokens : Action → ℕ → Raised → List Token
-told_tokens action.Statement command raised = error_token raised ∷ statement_failed command ∷ []
-told_tokens action.Doom command raised = error_token raised ∷ statement_failed command ∷ []
-told_tokens action.Batch command raised = error_token raised ∷ []
-told_tokens action.BatchAndTransaction command raised = error_token raised ∷ []
+abbrev pub told_tokens : DoneKind → Action → ℕ → Raised → List Token
+told_tokens kind action.Statement command raised = error_token raised ∷ statement_failed kind command ∷ []
+told_tokens kind action.Doom command raised = error_token raised ∷ statement_failed kind command ∷ []
+told_tokens kind action.Batch command raised = error_token raised ∷ []
+told_tokens kind action.BatchAndTransaction command raised = error_token raised ∷ []
 
 -- what it ends
 unfoldable pub ended_by : Action → Doing Exit
@@ -71,29 +90,37 @@ ended_by action.Doom = over On
 ended_by action.Batch = over End
 ended_by action.BatchAndTransaction = rolls_back_told then λ _. over End
 
-abbrev pub told_as : Action → ℕ → Raised → Doing Exit
-told_as action command raised = makes (sends (told_tokens action command raised)) (ended_by action)
+abbrev pub told_as : DoneKind → Action → ℕ → Raised → Doing Exit
+told_as kind action command raised = makes (sends (told_tokens kind action command raised)) (ended_by action)
+
+-- one that is caught only one level up leaves its procedure or trigger first
+abbrev pub way_of : Caught → Raised → Exit
+way_of LevelUp raised = RaiseUp raised
+way_of other raised = Raise raised
 
 -- one that is caught is not told; it dooms the transaction where it would end it
 abbrev pub caught_as : Action → Raised → Doing Exit
-caught_as action.Doom raised = makes dooms (over (Raise raised))
-caught_as action raised = over (Raise raised)
+caught_as action.Doom raised = makes dooms (over (way_of (base_caught raised.number raised.by) raised))
+caught_as action raised = over (way_of (base_caught raised.number raised.by) raised)
 
 -- where it is not caught, an error of more bytes than the batch may still send is one that says so
 abbrev pub or_full : Around → SessionProgress → ℕ → ℤ → Raised → Raised
 or_full around p command line raised = if is_caught_in around raised then raised
-    else if nat_lt p.bytes_left (size_of (told_tokens (action_in around p.settings.xact_abort raised) command raised)) then raised_at line (plain result_full)
+    else if nat_lt p.bytes_left (size_of (told_tokens (done_kind around) (action_in around p.settings.xact_abort raised) command raised)) then raised_in around.procedure line (plain result_full)
     else raised
 
 -- where an error arises
 abbrev pub strikes : Around → Bool → ℕ → Raised → Doing Exit
 strikes around xact_abort command raised = makes (tells_error raised.number) (if is_caught_in around raised
     then caught_as (action_in around xact_abort raised) raised
-    else told_as (action_in around xact_abort raised) command raised)
+    else told_as (done_kind around) (action_in around xact_abort raised) command raised)
 
-unfoldable pub raises : Around → Statement → Raised → Doing Exit
-raises around statement raised = reads λ p.
-    strikes around p.settings.xact_abort (command_of (form_of statement)) (or_full around p (command_of (form_of statement)) (line_of statement) raised)
+-- in a statement of this line and command
+unfoldable pub raises_at : Around → ℤ → ℕ → Raised → Doing Exit
+raises_at around line command raised = reads λ p. strikes around p.settings.xact_abort command (or_full around p command line raised)
+
+abbrev pub raises : Around → Statement → Raised → Doing Exit
+raises around statement raised = raises_at around (line_of statement) (command_of (form_of statement)) raised
 
 -- ---- the end of a statement
 
@@ -114,7 +141,7 @@ counted form rows next = if leaves_rows form then next else makes (tells_rows ro
 
 -- it failed
 unfoldable pub fails_for : Around → Statement → Failure → Doing Exit
-fails_for around statement failure = counted (form_of statement) 0 (raises around statement (raised_at (line_of statement) failure))
+fails_for around statement failure = counted (form_of statement) 0 (raises around statement (raised_in around.procedure (line_of statement) failure))
 
 -- what there is to send
 abbrev pub sends_some : List Token → Doing Exit → Doing Exit
@@ -137,6 +164,60 @@ concludes around statement go work = work then λ came. concluded around stateme
 -- a statement that is done with its effect
 unfoldable pub does : Around → Statement → Exit → Doing (Result Effect Failure) → Doing Exit
 does around statement exit work = concludes around statement (λ effect. succeeds statement effect (over exit)) work
+
+-- a write by what it came to; where a trigger was left, it is left so, too
+abbrev pub written : Around → Statement → Result Effect Stop → Doing Exit
+written around statement (Ok effect) = succeeds statement effect (over On)
+written around statement (Err (Failed failure)) = fails_for around statement failure
+written around statement (Err (Left exit)) = makes (tells_rows 0) (over exit)
+
+-- ---- the end of a call
+
+-- what it sends fits into what the batch may still send
+abbrev pub where_it_fits : Around → Statement → List Token → Doing Exit → Doing Exit
+where_it_fits around statement tokens next = reads λ p. if nat_lt p.bytes_left (size_of tokens) then fails_for around statement (plain result_full) else next
+
+-- with as many transactions as before
+unfoldable pub ends_even : Around → Statement → ℤ → Doing Exit
+ends_even around statement status = where_it_fits around statement (procedure_done status) (succeeds statement (sending (procedure_done status)) (over On))
+
+-- With another count: an error of the EXEC, which stands in front of the procedure's end where the batch goes on, and has no DONE. One that is caught is not
+-- told.
+abbrev pub uneven_tokens : Bool → Action → ℤ → Raised → List Token
+uneven_tokens true action status raised = procedure_done status
+uneven_tokens false action.Statement status raised = error_token raised ∷ procedure_done status
+uneven_tokens false action.Doom status raised = error_token raised ∷ procedure_done status
+uneven_tokens false action.Batch status raised = error_token raised ∷ []
+uneven_tokens false action.BatchAndTransaction status raised = error_token raised ∷ []
+
+abbrev pub uneven_end : Bool → Action → Raised → Doing Exit
+uneven_end true action raised = caught_as action raised
+uneven_end false action raised = ended_by action
+
+abbrev pub ends_uneven_as : Around → Statement → ℤ → Raised → Bool → Action → Doing Exit
+ends_uneven_as around statement status raised caught action = where_it_fits around statement (uneven_tokens caught action status raised)
+    (makes (tells_rows 0) (makes (tells_error raised.number) (makes (sends (uneven_tokens caught action status raised)) (uneven_end caught action raised))))
+
+unfoldable pub ends_uneven : Around → Statement → ℤ → Raised → Doing Exit
+ends_uneven around statement status raised = reads λ p.
+    ends_uneven_as around statement status raised (is_caught_in around raised) (action_in around p.settings.xact_abort raised)
+
+abbrev pub ends_call : Around → Statement → ℕ → ℤ → Doing Exit
+ends_call around statement count status = reads λ p. if p.txn.count == count then ends_even around statement status
+    else ends_uneven around statement status (raised_in around.procedure (line_of statement) (plain uneven))
+
+-- what it gives back is assigned first
+unfoldable pub gives_back : Around → Statement → Option (List ℕ) → List Argument → Call → ℕ → List Variable → ℤ → Doing Exit
+gives_back around statement status arguments call count inner number =
+    concludes around statement (λ sets. assigns_all sets (ends_call around statement count number)) (reads λ p. comes_to (given_back p.vars status arguments call number inner))
+
+-- an error on its way, or the batch's end, leaves the call where it is, and no rows are counted
+abbrev pub returns_from : Around → Statement → Option (List ℕ) → List Argument → Call → ℕ → List Variable → Exit → Doing Exit
+returns_from around statement status arguments call count inner (Raise raised) = makes (tells_rows 0) (over (Raise raised))
+returns_from around statement status arguments call count inner (RaiseUp raised) = makes (tells_rows 0) (over (Raise raised))
+returns_from around statement status arguments call count inner End = makes (tells_rows 0) (over End)
+returns_from around statement status arguments call count inner (Return number) = gives_back around statement status arguments call count inner number
+returns_from around statement status arguments call count inner exit = gives_back around statement status arguments call count inner (pos 0)
 
 -- ---- doomed transactions
 
@@ -226,6 +307,71 @@ module _ (one : Statement → Meaning) where
   unfoldable pub tries : Around → List Statement → List Statement → Doing Exit
   tries around body handler = each_of one body (in_try around) then λ exit. handled (λ raised. each_of one handler (in_catch raised around)) exit
 
+  -- A body runs with variables and settings of its own; those around it come back behind it, however it was left. It is told with which variables.
+  unfoldable pub runs_body : List Variable → (Settings → Settings) → List Statement → Around → Doing (Exit × List Variable)
+  runs_body vars settings body around = reads λ p. makes (stands_with vars) (makes (sets (settings p.settings)) (each_of one body around then λ exit.
+      reads λ inner. makes (stands_with p.vars) (makes (sets p.settings) (over (exit, inner.vars)))))
+
+  -- ---- EXEC
+
+  unfoldable pub runs_call : Around → Statement → Option (List ℕ) → List Argument → Call → Doing Exit
+  runs_call around statement status arguments call = reads λ p.
+      runs_body (call_vars call) (λ settings. settings) call.procedure.body (in_body call.procedure.name None around) then λ came.
+      returns_from around statement status arguments call p.txn.count came.1 came.0
+
+  unfoldable pub calls : Around → Statement → Option (List ℕ) → List ℕ → List Argument → Doing Exit
+  calls around statement status name arguments = concludes around statement (runs_call around statement status arguments) (finds_call around statement status name arguments)
+
+  -- ---- triggers
+
+  unfoldable pub runs_trigger : Around → Fired → TriggerTree → Doing Exit
+  runs_trigger around fired trigger = runs_body (vars_of trigger.body) in_trigger trigger.body (in_body trigger.name (Some fired) around) then λ came. over came.0
+
+  abbrev pub unless_stopped : Doing (Result (Unit {0}) Stop) → Result (Unit {0}) Stop → Doing (Result (Unit {0}) Stop)
+  unless_stopped next (Ok done) = next
+  unless_stopped next (Err stop) = over (Err stop)
+
+  -- what they have sent leaves room for what the statement tells
+  abbrev pub tells_behind : Effect → SessionProgress → Result (Unit {0}) Stop
+  tells_behind effect p = if nat_lt p.bytes_left (size_of effect.tokens) then Err (Failed (plain result_full)) else Ok tt
+
+  -- one after another; the first that stops them is the last
+  unfoldable pub runs_triggers : Around → Written → List TriggerTree → Doing (Result (Unit {0}) Stop)
+  runs_triggers around w [] = reads λ p. over (tells_behind w.effect p)
+  runs_triggers around w (trigger ∷ triggers) = runs_trigger around w.fired trigger then λ exit.
+      reads λ p. unless_stopped (runs_triggers around w triggers) (trigger_end exit p)
+
+  unfoldable pub runs_fired : Around → Written → Doing (Result (Unit {0}) Stop)
+  runs_fired around w = if nat_le depth_limit around.depth then over (Err (Failed (plain too_deep))) else runs_triggers around w w.fires
+
+  abbrev pub effect_of : Effect → Result (Unit {0}) Stop → Result Effect Stop
+  effect_of effect (Ok done) = Ok effect
+  effect_of effect (Err stop) = Err stop
+
+  -- Behind a write its locks end, and then its triggers run, before its own transaction ends.
+  unfoldable pub fires : Around → Home → Written → Doing (Result Effect Stop)
+  fires around home w = relaxes then λ done. room λ enough. if enough
+      then (reads λ p. makes (fires_from w.mark) (runs_fired around w then λ came. leaves_fired home w.mark p.stands (is_ok came) then λ done. over (effect_of w.effect came)))
+      else (undone_to w.mark true (relaxes_then (closes_own home false)) then λ done. over (Err (Failed (plain no_memory))))
+
+  -- without triggers it is done
+  abbrev pub written_with : Around → Home → Written → List TriggerTree → Doing (Result Effect Stop)
+  written_with around home w [] = leaves home true then λ done. over (Ok w.effect)
+  written_with around home w (trigger ∷ triggers) = fires around home w
+
+  abbrev pub written_in : Around → Home → Result Written Failure → Doing (Result Effect Stop)
+  written_in around home (Err failure) = leaves home false then λ done. over (Err (Failed failure))
+  written_in around home (Ok w) = written_with around home w w.fires
+
+  abbrev pub writes_in : Around → Statement → Result Home Failure → Doing (Result Effect Stop)
+  writes_in around statement (Err failure) = over (Err (Failed failure))
+  writes_in around statement (Ok home) = binds around statement (change_bound around) then written_in around home
+
+  unfoldable pub writes : Around → Statement → Doing (Result Effect Stop)
+  writes around statement = room λ enough. if enough
+      then (enters (asks_any (known_by around statement) (looked_up statement)) then writes_in around statement)
+      else over (Err (Failed (plain no_memory)))
+
   -- a case for each form
   unfoldable pub mean_form : Around → Statement → Layer → Doing Exit
   mean_form around statement (Form-F.If test so otherwise) = decides around statement (branch around so otherwise)
@@ -238,14 +384,19 @@ module _ (one : Statement → Meaning) where
   mean_form around statement (Form-F.RaiseError value class state) = tells around statement
   mean_form around statement (Form-F.Throw number value state) = tells around statement
   mean_form around statement Form-F.ThrowAgain = raises_again around statement around.caught
-  -- RETURN leaves the batch
-  mean_form around statement (Form-F.Return value) = does around statement Return (works around statement)
+  -- RETURN leaves the batch, the procedure or the trigger
+  mean_form around statement (Form-F.Return value) = concludes around statement (λ status. succeeds statement no_effect (over (Return status))) (statuses around statement)
   mean_form around statement (Form-F.SetOption option) = sets_option around statement option
   mean_form around statement (Form-F.BeginTransaction name) = does around statement On (begins_transaction statement name)
   mean_form around statement (Form-F.Commit name) = does around statement On (commits_transaction statement)
   mean_form around statement (Form-F.Rollback name) = does around statement On (rolls_back_transaction statement name)
   mean_form around statement (Form-F.Save name) = does around statement On (saves_transaction statement name)
-  mean_form around statement (Form-F.CreateTable table text) = does around statement On (creates_table statement table.name text)
+  mean_form around statement (Form-F.CreateTable table text) = does around statement On (creates_table around statement table.name text)
+  mean_form around statement (Form-F.Drop kind name) = does around statement On (drops around statement kind name)
+  mean_form around statement (Form-F.Insert table columns rows) = writes around statement then written around statement
+  mean_form around statement (Form-F.Update table assignments filter) = writes around statement then written around statement
+  mean_form around statement (Form-F.Delete table filter) = writes around statement then written around statement
+  mean_form around statement (Form-F.Execute status name arguments) = calls around statement status name arguments
   mean_form around statement (Form-F.DeclareCursor name select) = does around statement On (declares_cursor statement name select)
   mean_form around statement (Form-F.OpenCursor name) = does around statement On (opens_cursor around statement name)
   mean_form around statement (Form-F.Fetch name variables) = does around statement On (fetches_cursor statement name variables)
@@ -261,7 +412,7 @@ module _ (one : Statement → Meaning) where
 
 -- where no statement may begin any more
 abbrev pub spends : Statement → Meaning
-spends statement around = raises around statement (raised_at (line_of statement) (plain statements_spent))
+spends statement around = raises around statement (raised_in around.procedure (line_of statement) (plain statements_spent))
 
 -- A statement counts as it begins. At a level so many may be open one in another; each of them has begun, so the last is never reached
 -- where fewer are left.
@@ -279,6 +430,7 @@ meaning levels statements around = each_of (λ inner at. mean_of levels inner at
 abbrev pub has_failed : Exit → Bool
 has_failed End = true
 has_failed (Raise raised) = true
+has_failed (RaiseUp raised) = true
 has_failed exit = false
 
 -- a transaction that is doomed at the end of its batch is rolled back, which is told at line 1
@@ -289,15 +441,27 @@ ends_doomed = makes (sends (error_token (raised_at (pos 1) (plain doomed_at_end)
 unfoldable pub ends : Exit → Doing (Unit {0})
 ends exit = reads λ p. if p.txn.doomed then ends_doomed else makes (sends (batch_done (has_failed exit) ∷ [])) (over tt)
 
+-- ---- definitions
+
+abbrev pub defined : ℤ → Result Effect Failure → Doing Exit
+defined line (Ok effect) = makes (tells_rows 0) (makes (tells_error (pos 0)) (over On))
+defined line (Err failure) = makes (tells_rows 0) (raises_at around_batch line command_none (raised_at line failure))
+
+-- the definition of a procedure or trigger is a batch of one statement, at this line
+unfoldable pub defines_object : ℤ → Definition → List ℕ → Doing Exit
+defines_object line of text = reads λ p. if p.txn.doomed then defined line (Err (plain doomed_write)) else (creates_definition of text then defined line)
+
+-- ---- texts
+
 -- a text that is refused has begun nothing: it ends its batch alone
 abbrev pub runs_text : ReadText → Doing Exit
 runs_text (text.Statements statements) = meaning statement_limit statements around_batch
-runs_text text.NotBuilt = makes (sends (error_token (raised_at (pos 1) (plain not_built)) ∷ [])) (over End)
+runs_text (text.Defines line of units) = defines_object line of units
 runs_text (text.Refused line code near) = makes (sends (error_token (raised_at line (naming code near)) ∷ [])) (over End)
 
 abbrev pub vars_in_text : ReadText → List Variable
 vars_in_text (text.Statements statements) = vars_of statements
-vars_in_text text.NotBuilt = []
+vars_in_text (text.Defines line of units) = []
 vars_in_text (text.Refused line code near) = []
 
 -- a batch

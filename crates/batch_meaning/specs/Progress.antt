@@ -1,6 +1,6 @@
 -- Own: how far a session has come, and the named steps and the exchanges by which alone that changes. The
 -- code has it as a struct, with a method for each step.
-use Rattle.std.specs.Prelude.{◌≡◌, ℕ, ℤ, pos, ◌-◌, Bool, true, false, IsTrue, List, [], ◌∷◌, ◌++◌, length, map, min, Option, if◌then◌else◌, ◌==◌, not, Some, None, slice_get, slice_set}
+use Rattle.std.specs.Prelude.{◌≡◌, ℕ, ℤ, pos, ◌-◌, ◌&&◌, ◌||◌, Bool, true, false, IsTrue, List, [], ◌∷◌, ◌++◌, length, map, filter, min, Option, if◌then◌else◌, ◌==◌, not, Some, None, slice_get, slice_set}
 use Rattle.std.specs.List.{All}
 use Rattle.std.specs.List.{list_any}
 use Rattle.tsql_tree.specs.declared.query.Select.{Select}
@@ -18,7 +18,7 @@ use Rattle.step_model.specs.Exchange.{Exchange, IsPriority}
 use Rattle.step_model.specs.Port.{PortPast, standing_after}
 use Rattle.txn_rules.specs.declared.savepoints.Savepoint.{Savepoint}
 use Rattle.txn_rules.specs.declared.state.TxnState.{TxnState}
-use Rattle.txn_rules.specs.State.{no_transaction, after_begin, after_commit, after_cut, after_end, after_save, is_closed, xact_state}
+use Rattle.txn_rules.specs.State.{no_transaction, after_begin, after_commit, after_cut, after_end, after_fire, after_fired, after_save, is_closed, xact_state}
 use Rattle.tds_tokens.specs.declared.token.Token.{Token}
 use Rattle.tds_tokens.specs.Spelling.{TokenBytes}
 use Rattle.batch_meaning.specs.declared.settings.Settings.{Settings}
@@ -46,8 +46,11 @@ pub record SessionProgress : Type 0 where
   pub settings : Settings
   -- BEGIN TRANSACTION and what belongs to it
   pub txn : TxnState
-  -- whether a transaction is open at the port
+  -- whether a transaction is open at the port, and whether that is a statement's own, whose triggers run
   pub is_open : Bool
+  pub is_own : Bool
+  -- whether the transaction in which a statement worked whose triggers run still stands
+  pub stands : Bool
   -- whether something was fetched or written since that began, or since its last Relax
   pub touched : Bool
 
@@ -65,6 +68,8 @@ first_progress = record {
   settings = first_settings;
   txn = no_transaction;
   is_open = false;
+  is_own = false;
+  stands = false;
   touched = false;
 }
 
@@ -72,7 +77,8 @@ first_progress = record {
 
 -- A batch begins, with its variables; a statement of it begins; it asks what its end has to relax; it sends tokens; @@ROWCOUNT and @@ERROR
 -- are set; the variable at a place is assigned; SET sets; a transaction is begun, counted, given up or named in a savepoint; a cursor is
--- declared, filled, fetched from, closed or removed, and @@FETCH_STATUS is set.
+-- declared, filled, fetched from, closed or removed, and @@FETCH_STATUS is set; the variables of a procedure or trigger come, or those around it come
+-- back; the triggers of a statement with this mark begin to run, or have run, where the transaction around stood or didn't.
 pub data SessionStep : Type 0 where
   begins : List Variable → SessionStep
   counts : SessionStep
@@ -92,6 +98,9 @@ pub data SessionStep : Type 0 where
   shuts : List ℕ → SessionStep
   removes : List ℕ → SessionStep
   tells_fetch : ℤ → SessionStep
+  stands_with : List Variable → SessionStep
+  fires_from : ℕ → SessionStep
+  fired_from : ℕ → Bool → SessionStep
 
 -- how many statements a batch may begin
 abbrev pub statement_limit : ℕ
@@ -148,6 +157,9 @@ made (fetches name) p = record p { cursors = fetched name p.cursors }
 made (shuts name) p = record p { cursors = closed name p.cursors }
 made (removes name) p = record p { cursors = removed name p.cursors }
 made (tells_fetch status) p = record p { fetch_status = status }
+made (stands_with vars) p = record p { vars = vars }
+made (fires_from mark) p = record p { txn = after_fire mark p.txn; is_own = p.is_own || is_closed p.txn; stands = true }
+made (fired_from mark stood) p = record p { txn = if p.stands then after_fired mark p.txn else p.txn; stands = stood && p.stands }
 
 -- ---- exchanges
 
@@ -174,9 +186,20 @@ txn_after txn op (Ended place) = after_end txn
 txn_after txn (BackTo mark) Done = after_cut mark txn
 txn_after txn op reply = txn
 
+-- the end of a transaction is that of a statement's own, and it stands no more
+abbrev pub unless_ended : Bool → Reply → Bool
+unless_ended before (Ended place) = false
+unless_ended before reply = before
+
 -- the progress after one operation was asked and replied so
 abbrev pub asked : Op → Reply → SessionProgress → SessionProgress
-asked op reply p = record p { is_open = is_open_after p.is_open op reply; touched = touched_after p.touched op; txn = txn_after p.txn op reply }
+asked op reply p = record p {
+  is_open = is_open_after p.is_open op reply;
+  is_own = unless_ended p.is_own reply;
+  stands = unless_ended p.stands reply;
+  touched = touched_after p.touched op;
+  txn = txn_after p.txn op reply;
+}
 
 -- the progress after these exchanges
 abbrev pub asked_all : List Exchange → SessionProgress → SessionProgress

@@ -14,6 +14,7 @@ use Rattle.binder.specs.Statements.{bind}
 use Rattle.query_eval.specs.Ans.{Ans}
 use Rattle.step_model.specs.Ranges.{Rows}
 use Rattle.tds_tokens.specs.declared.columns.ColumnInfo.{ColumnInfo}
+use Rattle.tds_tokens.specs.declared.token.DoneKind.{DoneKind}
 use Rattle.tds_tokens.specs.declared.token.Token.{Token}
 use Rattle.batch_meaning.specs.declared.failure.Failure.{Failure}
 use Rattle.batch_meaning.specs.declared.raised.Raised.{Raised}
@@ -21,15 +22,16 @@ use Rattle.batch_meaning.specs.Raised.{Around, info_token}
 use Rattle.batch_meaning.specs.Failures.{plain}
 use Rattle.batch_meaning.specs.Progress.{SessionProgress, system_in, values_of}
 use Rattle.batch_meaning.specs.Tokens.{result_tokens}
-use Rattle.batch_meaning.specs.Values.{◌>>=◌, Assigned, assigned_to, given_names, is_message, printed, raiserror_of, return_of, throw_of}
+use Rattle.batch_meaning.specs.Values.{◌>>=◌, Assigned, assigned_to, given_names, is_message, printed, raiserror_of, throw_of}
 
 -- ---- the numbers of its errors
 
 abbrev pub result_full : ℕ
 result_full = 49002
 
-abbrev pub not_built : ℕ
-not_built = 49099
+-- what binding does not give of a statement
+abbrev pub not_bound_so : ℕ
+not_bound_so = 49007
 
 -- ---- binding
 
@@ -77,28 +79,27 @@ abbrev pub assigning : List Assigned → Effect
 assigning sets = record no_effect { sets = sets }
 
 -- rows that are not too many for a result are sent
-abbrev pub result_of : Bool → BoundQuery → Rows → Result Effect Failure
-result_of no_count query rows =
-    if nat_le (length rows) row_limit then Ok (record { sets = []; rows = length rows; tokens = result_tokens no_count (columns_of query) rows }) else Err (plain result_full)
+abbrev pub result_of : DoneKind → Bool → BoundQuery → Rows → Result Effect Failure
+result_of kind no_count query rows =
+    if nat_le (length rows) row_limit then Ok (record { sets = []; rows = length rows; tokens = result_tokens kind no_count (columns_of query) rows }) else Err (plain result_full)
 
 -- ---- the values of expressions
 
 abbrev pub assigning_to : List Variable → List (List ℕ) → List Value → Result Effect Failure
 assigning_to vars names values = assigned_to vars names values >>= λ sets. Ok (assigning sets)
 
--- what DECLARE, SET and RETURN make of them
+-- what DECLARE and SET make of them
 abbrev pub made_of : Layer → List Variable → List Value → Result Effect Failure
 made_of (Form-F.Declare declarations) vars values = assigning_to vars (given_names declarations) values
 made_of (Form-F.SetVariable name value) vars values = assigning_to vars (name ∷ []) values
-made_of (Form-F.Return value) vars values = return_of values >>= λ sets. Ok no_effect
-made_of form vars values = Err (plain not_built)
+made_of form vars values = Err (plain not_bound_so)
 
 -- what PRINT, RAISERROR and THROW make of them
-abbrev pub raised_by : Layer → ℤ → List Value → Result Raised Failure
-raised_by (Form-F.Print value) line values = printed line values
-raised_by (Form-F.RaiseError text class state) line values = raiserror_of line values
-raised_by (Form-F.Throw number text state) line values = throw_of line values
-raised_by form line values = Err (plain not_built)
+abbrev pub raised_by : Layer → List ℕ → ℤ → List Value → Result Raised Failure
+raised_by (Form-F.Print value) procedure line values = printed procedure line values
+raised_by (Form-F.RaiseError text class state) procedure line values = raiserror_of procedure line values
+raised_by (Form-F.Throw number text state) procedure line values = throw_of procedure line values
+raised_by form procedure line values = Err (plain not_bound_so)
 
 -- what is no error is sent
 abbrev pub messages : Raised → List Token

@@ -1,7 +1,6 @@
--- Own: what a text is read as: statements, all of which are built; or it is not built yet; or it is refused. Definitions of procedures
--- and triggers, and calls, are not built. And the variables that a batch declares, in the order of the text.
-use Rattle.std.specs.Prelude.{◌≡◌, ℕ, pos, ◌&&◌, Bool, true, false, if◌then◌else◌, List, [], ◌∷◌, ◌++◌, length, map, nat_lt, Option, Some, None, Result, Ok, Err}
-use Rattle.std.specs.List.{list_all}
+-- Own: what a text is read as: statements, or the definition of a procedure or trigger, or it is refused. And the variables that a
+-- batch, a procedure or a trigger declares, in the order of the text.
+use Rattle.std.specs.Prelude.{◌≡◌, ℕ, pos, if◌then◌else◌, List, [], ◌∷◌, ◌++◌, length, map, nat_lt, Option, Some, None, Result, Ok, Err}
 use Rattle.tsql_tree.specs.declared.statement.Batch.{Batch}
 use Rattle.tsql_tree.specs.declared.statement.Batch.TheVariants.{Body, Definition}
 use Rattle.tsql_tree.specs.declared.statement.Declaration.{Declaration}
@@ -14,30 +13,6 @@ use Rattle.query_parser.specs.declared.fault.ParseFault.TheVariants as fault
 use Rattle.stmt_parser.specs.Parsed.{BatchOf}
 use Rattle.batch_meaning.specs.declared.form.ReadText.{ReadText}
 use Rattle.batch_meaning.specs.declared.form.ReadText.TheVariants as text
-
--- ---- what is built
-
-abbrev pub or_built : Option Bool → Bool
-or_built None = true
-or_built (Some built) = built
-
-abbrev pub all_built : List Bool → Bool
-all_built built = list_all (λ one. one) built
-
--- of a form, by whether what stands in it is
-abbrev pub built_form : Form-F Bool Bool → Bool
-built_form (Form-F.If test so otherwise) = so && or_built otherwise
-built_form (Form-F.While test body) = body
-built_form (Form-F.Block body) = all_built body
-built_form (Form-F.TryCatch body handler) = all_built body && all_built handler
-built_form (Form-F.Execute status name arguments) = false
-built_form form = true
-
-abbrev pub built_statement : Statement-F Bool Bool → Bool
-built_statement statement = statement.form
-
-abbrev pub is_built : Statement → Bool
-is_built = fold-Statement Bool Bool built_form built_statement
 
 -- ---- variables
 
@@ -77,18 +52,19 @@ vars_statement statement = statement.form
 abbrev pub vars_in : Statement → Declaring
 vars_in = fold-Statement Declaring Declaring vars_form vars_statement
 
+-- the variables that statements declare behind these
+abbrev pub vars_behind : List Variable → List Statement → List Variable
+vars_behind vars statements = in_turn (map vars_in statements) vars
+
 -- the variables of a batch, all of which stand from its beginning, also those of a DECLARE that is never reached
 abbrev pub vars_of : List Statement → List Variable
-vars_of statements = in_turn (map vars_in statements) []
+vars_of statements = vars_behind [] statements
 
 -- ---- texts
 
-abbrev pub body_of : List Statement → ReadText
-body_of statements = if all_built (map is_built statements) then text.Statements statements else text.NotBuilt
-
 abbrev pub text_of : Batch → ReadText
-text_of (Body statements) = body_of statements
-text_of (Definition line of units) = text.NotBuilt
+text_of (Body statements) = text.Statements statements
+text_of (Definition line of units) = text.Defines (pos line) of units
 
 -- what parsing gave; a text that is refused tells why
 abbrev pub IsRead : Result Batch ParseFault → ReadText → Type 0

@@ -1,5 +1,5 @@
 -- What a client is sent for a statement ([MS-TDS] 2.2.7): its tokens, by what came of it.
-use Rattle.std.specs.Prelude.{ℕ, ◌+◌, Bool, if◌then◌else◌, List, [], ◌∷◌, ◌++◌, map, length}
+use Rattle.std.specs.Prelude.{ℕ, ℤ, ◌+◌, ◌==◌, Bool, if◌then◌else◌, List, [], ◌∷◌, ◌++◌, map, length}
 use Rattle.std.specs.Int.{w64, to_le_bytes}
 use Rattle.value_types.specs.declared.value.Value.{Value}
 use Rattle.tsql_tree.specs.declared.statement.Form.{Form-F}
@@ -7,9 +7,11 @@ use Rattle.binder.specs.Names.{Layer}
 use Rattle.step_model.specs.Ranges.{Rows}
 use Rattle.tds_tokens.specs.declared.columns.ColumnInfo.{ColumnInfo}
 use Rattle.tds_tokens.specs.Numbers.{done_final, done_more, done_error, done_count, command_none, command_select, command_insert, command_delete, command_update, env_begin, env_commit, env_rollback}
-use Rattle.tds_tokens.specs.declared.token.DoneKind.TheVariants.{Done}
+use Rattle.tds_tokens.specs.declared.token.DoneKind.{DoneKind}
+use Rattle.tds_tokens.specs.declared.token.DoneKind.TheVariants.{Done, InProc, Proc}
 use Rattle.tds_tokens.specs.declared.token.Token.{Token}
-use Rattle.tds_tokens.specs.declared.token.Token.TheVariants.{Columns, Row, EnvBytes, Finished}
+use Rattle.tds_tokens.specs.declared.token.Token.TheVariants.{Columns, Row, EnvBytes, Finished, ReturnStatus}
+use Rattle.batch_meaning.specs.Raised.{Around}
 
 -- ---- DONE ([MS-TDS] 2.2.7.6)
 
@@ -21,14 +23,22 @@ command_of (Form-F.Update table sets filter) = command_update
 command_of (Form-F.Delete table filter) = command_delete
 command_of form = command_none
 
+-- DONE, or DONEINPROC in a procedure or trigger
+abbrev pub done_kind : Around → DoneKind
+done_kind around = if around.depth == 0 then Done else InProc
+
 -- the end of a statement, where more follows, with its count of rows; under NOCOUNT no count is told
-abbrev pub statement_done : Bool → ℕ → ℕ → Token
-statement_done no_count command rows =
-    if no_count then Finished Done done_more command 0 else Finished Done (done_more + done_count) command rows
+abbrev pub statement_done : DoneKind → Bool → ℕ → ℕ → Token
+statement_done kind no_count command rows =
+    if no_count then Finished kind done_more command 0 else Finished kind (done_more + done_count) command rows
 
 -- the end of a statement that failed, where more follows
-abbrev pub statement_failed : ℕ → Token
-statement_failed command = Finished Done (done_more + done_error) command 0
+abbrev pub statement_failed : DoneKind → ℕ → Token
+statement_failed kind command = Finished kind (done_more + done_error) command 0
+
+-- the end of a procedure: its status, and DONEPROC ([MS-TDS] 2.2.7.18, 2.2.7.8)
+abbrev pub procedure_done : ℤ → List Token
+procedure_done status = ReturnStatus status ∷ Finished Proc done_more command_none 0 ∷ []
 
 -- a batch's end, by whether an error ended it
 abbrev pub batch_done : Bool → Token
@@ -41,8 +51,8 @@ abbrev pub row_tokens : Rows → List Token
 row_tokens rows = map {A = List Value} {B = Token} Row rows
 
 -- a result: its columns, its rows and their count
-abbrev pub result_tokens : Bool → List ColumnInfo → Rows → List Token
-result_tokens no_count columns rows = Columns columns ∷ row_tokens rows ++ statement_done no_count command_select (length rows) ∷ []
+abbrev pub result_tokens : DoneKind → Bool → List ColumnInfo → Rows → List Token
+result_tokens kind no_count columns rows = Columns columns ∷ row_tokens rows ++ statement_done kind no_count command_select (length rows) ∷ []
 
 -- ---- transactions ([MS-TDS] 2.2.7.9, types 8 to 10)
 

@@ -7,6 +7,7 @@ use Rattle.txn_rules.specs.declared.state.BackKind.{BackKind}
 use Rattle.txn_rules.specs.declared.state.BackKind.TheVariants.{Mark, Whole}
 use Rattle.txn_rules.specs.declared.state.TxnState.{TxnState}
 use Rattle.txn_rules.specs.State.{commit_answer, count_limit, is_closed, rollback_answer, save_refusal, serial_limit}
+use Rattle.tds_tokens.specs.declared.token.Token.{Token}
 use Rattle.batch_meaning.specs.declared.failure.Failure.{Failure}
 use Rattle.batch_meaning.specs.Settings.{outside_profile}
 use Rattle.batch_meaning.specs.Tokens.{transaction_begun, transaction_committed, transaction_rolled_back}
@@ -43,30 +44,35 @@ begins_over name p = if not p.is_open then begins_outermost name (next_serial p.
 
 -- ---- COMMIT
 
-abbrev pub commits_by : TxnState → Result Bool ℤ → Doing (Result Effect Failure)
-commits_by txn (Err number) = fails_with number
-commits_by txn (Ok false) = makes closes_one (over (Ok no_effect))
-commits_by txn (Ok true) = if_bytes_left (transaction_committed txn.serial ∷ [])
-    (asks ops.Commit (where_ended (over (Ok (sending (transaction_committed txn.serial ∷ []))))))
+-- the end of a transaction is told where it was begun by BEGIN; that of a statement's own is not
+abbrev pub unless_own : Bool → Token → List Token
+unless_own true token = []
+unless_own false token = token ∷ []
+
+abbrev pub commits_by : SessionProgress → Result Bool ℤ → Doing (Result Effect Failure)
+commits_by p (Err number) = fails_with number
+commits_by p (Ok false) = makes closes_one (over (Ok no_effect))
+commits_by p (Ok true) = if_bytes_left (unless_own p.is_own (transaction_committed p.txn.serial))
+    (asks ops.Commit (where_ended (over (Ok (sending (unless_own p.is_own (transaction_committed p.txn.serial)))))))
 
 -- ---- ROLLBACK
 
-unfoldable pub rolls_back_whole : TxnState → Doing (Result Effect Failure)
-rolls_back_whole txn = if_bytes_left (transaction_rolled_back txn.serial ∷ [])
-    (asks ops.Rollback (where_ended (over (Ok (sending (transaction_rolled_back txn.serial ∷ []))))))
+unfoldable pub rolls_back_whole : SessionProgress → Doing (Result Effect Failure)
+rolls_back_whole p = if_bytes_left (unless_own p.is_own (transaction_rolled_back p.txn.serial))
+    (asks ops.Rollback (where_ended (over (Ok (sending (unless_own p.is_own (transaction_rolled_back p.txn.serial)))))))
 
 -- an error that names the transaction or savepoint
 abbrev pub fails_of : {A : Type 0} → ℤ → List ℕ → Doing (Result A Failure)
 fails_of number name = with_room (over (Err (record { number = number; name = Some name })))
 
-abbrev pub goes_back : List ℕ → TxnState → Result BackKind ℤ → Doing (Result Effect Failure)
-goes_back name txn (Err number) = fails_of number name
-goes_back name txn (Ok Whole) = rolls_back_whole txn
-goes_back name txn (Ok (Mark mark)) = asks (ops.BackTo mark) (where_done (over (Ok no_effect)))
+abbrev pub goes_back : List ℕ → SessionProgress → Result BackKind ℤ → Doing (Result Effect Failure)
+goes_back name p (Err number) = fails_of number name
+goes_back name p (Ok Whole) = rolls_back_whole p
+goes_back name p (Ok (Mark mark)) = asks (ops.BackTo mark) (where_done (over (Ok no_effect)))
 
-abbrev pub rolls_back_to : Option (List ℕ) → TxnState → Doing (Result Effect Failure)
-rolls_back_to None txn = if is_closed txn then fails nothing_open else rolls_back_whole txn
-rolls_back_to (Some name) txn = goes_back name txn (rollback_answer name txn)
+abbrev pub rolls_back_to : Option (List ℕ) → SessionProgress → Doing (Result Effect Failure)
+rolls_back_to None p = if is_closed p.txn then fails nothing_open else rolls_back_whole p
+rolls_back_to (Some name) p = goes_back name p (rollback_answer name p.txn)
 
 -- ---- SAVE TRANSACTION
 
@@ -86,10 +92,10 @@ unfoldable pub begins_transaction : Statement → Option (List ℕ) → Doing (R
 begins_transaction statement name = bound_first statement (begins_over name)
 
 unfoldable pub commits_transaction : Statement → Doing (Result Effect Failure)
-commits_transaction statement = bound_first statement λ p. commits_by p.txn (commit_answer p.txn)
+commits_transaction statement = bound_first statement λ p. commits_by p (commit_answer p.txn)
 
 unfoldable pub rolls_back_transaction : Statement → Option (List ℕ) → Doing (Result Effect Failure)
-rolls_back_transaction statement name = bound_first statement λ p. rolls_back_to name p.txn
+rolls_back_transaction statement name = bound_first statement λ p. rolls_back_to name p
 
 unfoldable pub saves_transaction : Statement → List ℕ → Doing (Result Effect Failure)
 saves_transaction statement name = bound_first statement λ p. saves_unless name (save_refusal p.txn)

@@ -112,9 +112,13 @@ first_of values = get_or values 0 Null
 abbrev pub first_row : Rows → List Value
 first_row rows = get_or rows 0 []
 
--- RETURN: an INT, or nothing; it is dropped
-abbrev pub return_of : List Value → Result (List Assigned) Failure
-return_of values = cast_to Int (first_of values) >>= λ value. Ok []
+-- RETURN: an INT; 0 where it has no value, or NULL
+abbrev pub whole_or_zero : Value → ℤ
+whole_or_zero (Whole number) = number
+whole_or_zero value = pos 0
+
+abbrev pub status_of : List Value → Result ℤ Failure
+status_of values = cast_to Int (first_of values) >>= λ value. Ok (whole_or_zero value)
 
 -- ---- messages
 
@@ -151,10 +155,10 @@ natural (pos n) = n
 natural (negsuc n) = 0
 
 -- PRINT: a message of number and class 0
-abbrev pub printed : ℤ → List Value → Result Raised Failure
-printed line values = do
+abbrev pub printed : List ℕ → ℤ → List Value → Result Raised Failure
+printed procedure line values = do
   text ← text_in (first_of values)
-  Ok (record { number = pos 0; class = 0; state = 1; text = text; line = line; by = Raiserror })
+  Ok (record { number = pos 0; class = 0; state = 1; text = text; procedure = procedure; line = line; by = Raiserror })
 
 -- the number of what RAISERROR raises
 abbrev pub raiserror_number : ℤ
@@ -171,12 +175,12 @@ abbrev pub greatest_number : ℤ
 greatest_number = pos 2147483647
 
 -- RAISERROR: its text, its class and its state, in this order
-abbrev pub raiserror_of : ℤ → List Value → Result Raised Failure
-raiserror_of line values = do
+abbrev pub raiserror_of : List ℕ → ℤ → List Value → Result Raised Failure
+raiserror_of procedure line values = do
   text ← text_in (get_or values 0 Null)
   class ← number_between (pos 0) greatest_class (get_or values 1 Null)
   state ← number_between (pos 0) greatest_state (get_or values 2 Null)
-  Ok (record { number = raiserror_number; class = natural class; state = natural state; text = text; line = line; by = Raiserror })
+  Ok (record { number = raiserror_number; class = natural class; state = natural state; text = text; procedure = procedure; line = line; by = Raiserror })
 
 -- the class of what THROW raises, and its least number
 abbrev pub throw_class : ℕ
@@ -186,12 +190,12 @@ abbrev pub least_number : ℤ
 least_number = pos 50000
 
 -- THROW: its number, its text and its state, in this order
-abbrev pub throw_of : ℤ → List Value → Result Raised Failure
-throw_of line values = do
+abbrev pub throw_of : List ℕ → ℤ → List Value → Result Raised Failure
+throw_of procedure line values = do
   number ← number_between least_number greatest_number (get_or values 0 Null)
   text ← text_in (get_or values 1 Null)
   state ← number_between (pos 0) greatest_state (get_or values 2 Null)
-  Ok (record { number = number; class = throw_class; state = natural state; text = text; line = line; by = Throw })
+  Ok (record { number = number; class = throw_class; state = natural state; text = text; procedure = procedure; line = line; by = Throw })
 
 -- what is no error: a client is told it, and the batch goes on
 abbrev pub is_message : Raised → Bool

@@ -1,6 +1,7 @@
 //! How it goes on behind a statement.
 
 use crate::raised::Raised;
+use sqlite_items::Boxed;
 
 /// How it goes on behind a statement.
 #[derive(Drop)]
@@ -11,10 +12,12 @@ pub enum Exit {
     Leave,
     /// CONTINUE: the WHILE around turns again.
     Again,
-    /// RETURN: the batch is left.
-    Return,
-    /// An error is on its way to the CATCH of the TRY around.
-    Raise(Raised),
+    /// RETURN: the batch, the procedure or the trigger is left, with this status.
+    Return(i32),
+    /// An error is on its way to the CATCH of a TRY around.
+    Raise(Boxed<Raised>),
+    /// An error is on its way out of its procedure or trigger, to the CATCH of a TRY around what called or fired that.
+    RaiseUp(Boxed<Raised>),
     /// An error has ended the batch.
     End,
 }

@@ -1,16 +1,16 @@
 //! What a text is read as: statements, or why there are none.
 
 use sqlite_items::Items;
-use tsql_tree::Statement;
+use tsql_tree::{Definition, Statement};
 use value_types::Units;
 
 /// What a text is read as.
 #[derive(Drop)]
 pub enum ReadText {
-    /// Statements, all of which are built.
+    /// Statements.
     Statements(Items<Statement>),
-    /// A batch of which something is not built.
-    NotBuilt,
+    /// CREATE PROCEDURE or CREATE TRIGGER: its line, what it defines, and its text.
+    Defines(i32, Definition, Units),
     /// A text that is refused: nothing of it runs.
     Refused {
         /// The line of its error, from 1.

@@ -8,6 +8,7 @@ mod home;
 mod laws;
 mod raised;
 mod settings;
+mod stop;
 
 pub use exit::Exit;
 pub use failure::Failure;
@@ -16,3 +17,4 @@ pub use home::Home;
 pub use laws::law_reading;
 pub use raised::Raised;
 pub use settings::Settings;
+pub use stop::Stop;

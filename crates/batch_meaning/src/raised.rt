@@ -14,6 +14,8 @@ pub struct Raised {
     pub state: u8,
     /// Its text, whole.
     pub text: Units,
+    /// The procedure or trigger of its statement; of a batch it is empty.
+    pub procedure: Units,
     /// The line of its statement, from 1.
     pub line: i32,
     /// Who raised it.

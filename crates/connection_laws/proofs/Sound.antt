@@ -17,7 +17,7 @@ use Rattle.engine_core.specs.Solo.{asked_by}
 use Rattle.engine_core.proofs.Fitting.{run_known}
 use Rattle.reading_laws.specs.Laws.{HasCommit}
 use Rattle.reading_laws.proofs.Logged.{logged_commits}
-use Rattle.integrity_laws.proofs.Empty.{firm_empty, untriggered_empty}
+use Rattle.integrity_laws.proofs.Empty.{firm_empty}
 use Rattle.sound_laws.specs.Stands.{Intact}
 use Rattle.sound_laws.specs.Tied.{Tied}
 use Rattle.sound_laws.proofs.Runs.{run_sound}
@@ -78,7 +78,7 @@ module _ (log : List Logged) (mine : ℕ → List Exchange) (tied : (session : �
       subst (λ (n : ℕ). Intact (State (take n log))) next after
 
   every_place : (place : ℕ) → Intact (State (take place log))
-  every_place zero = record { firm = firm_empty; untriggered = untriggered_empty }
+  every_place zero = firm_empty
   every_place (suc place) = by_commit (slice_get log place) refl (every_place place)
     where
       by_commit : (o : Option Logged) → slice_get log place ≡ o → Intact (State (take place log)) → Intact (State (take (suc place) log))

@@ -18,20 +18,19 @@ pub fn law_served_connection()
     ensures served { ConnectionServed }
 {}
 
-/// Each commit of a session that has served connections, one behind another, keeps its database sound, if no trigger is
-/// defined in it.
+/// Each commit of a session that has served connections, one behind another, keeps its database firm, and so sound.
 pub fn law_connections_keep()
     ensures { ConnectionsKeep }
 {}
 
 /// Where the exchanges of each session fit one log, and are those of connections, every database that the first commits of the
-/// log leave is sound, and no trigger is defined in it.
+/// log leave is firm, and so sound.
 pub fn law_history_sound()
     ensures { HistorySound }
 {}
 
 /// In every run of any sessions that have served connections, one behind another, every database that the first commits of
-/// the log leave is sound, and no trigger is defined in it.
+/// the log leave is firm, and so sound.
 pub fn law_connections_sound()
     ensures { ConnectionsSound }
 {}

@@ -1,6 +1,12 @@
 -- How a range is read, and lists of parts, by a loop: what is left leads to the whole.
 use Rattle.std.proofs.Common.{◌≡◌, Bool, if◌then◌else◌, ℕ, zero, suc, ◌+◌, ◌-◌, ◌<◌, ◌≤◌, true, false, List, [], ◌∷◌, ◌++◌, length, drop, get_or, Option, Some, None, Result, Ok, Err, refl, sym, ap, ◌∙◌, subst, arith}
+use Rattle.std.proofs.Math.Bool.{or-true}
 use Rattle.std.proofs.lemmas.List.{drop_more, length-drop}
+use Rattle.std.specs.Prelude.{◌||◌, IfOk, OnErr}
+use Rattle.std.specs.List.{list_any}
+use Rattle.std.specs.declared.alloc.Global.{Global}
+use Rattle.std.specs.declared.vec.Vec.{Vec}
+use Rattle.value_types.specs.declared.row.Row.{Row}
 use Rattle.tsql_tree.specs.declared.definition.TableTree.{TableTree}
 use Rattle.step_model.specs.declared.manner.Manner.{Manner}
 use Rattle.step_model.specs.declared.op.Op.{Op}
@@ -16,8 +22,8 @@ use Rattle.dml_exec.specs.declared.refusal.Refusal.{Refusal}
 use Rattle.dml_exec.specs.declared.refusal.Refusal.TheVariants.{Limit, Memory}
 use Rattle.dml_exec.specs.declared.refusal.Level.{Level}
 use Rattle.dml_exec.specs.declared.written.Halt.{Halt}
-use Rattle.dml_exec.specs.Asking.{MayWork, on_ok, ◌>>=◌, with_room, with_room_if}
-use Rattle.dml_exec.specs.Reading.{IsFetch, TableRead, fetches, from, images_from, part_of, read_by, reads_on, reads_table, rows_from}
+use Rattle.dml_exec.specs.Asking.{MayWork, on_ok, seen, ◌>>=◌, with_room, with_room_if}
+use Rattle.dml_exec.specs.Reading.{GivenRows, IsFetch, TableRead, fetches, from, images_from, part_of, read_by, reads_on, reads_table, rows_from}
 use Rattle.dml_exec.proofs.Held.{asks_behind, asks_failed, asks_one, asks_over, asks_room, leads_then, leads_to}
 use Rattle.step_model.proofs.Dialogs.{front_room}
 use Rattle.dml_exec.proofs.Pairs.{none_of}
@@ -112,35 +118,52 @@ module _ {A : Type 0} (part : A → Dialog (Result (Unit {0}) Halt)) (parts : Li
 
 -- ---- tables
 
+-- where one of those that are left is asked for, it may be: the first, and the others where the session stands as before
+module _ {A : Type 0} {manner : Manner} (test : A → Bool) (x : A) {all rest : List A} (is : all ≡ x ∷ rest) {before : PortPast} (may : list_any test all ≡ true → MayWork before manner) where
+  here_may : list_any test (x ∷ rest) ≡ true → MayWork before manner
+  here_may = subst (λ (l : List A). list_any test l ≡ true → MayWork before manner) is may
+
+  pub first_may : test x ≡ true → MayWork before manner
+  first_may first = here_may (ap (λ b. b || list_any test rest) first)
+
+  pub rest_may : {after : PortPast} → after.standing ≡ before.standing → list_any test rest ≡ true → MayWork after manner
+  rest_may same others = may_on (here_may (ap (λ b. test x || b) others ∙ or-true (test x))) same
+
 pub part_fetches : (is_target : Bool) → IsPartOfFetch (part_of is_target)
 part_fetches true = tt
 part_fetches false = tt
 
-module _ {before now : PortPast} {manner : Manner} {whole : Dialog (Result (List Rows) Refusal)} (shapes : List TableTree) (level : Level) (images : List Rows) where
+-- the rows that are given are copied, or memory is wanting for it
+pub table_given : {now : PortPast} {manner : Manner} (rows : Rows) (result : Result (Vec Row Global) Refusal) → IfOk result (λ copies. copies.items ≡ rows)
+    → OnErr result (result ≡ Err Memory) → Asks now now manner (with_room Memory (over (Ok rows))) (seen result)
+table_given rows (Ok copies) copied failed = asks_room true _ (asks_over (ap Ok copied))
+table_given rows (Err refusal) copied failed = let is : refusal ≡ Memory = cc in asks_room false _ (asks_over (ap Err is))
+
+module _ {before now : PortPast} {manner : Manner} {whole : Dialog (Result (List Rows) Refusal)} (given : GivenRows) (shapes : List TableTree) (level : Level) (images : List Rows) where
   -- all tables are read
-  pub images_done : (reads : List TableRead) → reads ≡ [] → Leads before now manner whole (images_from shapes level images reads) → Asks before now manner whole (Ok images)
+  pub images_done : (reads : List TableRead) → reads ≡ [] → Leads before now manner whole (images_from given shapes level images reads) → Asks before now manner whole (Ok images)
   unfolding images_from
   images_done [] none leads = leads_to leads (asks_over refl)
   images_done (read ∷ reads) none leads = absurd (cc)
 
-  module _ (all : List TableRead) (read : TableRead) (reads : List TableRead) (is : all ≡ read ∷ reads) (leads : Leads before now manner whole (images_from shapes level images all)) where
-    abbrev this : Leads before now manner whole (images_from shapes level images (read ∷ reads))
-    this = subst (λ (l : List TableRead). Leads before now manner whole (images_from shapes level images l)) is leads
+  module _ (all : List TableRead) (read : TableRead) (reads : List TableRead) (is : all ≡ read ∷ reads) (leads : Leads before now manner whole (images_from given shapes level images all)) where
+    abbrev this : Leads before now manner whole (images_from given shapes level images (read ∷ reads))
+    this = subst (λ (l : List TableRead). Leads before now manner whole (images_from given shapes level images l)) is leads
 
     -- one can't be read
-    pub images_failed : {next : PortPast} (refusal : Refusal) → Asks now next manner (reads_table shapes level read) (Err refusal) → Asks before next manner whole (Err refusal)
+    pub images_failed : {next : PortPast} (refusal : Refusal) → Asks now next manner (reads_table given shapes level read) (Err refusal) → Asks before next manner whole (Err refusal)
     unfolding images_from
-    images_failed refusal was = leads_to this (asks_failed (reads_table shapes level read) (λ rows. with_room Memory (images_from shapes level (images ++ rows ∷ []) reads)) refusal was)
+    images_failed refusal was = leads_to this (asks_failed (reads_table given shapes level read) (λ rows. with_room Memory (images_from given shapes level (images ++ rows ∷ []) reads)) refusal was)
 
     -- one is read, and there is no room for it
-    pub images_full : {next : PortPast} (rows : Rows) → Asks now next manner (reads_table shapes level read) (Ok rows) → Asks before next manner whole (Err Memory)
+    pub images_full : {next : PortPast} (rows : Rows) → Asks now next manner (reads_table given shapes level read) (Ok rows) → Asks before next manner whole (Err Memory)
     unfolding images_from
     images_full rows was =
-        leads_to this (asks_behind (reads_table shapes level read) (λ found. with_room Memory (images_from shapes level (images ++ found ∷ []) reads)) rows (Err Memory) was (asks_room false _ (asks_over refl)))
+        leads_to this (asks_behind (reads_table given shapes level read) (λ found. with_room Memory (images_from given shapes level (images ++ found ∷ []) reads)) rows (Err Memory) was (asks_room false _ (asks_over refl)))
 
     -- one is read
-    pub images_next : {next : PortPast} (rows : Rows) → Asks now next manner (reads_table shapes level read) (Ok rows) → Leads before next manner whole (images_from shapes level (images ++ rows ∷ []) reads)
+    pub images_next : {next : PortPast} (rows : Rows) → Asks now next manner (reads_table given shapes level read) (Ok rows) → Leads before next manner whole (images_from given shapes level (images ++ rows ∷ []) reads)
     unfolding images_from
     images_next rows was =
-        front_room true (λ enough. if enough then images_from shapes level (images ++ rows ∷ []) reads else over (Err Memory))
-        (leads_then (reads_table shapes level read) (on_ok (λ found. with_room Memory (images_from shapes level (images ++ found ∷ []) reads))) this was)
+        front_room true (λ enough. if enough then images_from given shapes level (images ++ rows ∷ []) reads else over (Err Memory))
+        (leads_then (reads_table given shapes level read) (on_ok (λ found. with_room Memory (images_from given shapes level (images ++ found ∷ []) reads))) this was)

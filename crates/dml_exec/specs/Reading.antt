@@ -1,10 +1,11 @@
 -- Own: how the rows of a range are fetched: from its start, and then from behind the last key, until End. A range of one whole key is
 -- one fetch. A range that was answered by so many keys is read no further. The code goes on in a loop; here the rest of the
 -- range is a dialog again.
-use Rattle.std.specs.Prelude.{ℕ, zero, suc, nat_lt, Bool, true, false, if◌then◌else◌, List, [], ◌∷◌, ◌++◌, length, map, Option, Some, None, Result, Ok, Err}
-use Rattle.std.specs.List.{flat_map}
+use Rattle.std.specs.Prelude.{ℕ, zero, suc, codes, is_some, nat_lt, not, Bool, true, false, if◌then◌else◌, List, [], ◌∷◌, ◌++◌, length, map, Option, Some, None, Result, Ok, Err}
+use Rattle.std.specs.List.{flat_map, list_any}
 use Rattle.lock_modes.specs.declared.KeyPart.{KeyPart}
 use Rattle.lock_modes.specs.declared.KeyPart.TheVariants.{S, U}
+use Rattle.value_types.specs.Units.{same_units}
 use Rattle.value_types.specs.declared.table_name.TableName.{TableName}
 use Rattle.value_types.specs.declared.value.Value.{Value}
 use Rattle.value_types.specs.declared.value.Value.TheVariants.{Null}
@@ -151,16 +152,55 @@ part_of false = S
 abbrev pub table_fetch : Level → TableRead → Op
 table_fetch level read = Fetch read.0 First Last (hold_at level) (part_of read.1)
 
-unfoldable pub reads_table : List TableTree → Level → TableRead → Dialog (Result Rows Refusal)
-reads_table shapes level read = rows_in (shape_of read.0 shapes) false (table_fetch level read)
+-- the rows of tables that are given, and not fetched
+abbrev pub GivenRows : Type 0
+GivenRows = TableName → Option Rows
+
+abbrev pub none_given : GivenRows
+none_given table = None
+
+-- in a trigger these are the rows that its statement took away and put there
+pub record TriggerRows : Type 0 where
+  pub deleted : Rows
+  pub inserted : Rows
+
+abbrev pub deleted_name : List ℕ
+deleted_name = codes "deleted"
+
+abbrev pub inserted_name : List ℕ
+inserted_name = codes "inserted"
+
+abbrev pub rows_called : List ℕ → TriggerRows → Option Rows
+rows_called name rows = if same_units name inserted_name then Some rows.inserted else if same_units name deleted_name then Some rows.deleted else None
+
+abbrev pub given_of : Option TriggerRows → GivenRows
+given_of None table = None
+given_of (Some rows) table = rows_called table.object rows
+
+abbrev pub unless_given : Option Rows → Dialog (Result Rows Refusal) → Dialog (Result Rows Refusal)
+unless_given None fetched = fetched
+unless_given (Some rows) fetched = with_room Memory (over (Ok rows))
+
+unfoldable pub reads_table : GivenRows → List TableTree → Level → TableRead → Dialog (Result Rows Refusal)
+reads_table given shapes level read = unless_given (given read.0) (rows_in (shape_of read.0 shapes) false (table_fetch level read))
 
 -- tables are read one after another, behind these images
-unfoldable pub images_from : List TableTree → Level → List Rows → List TableRead → Dialog (Result (List Rows) Refusal)
-images_from shapes level images [] = over (Ok images)
-images_from shapes level images (read ∷ reads) = do
-  rows ← reads_table shapes level read
-  with_room Memory (images_from shapes level (images ++ rows ∷ []) reads)
+unfoldable pub images_from : GivenRows → List TableTree → Level → List Rows → List TableRead → Dialog (Result (List Rows) Refusal)
+images_from given shapes level images [] = over (Ok images)
+images_from given shapes level images (read ∷ reads) = do
+  rows ← reads_table given shapes level read
+  with_room Memory (images_from given shapes level (images ++ rows ∷ []) reads)
 
 -- the images that a statement is answered or planned on
-unfoldable pub images_of : List TableTree → Level → Bound → Dialog (Result (List Rows) Refusal)
-images_of shapes level of = with_room Memory (images_from shapes level [] (reads_of of))
+unfoldable pub images_of : GivenRows → List TableTree → Level → Bound → Dialog (Result (List Rows) Refusal)
+images_of given shapes level of = with_room Memory (images_from given shapes level [] (reads_of of))
+
+-- ---- whether anything is asked
+
+-- a table is fetched, and not given
+abbrev pub is_fetched : GivenRows → TableRead → Bool
+is_fetched given read = not (is_some (given read.0))
+
+-- one of those that are read for a statement is
+abbrev pub fetches_any : GivenRows → Bound → Bool
+fetches_any given of = list_any (is_fetched given) (reads_of of)

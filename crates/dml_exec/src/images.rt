@@ -1,22 +1,56 @@
 //! The images that a statement is answered or planned on.
 
-ghost use Rattle.std.specs.Prelude.{◌≡◌, ◌++◌, [], ◌∷◌, IfOk, IsTrue, true};
+ghost use Rattle.std.specs.Prelude.{◌≡◌, ◌++◌, [], ◌∷◌, IfOk, IsTrue, OnErr, Err, true, false, not, is_some, option_map};
+ghost use Rattle.std.specs.List.{list_any};
 ghost use Rattle.step_model.specs.Dialog.{Asks};
+ghost use Rattle.constraint_check.specs.Reads as find;
 ghost use Rattle.dml_exec.specs.Asking.{MayWork, seen};
 ghost use Rattle.dml_exec.specs.Reading as spec;
 
 use crate::ranges::{read_range, shape_of};
 use crate::refusal::{Level, Refusal};
-use bound_tree::{Bound, BoundQuery, BoundRows, BoundWrite, Image, InnerQuery};
+use bound_tree::{Bound, BoundQuery, BoundRows, BoundWrite, Image, InnerQuery, Reference};
 use lock_modes::KeyPart;
 use query_eval::tables_read;
 use std::alloc::Global;
+use std::marker::Model;
 use step_model::{Hold, Manner, Op, Port, Start, Stop};
 use tsql_tree::TableTree;
 use value_types::{Memory, Row, TableName};
 
+/// The rows of the tables of a trigger, which are not fetched.
+pub struct GivenTables<'g> {
+    /// Those of `deleted`.
+    pub deleted: &'g Image,
+    /// Those of `inserted`.
+    pub inserted: &'g Image,
+}
+
+impl<'g> Model for GivenTables<'g> {
+    ghost use Rattle.dml_exec.specs.Reading.{TriggerRows};
+
+    ghost Value = { TriggerRows };
+
+    ghost view = { λ given. record { deleted = given.deleted.now; inserted = given.inserted.now } };
+}
+
+impl<'g> GivenTables<'g> {
+    /// The rows of a table, if they are given.
+    fn rows_of(&self, table: &TableName) -> Option<&'g Image>
+        ensures { option_map (λ rows. rows.now) result ≡ spec.rows_called table.now.object self.now }
+    {
+        if table.object.is("inserted") {
+            Some(self.inserted)
+        } else if table.object.is("deleted") {
+            Some(self.deleted)
+        } else {
+            None
+        }
+    }
+}
+
 /// Reads the images of a statement: of the references of its inner queries, then of its own, then of the target of UPDATE or
-/// DELETE. `shapes` are the tables that it names.
+/// DELETE. `shapes` are the tables that it names. Where all are given nothing is asked.
 ///
 /// # Errors
 ///
@@ -25,16 +59,17 @@ pub fn read_images<P: Port>(
     alloc: Global,
     of: &Bound,
     shapes: &[TableTree],
+    given: Option<&GivenTables<'_>>,
     level: Level,
     manner: Manner,
     port: &mut P,
 ) -> Result<Vec<Image>, Refusal>
-    requires may { MayWork (P.past port.old) manner }
-    ensures asks { Asks (P.past port.old) (P.past port.new) manner (spec.images_of shapes.now level of.now) (seen result) }
+    requires may { spec.fetches_any (spec.given_of (option_map (λ tables. tables.now) given)) of.now ≡ true → MayWork (P.past port.old) manner }
+    ensures asks { Asks (P.past port.old) (P.past port.new) manner (spec.images_of (spec.given_of (option_map (λ tables. tables.now) given.entry)) shapes.now level of.now) (seen result) }
     ensures standing { (P.past port.new).standing ≡ (P.past port.old).standing }
 {
     match reads_of(alloc, of) {
-        Ok(reads) => read_all(alloc, reads, shapes, level, manner, port),
+        Ok(reads) => read_all(alloc, reads, shapes, given, level, manner, port),
         Err(_) => Err(Refusal::Memory),
     }
 }
@@ -44,17 +79,18 @@ fn read_all<P: Port>(
     alloc: Global,
     reads: Vec<(TableName, bool)>,
     shapes: &[TableTree],
+    given: Option<&GivenTables<'_>>,
     level: Level,
     manner: Manner,
     port: &mut P,
 ) -> Result<Vec<Image>, Refusal>
-    requires may { MayWork (P.past port.old) manner }
-    ensures asks { Asks (P.past port.old) (P.past port.new) manner (spec.images_from shapes.now level [] reads.items) (seen result) }
+    requires may { list_any (spec.is_fetched (spec.given_of (option_map (λ tables. tables.now) given))) reads.items ≡ true → MayWork (P.past port.old) manner }
+    ensures asks { Asks (P.past port.old) (P.past port.new) manner (spec.images_from (spec.given_of (option_map (λ tables. tables.now) given.entry)) shapes.now level [] reads.items) (seen result) }
     ensures standing { (P.past port.new).standing ≡ (P.past port.old).standing }
 {
     let mut images = Vec::new(alloc);
     for read in reads {
-        let rows = read_table(alloc, read, shapes, level, manner, port)?;
+        let rows = read_table(alloc, read, shapes, given, level, manner, port)?;
         if !add(&mut images, rows) {
             return Err(Refusal::Memory);
         }
@@ -74,12 +110,64 @@ fn read_table<P: Port>(
     alloc: Global,
     read: (TableName, bool),
     shapes: &[TableTree],
+    given: Option<&GivenTables<'_>>,
+    level: Level,
+    manner: Manner,
+    port: &mut P,
+) -> Result<Vec<Row>, Refusal>
+    requires may { spec.is_fetched (spec.given_of (option_map (λ tables. tables.now) given)) read ≡ true → MayWork (P.past port.old) manner }
+    ensures asks { Asks (P.past port.old) (P.past port.new) manner (spec.reads_table (spec.given_of (option_map (λ tables. tables.now) given.entry)) shapes.now level read) (seen result) }
+    ensures standing { (P.past port.new).standing ≡ (P.past port.old).standing }
+{
+    match rows_given(&read.0, given) {
+        Some(rows) => copy_given(alloc, rows.as_slice()),
+        None => fetch_table(alloc, read, shapes, level, manner, port),
+    }
+}
+
+/// The rows of a table, if they are given.
+fn rows_given<'g>(table: &TableName, given: Option<&GivenTables<'g>>) -> Option<&'g Image>
+    ensures { option_map (λ rows. rows.now) result ≡ spec.given_of (option_map (λ tables. tables.now) given.entry) table.now }
+{
+    match given {
+        Some(tables) => tables.rows_of(table),
+        None => None,
+    }
+}
+
+/// A copy of rows that are given, if there is memory for it.
+fn copy_given(alloc: Global, rows: &[Row]) -> Result<Vec<Row>, Refusal>
+    ensures copied { IfOk result (λ copies. copies.items ≡ rows.now) }
+    ensures err { OnErr result (result ≡ Err Refusal.Memory) }
+{
+    match copied(alloc, rows) {
+        Ok(copies) => Ok(copies),
+        Err(_) => Err(Refusal::Memory),
+    }
+}
+
+/// A copy of rows.
+fn copied(alloc: Global, rows: &[Row]) -> Result<Vec<Row>, Memory>
+    ensures { IfOk result (λ copies. copies.items ≡ rows.now) }
+{
+    let mut copies = Vec::with_capacity(alloc, rows.len())?;
+    for row in rows {
+        copies.push(row.copy(alloc)?)?;
+    }
+    Ok(copies)
+}
+
+/// Fetches a whole table.
+fn fetch_table<P: Port>(
+    alloc: Global,
+    read: (TableName, bool),
+    shapes: &[TableTree],
     level: Level,
     manner: Manner,
     port: &mut P,
 ) -> Result<Vec<Row>, Refusal>
     requires may { MayWork (P.past port.old) manner }
-    ensures asks { Asks (P.past port.old) (P.past port.new) manner (spec.reads_table shapes.now level read) (seen result) }
+    ensures asks { Asks (P.past port.old) (P.past port.new) manner (spec.rows_in (find.shape_of read.0 shapes.now) false (spec.table_fetch level read)) (seen result) }
     ensures standing { (P.past port.new).standing ≡ (P.past port.old).standing }
 {
     let shape = shape_of(&read.0, shapes);
@@ -115,6 +203,83 @@ fn hold_at(level: Level) -> Hold
         Level::ReadCommitted => Hold::Row,
         Level::Serializable => Hold::Range,
     }
+}
+
+/// Whether a table is fetched for a statement, and not given.
+pub fn fetches_any(of: &Bound, given: Option<&GivenTables<'_>>) -> bool
+    ensures { result ≡ spec.fetches_any (spec.given_of (option_map (λ tables. tables.now) given.entry)) of.now }
+{
+    match of {
+        Bound::Query(query) => fetches_in(query, given),
+        Bound::Assign(query, _) => fetches_in(query, given),
+        Bound::Write(write) => fetches_for(write, given),
+        Bound::Plain => false,
+    }
+}
+
+/// Whether one is fetched for a write.
+fn fetches_for(write: &BoundWrite, given: Option<&GivenTables<'_>>) -> bool
+    ensures { result ≡ list_any (spec.is_fetched (spec.given_of (option_map (λ tables. tables.now) given.entry))) (spec.write_reads write.now) }
+{
+    match write {
+        BoundWrite::Insert { rows, .. } => fetches_of(rows, given),
+        BoundWrite::Update { table, inner, .. } => {
+            fetches_within(inner.as_slice(), given) || is_fetched(table, given)
+        }
+        BoundWrite::Delete { table, inner, .. } => {
+            fetches_within(inner.as_slice(), given) || is_fetched(table, given)
+        }
+    }
+}
+
+/// Whether one is fetched for the rows of an INSERT.
+fn fetches_of(rows: &BoundRows, given: Option<&GivenTables<'_>>) -> bool
+    ensures { result ≡ list_any (spec.is_fetched (spec.given_of (option_map (λ tables. tables.now) given.entry))) (spec.rows_reads rows.now) }
+{
+    match rows {
+        BoundRows::Values(_, inner) => fetches_within(inner.as_slice(), given),
+        BoundRows::Query(query) => fetches_in(query, given),
+    }
+}
+
+/// Whether one is fetched for a query. It recurses as deep as inner queries nest.
+#[cycle(fetching)]
+fn fetches_in(query: &BoundQuery, given: Option<&GivenTables<'_>>) -> bool
+    ensures { result ≡ list_any (spec.is_fetched (spec.given_of (option_map (λ tables. tables.now) given.entry))) (spec.query_reads query.now) }
+{
+    fetches_within(query.inner.as_slice(), given) || fetches_own(query.refs.as_slice(), given)
+}
+
+/// Whether one is fetched for inner queries.
+#[cycle(fetching)]
+fn fetches_within(inner: &[InnerQuery], given: Option<&GivenTables<'_>>) -> bool
+    ensures { result ≡ list_any (spec.is_fetched (spec.given_of (option_map (λ tables. tables.now) given.entry))) (spec.inner_reads inner.now) }
+{
+    for of in inner {
+        if fetches_in(&of.query, given) {
+            return true;
+        }
+    }
+    false
+}
+
+/// Whether one of references is fetched.
+fn fetches_own(refs: &[Reference], given: Option<&GivenTables<'_>>) -> bool
+    ensures { result ≡ list_any (λ ref. spec.is_fetched (spec.given_of (option_map (λ tables. tables.now) given.entry)) (spec.shared ref.table)) refs.now }
+{
+    for reference in refs {
+        if is_fetched(&reference.table, given) {
+            return true;
+        }
+    }
+    false
+}
+
+/// Whether a table is fetched.
+fn is_fetched(table: &TableName, given: Option<&GivenTables<'_>>) -> bool
+    ensures { result ≡ not (is_some (spec.given_of (option_map (λ tables. tables.now) given.entry) table.now)) }
+{
+    rows_given(table, given).is_none()
 }
 
 /// The tables that are read for a statement, those of inner queries first.

@@ -13,7 +13,7 @@ use tsql_tree::{ColumnTree, TableTree};
 use value_types::{KEY_LIMIT, Key, Memory, Row, Units, Value};
 
 /// The places of the columns of a table's key.
-pub(crate) fn key_places(alloc: Global, shape: &TableTree) -> Result<Vec<u16>, Memory>
+pub fn key_places(alloc: Global, shape: &TableTree) -> Result<Vec<u16>, Memory>
     ensures { IfOk result (λ places. places.items ≡ scope.key_places (Some shape.now)) }
 {
     match shape.key.as_slice() {
@@ -32,7 +32,7 @@ fn places_in(alloc: Global, columns: &[ColumnTree], names: &[Units]) -> Result<V
 }
 
 /// Whether values at these places are a key.
-pub(crate) fn has_key(places: &[u16]) -> bool
+pub fn has_key(places: &[u16]) -> bool
     ensures { result ≡ spec.has_key places.now }
 {
     1 <= places.len() && places.len() <= KEY_LIMIT

@@ -20,7 +20,8 @@ mod rewritten;
 mod writing;
 mod written;
 
-pub use images::read_images;
+pub use images::{GivenTables, fetches_any, read_images};
+pub use keys::{has_key, key_places};
 pub use planning::{plan_write, rows_told, table_written};
 pub use ranges::shape_of;
 pub use refusal::{Level, Refusal};

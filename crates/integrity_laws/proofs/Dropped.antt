@@ -23,8 +23,8 @@ use Rattle.constraint_check.specs.Reads.{is_erase, rows_table}
 use Rattle.constraint_check.proofs.Behind.{at_is, one_behind, same, same_itself}
 use Rattle.constraint_check.proofs.Lists.{Among, all_more, all_two, among_any}
 use Rattle.dml_exec.specs.Planning.{erased_at}
-use Rattle.batch_meaning.specs.Changing.{refers, with_definition}
-use Rattle.integrity_laws.specs.Laws.{AreErased, AreTables, FirmDropped, UntriggeredDropped}
+use Rattle.batch_meaning.specs.Changing.{refers}
+use Rattle.integrity_laws.specs.Laws.{AreErased, AreTables, FirmDropped, UntriggeredDropped, with_definition}
 use Rattle.integrity_laws.specs.Sound.{DefinesOne, HasParentTable, HasParentTables, HasTable, IsDefined, IsKnown, IsTableOf, Keeps, Firm}
 use Rattle.integrity_laws.proofs.Defined.{defined_by, names_apart, not_objects, not_same, one_name}
 use Rattle.integrity_laws.proofs.Elsewhere.{SameRows, is_table, kept_too, table_is, table_itself, tables_apart, untouched}
@@ -48,10 +48,10 @@ erase_none (Replace row) is = cc
 erase_none (Insert row) is = cc
 
 module _ (name : List ℕ) where
-  abbrev Of : List Planned → Type 0
+  abbrev pub Of : List Planned → Type 0
   Of changes = AllByRecursion (λ change. change.table ≡ rows_table name) changes
 
-  abbrev Erases : List Planned → Type 0
+  abbrev pub Erases : List Planned → Type 0
   Erases changes = AllByRecursion (λ change. is_erase change.deed ≡ true) changes
 
   step : (change : Planned) (db : Database) (key : List Value) (b : Bool) → change.table ≡ rows_table name → same change.key key ≡ b
@@ -68,7 +68,7 @@ module _ (name : List ℕ) where
       by_test false apart = step change db key false of.0 apart ∙ none
 
   -- where one is erased none is
-  none_left : (changes : List Planned) → Of changes → Erases changes → (db : Database) (key : List Value) → Among (λ change. same change.key key ≡ true) changes → behind db changes (rows_table name) key ≡ None
+  pub none_left : (changes : List Planned) → Of changes → Erases changes → (db : Database) (key : List Value) → Among (λ change. same change.key key ≡ true) changes → behind db changes (rows_table name) key ≡ None
   none_left [] of erases db key none = absurd none
   none_left (change ∷ changes) of erases db key (inl at) = none_still changes of.1 erases.1 (with_change db (change_of change)) key (step change db key true of.0 at ∙ erase_none change.deed erases.0)
   none_left (change ∷ changes) of erases db key (inr later) = none_left changes of.1 erases.1 (with_change db (change_of change)) key later

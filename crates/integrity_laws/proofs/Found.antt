@@ -19,7 +19,8 @@ use Rattle.constraint_check.proofs.Lists.{Among, among_any, among_both, among_le
 use Rattle.batch_meaning.specs.Asking.{with_found}
 use Rattle.write_laws.proofs.Changes.{all_both}
 use Rattle.integrity_laws.specs.Sound.{IsDefined, IsTableOf, Firm}
-use Rattle.integrity_laws.specs.Found.{Entry, FoundDefined, FoundTables, ReadAs}
+use Rattle.integrity_laws.specs.Found.{Entry, FoundDefined, FoundDefinitions, FoundTables, ReadAs}
+use Rattle.integrity_laws.specs.Laws.{IsAmong}
 use Rattle.integrity_laws.proofs.Defined.{not_same, one_name, one_table, one_thing}
 
 -- ---- one row
@@ -136,21 +137,34 @@ module _ (db : Database) (entries : List Entry) (all : List Definition) (firm : 
   are_tables : AllByRecursion (IsTableOf db) (tables_of all)
   are_tables = tables_defined db firm all (all_defined db firm entries [] all stand tt read)
 
-  -- the row of a table that is defined is among those that were read
-  said : (shape : TableTree) → IsTableOf db shape → Among (IsSaid (Table shape)) entries
-  said shape is =
-      among_more (λ at. (db (rows_table objects_name) at.0 ≡ Some at.1) × (same_key (object_key shape.name) at.0 ≡ true)) (IsSaid (Table shape)) one entries
-      (among_both (λ at. db (rows_table objects_name) at.0 ≡ Some at.1) (λ at. same_key (object_key shape.name) at.0 ≡ true) entries stand
-      (among_any (λ (at : Entry). same_key (object_key shape.name) at.0) entries (image.whole (object_key shape.name) refl (subst (λ (o : Option (List Value)). IsSome o) (sym is.1) refl))))
+  -- the row of what is defined is among those that were read
+  said : (name : List ℕ) (definition : Definition) → IsDefined db name definition → Among (IsSaid definition) entries
+  said name definition is =
+      among_more (λ at. (db (rows_table objects_name) at.0 ≡ Some at.1) × (same_key (object_key name) at.0 ≡ true)) (IsSaid definition) one entries
+      (among_both (λ at. db (rows_table objects_name) at.0 ≡ Some at.1) (λ at. same_key (object_key name) at.0 ≡ true) entries stand
+      (among_any (λ (at : Entry). same_key (object_key name) at.0) entries (image.whole (object_key name) refl (subst (λ (o : Option (List Value)). IsSome o) (sym is.1) refl))))
     where
-      one : (at : Entry) → (db (rows_table objects_name) at.0 ≡ Some at.1) × (same_key (object_key shape.name) at.0 ≡ true) → IsSaid (Table shape) at
+      one : (at : Entry) → (db (rows_table objects_name) at.0 ≡ Some at.1) × (same_key (object_key name) at.0 ≡ true) → IsSaid definition at
       one at h =
-          let both : Some is.0 ≡ Some at.1 = sym is.1 ∙ firm.one_key (rows_table objects_name) (object_key shape.name) at.0 h.1 ∙ h.0 in
+          let both : Some is.0 ≡ Some at.1 = sym is.1 ∙ firm.one_key (rows_table objects_name) (object_key name) at.0 h.1 ∙ h.0 in
           let rows : is.0 ≡ at.1 = cc in
-          (shape.name, subst (λ (row : List Value). IsDefinitionOf shape.name row (Some (Table shape))) rows is.2)
+          (name, subst (λ (row : List Value). IsDefinitionOf name row (Some definition)) rows is.2)
+
+is_among : (definition : Definition) (list : List Definition) → Among (λ of. of ≡ definition) list → IsAmong definition list
+is_among definition [] none = none
+is_among definition (of ∷ rest) (inl here) = inl here
+is_among definition (of ∷ rest) (inr later) = inr (is_among definition rest later)
 
 pub found_tables : FoundTables
 found_tables db entries all firm image read = record {
   defined = are_tables db entries all firm image read;
-  found = λ shape is. found_of db firm (tables_of all) shape (are_tables db entries all firm image read) is (among_tables shape all (all_found (Table shape) entries [] all read (said db entries all firm image read shape is)));
+  found = λ shape is. found_of db firm (tables_of all) shape (are_tables db entries all firm image read) is
+      (among_tables shape all (all_found (Table shape) entries [] all read (said db entries all firm image read shape.name (Table shape) is)));
+}
+
+pub found_definitions : FoundDefinitions
+found_definitions db entries all firm image read = record {
+  tables = found_tables db entries all firm image read;
+  defined = all_defined db firm entries [] all (stand db entries all firm image read) tt read;
+  found = λ name definition is. is_among definition all (all_found definition entries [] all read (said db entries all firm image read name definition is));
 }

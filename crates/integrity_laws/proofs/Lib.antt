@@ -9,6 +9,8 @@ pub mod Dropped  -- all rows of a table, and its definition, less
 pub mod Found  -- definitions that are read
 pub mod Plans  -- a plan as the changes of rows
 pub mod Writes  -- what a write plans
+pub mod Puts  -- where a procedure or trigger is put
+pub mod Erased  -- where one is erased
 pub mod Drops  -- what DROP TABLE plans
 pub mod Bound  -- a table whose CREATE TABLE is bound
 pub mod Whole  -- what statements keep is all that is to be kept

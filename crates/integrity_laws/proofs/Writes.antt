@@ -22,7 +22,7 @@ use Rattle.integrity_laws.specs.Sound.{IsTableOf, Firm}
 use Rattle.integrity_laws.specs.Laws.{AreReady, AreTables, tests_of}
 use Rattle.integrity_laws.specs.Plans.{IsPlanned, PlannedReadable, FirmPlanned, UntriggeredPlanned}
 use Rattle.integrity_laws.proofs.Plans.{IsChg, chg_of, keys_long, made_of}
-use Rattle.integrity_laws.proofs.Written.{of_found, firm_written, tables_ready, tests_bound, untriggered_written}
+use Rattle.integrity_laws.proofs.Written.{firm_written, tables_ready, tests_bound, untriggered_written}
 
 module _ (around : Around) (p : SessionProgress) (db : Database) (named : List TableTree) (of : BoundWrite) (images : List (List Row)) (planned : List Planned) (firm : Firm db) (is : IsPlanned around p db named of images planned) where
   pub plan : IsChg around p named of images planned
@@ -32,7 +32,7 @@ module _ (around : Around) (p : SessionProgress) (db : Database) (named : List T
   shape = plan.0
 
   pub defined : IsTableOf db shape
-  defined = of_found (IsTableOf db) (table_written of) named shape plan.1 is.defined
+  defined = is.defined shape plan.1
 
   pub table_is : table_written of ≡ rows_table shape.name
   table_is = shape_named (table_written of) named shape plan.1

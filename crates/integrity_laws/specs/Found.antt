@@ -1,5 +1,5 @@
 -- Own: the law of definitions that are read. What a row of `objects` is read as is defined; and where all of `objects` is
--- read, the tables among the definitions are exactly those that are defined. A row tells by itself which name it defines,
+-- read, the definitions are exactly those of the database. A row tells by itself which name it defines,
 -- so nothing is asked of the keys at which rows stand: a row may stand at one that compares equal to its name's.
 use Rattle.std.specs.Prelude.{◌≡◌, List, [], ◌∷◌, Option, Some}
 use Rattle.value_types.specs.declared.value.Value.{Value}
@@ -11,7 +11,7 @@ use Rattle.catalog_rows.specs.Definitions.{IsDefinitionIn, defined_name, objects
 use Rattle.constraint_check.specs.Reads.{rows_table}
 use Rattle.batch_meaning.specs.Asking.{with_found}
 use Rattle.integrity_laws.specs.Sound.{IsDefined, Firm}
-use Rattle.integrity_laws.specs.Laws.{AreTables}
+use Rattle.integrity_laws.specs.Laws.{AreDefinitions, AreTables}
 
 -- a row with its key
 abbrev pub Entry : Type 0
@@ -29,3 +29,7 @@ FoundDefined = (db : Database) (key row : List Value) (definition : Definition) 
 -- the tables of all rows are those that are defined
 abbrev pub FoundTables : Type 0
 FoundTables = (db : Database) (entries : List Entry) (all : List Definition) → Firm db → In db (rows_table objects_name) First Last entries → ReadAs [] entries all → AreTables db (tables_of all)
+
+-- and so are all that they define
+abbrev pub FoundDefinitions : Type 0
+FoundDefinitions = (db : Database) (entries : List Entry) (all : List Definition) → Firm db → In db (rows_table objects_name) First Last entries → ReadAs [] entries all → AreDefinitions db all

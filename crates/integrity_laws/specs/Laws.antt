@@ -1,10 +1,11 @@
 -- Own: the laws. A firm database is sound. The database without rows is firm, and so is what a firm one becomes by each
--- of the changes that statements make: by a write of a table, by DROP TABLE and by CREATE TABLE. They are facts of maps: nothing
--- is said here of how the changes come about.
-use Rattle.std.specs.Prelude.{◌≡◌, ◌≢◌, ◌≤◌, ◌⊎◌, ℕ, true, false, IsTrue, IsSome, List, [], ◌∷◌, length, Some, None, Ok, Err}
+-- of the changes that statements make: by a write of a table, by DROP TABLE and by CREATE TABLE, and by those of a procedure or trigger. They
+-- are facts of maps: nothing is said here of how the changes come about.
+use Rattle.std.specs.Prelude.{◌≡◌, ◌≢◌, ◌≤◌, ◌⊎◌, ℕ, true, false, IsTrue, IsSome, List, [], ◌∷◌, ◌++◌, length, Some, None, Ok, Err}
 use Rattle.std.specs.List.{AllByRecursion, list_any}
 use Rattle.value_types.specs.declared.value.Value.{Value}
-use Rattle.tsql_tree.specs.declared.definition.Definition.TheVariants.{Table, Trigger}
+use Rattle.tsql_tree.specs.declared.definition.Definition.{Definition}
+use Rattle.tsql_tree.specs.declared.definition.Definition.TheVariants.{Table, Procedure, Trigger}
 use Rattle.tsql_tree.specs.declared.definition.TableTree.{TableTree}
 use Rattle.tsql_tree.specs.declared.definition.TriggerTree.{TriggerTree}
 use Rattle.bound_tree.specs.declared.expr.BoundTest.{BoundTest}
@@ -13,16 +14,16 @@ use Rattle.clause_binder.specs.Scope.{key_places, max_columns}
 use Rattle.binder.specs.Statements.{bind_checks}
 use Rattle.step_model.specs.declared.change.Planned.{Planned}
 use Rattle.step_model.specs.Database.{Database, nothing}
-use Rattle.catalog_rows.specs.Definitions.{Defines, is_objects, object_key, objects_name}
+use Rattle.catalog_rows.specs.Definitions.{Defines, defined_name, is_objects, object_key, objects_name, tables_of}
 use Rattle.catalog_rows.specs.Rows.{same_key}
 use Rattle.constraint_check.specs.Integrity.{AreKept}
 use Rattle.constraint_check.specs.Laws.{behind}
 use Rattle.constraint_check.specs.Reads.{is_erase, rows_table, shape_of}
 use Rattle.write_laws.specs.Laws.{AreOneEach}
-use Rattle.batch_meaning.specs.Changing.{is_referred, with_definition}
+use Rattle.batch_meaning.specs.Changing.{definition_erased, is_referred}
 use Rattle.statement_paths.specs.Paths.{definition_put}
 use Rattle.reading_laws.specs.Reads.{HaveParents, KeysHave}
-use Rattle.integrity_laws.specs.Sound.{HasParentTable, RefersTo, IsDefined, IsTableOf, Sound, Firm}
+use Rattle.integrity_laws.specs.Sound.{HasParentTable, HasTable, RefersTo, IsDefined, IsTableOf, Sound, Firm}
 
 -- ---- tables that are given
 
@@ -78,6 +79,10 @@ FirmWritten = (db : Database) (shapes : List TableTree) (shape : TableTree) (pla
 
 -- ---- DROP TABLE
 
+-- behind the changes its definition is erased
+abbrev pub with_definition : List ℕ → List Planned → List Planned
+with_definition name changes = changes ++ definition_erased name ∷ []
+
 -- Changes of a table erase all its rows, and nothing refers to it but itself.
 pub record AreErased (db : Database) (tables : List TableTree) (shape : TableTree) (changes : List Planned) : Type 0 where
   pub defined : IsTableOf db shape
@@ -111,6 +116,45 @@ pub record IsCreated (db : Database) (name text : List ℕ) (table : TableTree) 
 -- its insertion keeps a database firm
 abbrev pub FirmCreated : Type 0
 FirmCreated = (db : Database) (name text : List ℕ) (table : TableTree) → Firm db → IsCreated db name text table → Firm (behind db (definition_put name text ∷ []))
+
+-- ---- procedures and triggers
+
+-- what is no table may be defined; the table of a trigger is
+abbrev pub CanBeDefined : Database → Definition → Type 0
+CanBeDefined db (Table table) = ⊥
+CanBeDefined db (Procedure procedure) = Unit {0}
+CanBeDefined db (Trigger trigger) = HasTable db trigger.table
+
+-- The text defines such a thing of the name, where nothing is defined.
+pub record IsPut (db : Database) (name text : List ℕ) (definition : Definition) : Type 0 where
+  pub free : db (rows_table objects_name) (object_key name) ≡ None
+  pub defines : Defines name text definition
+  pub other : is_objects name ≡ false
+  pub can : CanBeDefined db definition
+
+-- its insertion keeps a database firm
+abbrev pub FirmPut : Type 0
+FirmPut = (db : Database) (name text : List ℕ) (definition : Definition) → Firm db → IsPut db name text definition → Firm (behind db (definition_put name text ∷ []))
+
+-- no table stands at the name's key
+abbrev pub IsNoTable : Database → List ℕ → Type 0
+IsNoTable db name = (shape : TableTree) → IsTableOf db shape → same_key (object_key name) (object_key shape.name) ≡ false
+
+-- what stands there may be erased
+abbrev pub FirmErased : Type 0
+FirmErased = (db : Database) (name : List ℕ) → Firm db → IsNoTable db name → Firm (behind db (definition_erased name ∷ []))
+
+-- ---- all definitions
+
+abbrev pub IsAmong : Definition → List Definition → Type 0
+IsAmong definition [] = ⊥
+IsAmong definition (of ∷ rest) = (of ≡ definition) ⊎ IsAmong definition rest
+
+-- they are exactly those of the database
+pub record AreDefinitions (db : Database) (definitions : List Definition) : Type 0 where
+  pub tables : AreTables db (tables_of definitions)
+  pub defined : AllByRecursion (λ definition. IsDefined db (defined_name definition) definition) definitions
+  pub found : (name : List ℕ) (definition : Definition) → IsDefined db name definition → IsAmong definition definitions
 
 -- ---- triggers
 

@@ -13,7 +13,7 @@ use Rattle.binder.specs.Names.{form_of}
 use Rattle.session_vars.specs.declared.Variable.{Variable}
 use Rattle.step_model.specs.declared.change.Planned.{Planned}
 use Rattle.step_model.specs.Database.{Database}
-use Rattle.catalog_rows.specs.Definitions.{defined_name}
+use Rattle.catalog_rows.specs.Definitions.{defined_name, tables_of}
 use Rattle.constraint_check.specs.Laws.{Passes, behind}
 use Rattle.constraint_check.specs.Reads.{all_rows, reads_for, shape_of}
 use Rattle.dml_exec.specs.Filling.{Row}
@@ -27,14 +27,14 @@ use Rattle.batch_meaning.specs.Progress.{SessionProgress}
 use Rattle.batch_meaning.specs.Changing.{dropped, planned_over, unless_referred}
 use Rattle.batch_meaning.specs.Selecting.{bound_over}
 use Rattle.integrity_laws.specs.Sound.{IsDefined, IsTableOf, Firm}
-use Rattle.integrity_laws.specs.Laws.{AreTables, CanStand, HasNoTrigger}
+use Rattle.integrity_laws.specs.Laws.{AreDefinitions, AreTables, CanStand, HasNoTrigger}
 
 -- ---- a write
 
--- The changes are planned over tables that are defined, on images whose rows have the columns of the table that is written, with the values of a
--- session as it stands.
+-- The changes are planned, with the values of a session as it stands, on images whose rows have the columns of the table that is written, which is
+-- defined. Other tables that are named may be those of a trigger, which are not.
 pub record IsPlanned (around : Around) (p : SessionProgress) (db : Database) (named : List TableTree) (of : BoundWrite) (images : List (List Row)) (planned : List Planned) : Type 0 where
-  pub defined : AllByRecursion (IsTableOf db) named
+  pub defined : (shape : TableTree) → shape_of (table_written of) named ≡ Some shape → IsTableOf db shape
   pub read : (shape : TableTree) → shape_of (table_written of) named ≡ Some shape → HaveColumns shape (rows_before of images)
   pub plans : planned_over around p named of images ≡ Ok planned
 
@@ -55,26 +55,22 @@ FirmPlanned = (around : Around) (p : SessionProgress) (db : Database) (shapes na
 
 -- ---- DROP TABLE
 
--- All rows of a table were read, to which no other refers; the changes are planned on them.
-pub record IsDropPlanned (around : Around) (p : SessionProgress) (db : Database) (tables : List TableTree) (shape : TableTree) (rows : List Row) (planned : List Planned) : Type 0 where
+-- All rows of a table were read, to which no other refers; the changes are planned on them, and on all definitions.
+pub record IsDropPlanned (around : Around) (p : SessionProgress) (db : Database) (definitions : List Definition) (shape : TableTree) (rows : List Row) (planned : List Planned) : Type 0 where
   pub defined : IsTableOf db shape
   pub read : IsRead db (fits (Some shape)) (all_rows shape.name) rows
-  pub unreferred : unless_referred shape.name tables ≡ Ok tt
-  pub plans : dropped around p shape shape.name (rows ∷ []) ≡ Ok planned
+  pub unreferred : unless_referred shape.name (tables_of definitions) ≡ Ok tt
+  pub plans : dropped around p definitions shape shape.name (rows ∷ []) ≡ Ok planned
 
 -- behind them the database is firm
 abbrev pub FirmDropPlanned : Type 0
-FirmDropPlanned = (around : Around) (p : SessionProgress) (db : Database) (tables : List TableTree) (shape : TableTree) (rows : List Row) (planned : List Planned) → Firm db → AreTables db tables → HasNoTrigger db
-    → IsDropPlanned around p db tables shape rows planned → Firm (behind db planned)
+FirmDropPlanned = (around : Around) (p : SessionProgress) (db : Database) (definitions : List Definition) (shape : TableTree) (rows : List Row) (planned : List Planned) → Firm db → AreDefinitions db definitions
+    → IsDropPlanned around p db definitions shape rows planned → Firm (behind db planned)
 
--- and no trigger is there
+-- where no trigger is, none comes
 abbrev pub UntriggeredPlanned : Type 0
 UntriggeredPlanned = (around : Around) (p : SessionProgress) (db : Database) (named : List TableTree) (of : BoundWrite) (images : List (List Row)) (planned : List Planned) → Firm db → HasNoTrigger db
     → IsPlanned around p db named of images planned → HasNoTrigger (behind db planned)
-
-abbrev pub UntriggeredDropPlanned : Type 0
-UntriggeredDropPlanned = (around : Around) (p : SessionProgress) (db : Database) (tables : List TableTree) (shape : TableTree) (rows : List Row) (planned : List Planned) → Firm db → HasNoTrigger db
-    → IsDropPlanned around p db tables shape rows planned → HasNoTrigger (behind db planned)
 
 -- ---- CREATE TABLE
 

@@ -8,9 +8,9 @@
 //! part of this crate.
 #![tactic(auto)]
 
-ghost use Rattle.integrity_laws.specs.Laws.{KeysSized, FirmCreated, FirmDropped, FirmEmpty, FirmSound, FirmWritten, TablesReady, UntriggeredCreated, UntriggeredDropped, UntriggeredEmpty, UntriggeredWritten};
-ghost use Rattle.integrity_laws.specs.Found.{FoundDefined, FoundTables};
-ghost use Rattle.integrity_laws.specs.Plans.{BoundStands, PlannedReadable, FirmDropPlanned, FirmPlanned, UntriggeredDropPlanned, UntriggeredPlanned};
+ghost use Rattle.integrity_laws.specs.Laws.{KeysSized, FirmCreated, FirmDropped, FirmEmpty, FirmErased, FirmPut, FirmSound, FirmWritten, TablesReady, UntriggeredCreated, UntriggeredDropped, UntriggeredEmpty, UntriggeredWritten};
+ghost use Rattle.integrity_laws.specs.Found.{FoundDefined, FoundDefinitions, FoundTables};
+ghost use Rattle.integrity_laws.specs.Plans.{BoundStands, PlannedReadable, FirmDropPlanned, FirmPlanned, UntriggeredPlanned};
 
 /// What statements keep is all that is to be kept.
 pub fn law_firm_sound()
@@ -40,8 +40,8 @@ pub fn law_firm_written()
     ensures untriggered { UntriggeredWritten }
 {}
 
-/// The erasure of all rows of a table that no other refers to, and of its definition, keeps a database firm in which no
-/// trigger is defined.
+/// The erasure of all rows of a table that no other refers to, and of its definition, keeps a database firm in which it has no
+/// trigger.
 pub fn law_firm_dropped()
     ensures firm { FirmDropped }
     ensures untriggered { UntriggeredDropped }
@@ -53,11 +53,23 @@ pub fn law_firm_created()
     ensures untriggered { UntriggeredCreated }
 {}
 
-/// What a row of `objects` is read as is defined; and the tables among the definitions of all its rows are exactly those
-/// that are defined, at whichever keys they stand.
+/// The insertion of a procedure's definition where nothing of its name is keeps a database firm, and so does that of a trigger
+/// whose table is defined.
+pub fn law_firm_put()
+    ensures { FirmPut }
+{}
+
+/// The erasure of what is defined as no table keeps a database firm.
+pub fn law_firm_erased()
+    ensures { FirmErased }
+{}
+
+/// What a row of `objects` is read as is defined; and the definitions of all its rows are exactly those of the database, at
+/// whichever keys they stand.
 pub fn law_found()
     ensures defined { FoundDefined }
     ensures tables { FoundTables }
+    ensures definitions { FoundDefinitions }
 {}
 
 /// Behind what a write plans in a firm database rows can be read for its checks.
@@ -71,11 +83,9 @@ pub fn law_firm_planned()
     ensures untriggered { UntriggeredPlanned }
 {}
 
-/// What DROP TABLE plans on all rows of a table that no other refers to keeps a database firm in which no trigger is
-/// defined.
+/// What DROP TABLE plans on all rows of a table that no other refers to keeps a database firm: its triggers go with it.
 pub fn law_firm_drop_planned()
-    ensures firm { FirmDropPlanned }
-    ensures untriggered { UntriggeredDropPlanned }
+    ensures { FirmDropPlanned }
 {}
 
 /// A table whose CREATE TABLE is bound over definitions of a firm database can stand there.

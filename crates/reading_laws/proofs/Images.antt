@@ -24,9 +24,9 @@ use Rattle.dml_exec.specs.declared.refusal.Level.TheVariants.{Serializable}
 use Rattle.dml_exec.specs.declared.refusal.Refusal.{Refusal}
 use Rattle.dml_exec.specs.declared.refusal.Refusal.TheVariants.{Memory}
 use Rattle.dml_exec.specs.Asking.{with_room}
-use Rattle.dml_exec.specs.Reading.{TableRead, behind_gone, fetches, fits, from, images_from, images_of, is_short, key_width, part_of, read_by, reads_of, reads_on, reads_table, rows_from, rows_in, table_fetch}
+use Rattle.dml_exec.specs.Reading.{GivenRows, TableRead, behind_gone, fetches, fits, from, images_from, images_of, is_short, key_width, part_of, read_by, reads_of, reads_on, reads_table, rows_from, rows_in, table_fetch, unless_given}
 use Rattle.reading_laws.specs.Laws.{ImagesFetch, ImagesRead}
-use Rattle.reading_laws.specs.Reads.{at_place, key_size, AreImages, HoldsIt, IsFetch, KeysHave, whole_table}
+use Rattle.reading_laws.specs.Reads.{at_place, key_size, AreImages, HoldsIt, IfFetched, IsFetch, IsImageOf, KeysHave, whole_table}
 use Rattle.reading_laws.proofs.Dialogs.{held_ok, held_room}
 use Rattle.reading_laws.proofs.Parts.{AsksOnly, all_asked, answers, asks_ok, asks_room, asks_room_if, one_place}
 use Rattle.reading_laws.proofs.Ranges.{in_fetches, read_in}
@@ -57,59 +57,72 @@ from_asks width keeps (suc left) op so_far =
     on_came rest (more, None) = tt
     on_came rest (more, Some on) = rest on more
 
-table_asks : (shapes : List TableTree) (level : Level) (read : TableRead) → AsksOnly IsFetch (reads_table shapes level read)
-unfolding reads_table rows_in
-table_asks shapes level read = from_asks (key_width (shape_of read.0 shapes)) (fits (shape_of read.0 shapes)) range_limit (table_fetch level read) []
+-- of what is given nothing is
+unless_asks : (P : Op → Type 0) (given : Option Rows) (fetched : Dialog (Result Rows Refusal)) → AsksOnly P fetched → AsksOnly P (unless_given given fetched)
+unless_asks P None fetched only = only
+unless_asks P (Some rows) fetched only = asks_room P Memory (over (Ok rows)) tt
 
-from_images_asks : (shapes : List TableTree) (level : Level) (reads : List TableRead) (images : List Rows) → AsksOnly IsFetch (images_from shapes level images reads)
+table_asks : (given : GivenRows) (shapes : List TableTree) (level : Level) (read : TableRead) → AsksOnly IsFetch (reads_table given shapes level read)
+unfolding reads_table rows_in
+table_asks given shapes level read =
+    unless_asks IsFetch (given read.0) (rows_in (shape_of read.0 shapes) false (table_fetch level read)) (from_asks (key_width (shape_of read.0 shapes)) (fits (shape_of read.0 shapes)) range_limit (table_fetch level read) [])
+
+from_images_asks : (given : GivenRows) (shapes : List TableTree) (level : Level) (reads : List TableRead) (images : List Rows) → AsksOnly IsFetch (images_from given shapes level images reads)
 unfolding images_from
-from_images_asks shapes level [] images = tt
-from_images_asks shapes level (read ∷ reads) images =
-    asks_ok IsFetch (reads_table shapes level read) (λ rows. with_room Memory (images_from shapes level (images ++ rows ∷ []) reads)) (table_asks shapes level read)
-    (λ rows. asks_room IsFetch Memory (images_from shapes level (images ++ rows ∷ []) reads) (from_images_asks shapes level reads (images ++ rows ∷ [])))
+from_images_asks given shapes level [] images = tt
+from_images_asks given shapes level (read ∷ reads) images =
+    asks_ok IsFetch (reads_table given shapes level read) (λ rows. with_room Memory (images_from given shapes level (images ++ rows ∷ []) reads)) (table_asks given shapes level read)
+    (λ rows. asks_room IsFetch Memory (images_from given shapes level (images ++ rows ∷ []) reads) (from_images_asks given shapes level reads (images ++ rows ∷ [])))
 
 pub images_fetch : ImagesFetch
 unfolding images_of
-images_fetch manner shapes level of part result held =
-    all_asked IsFetch manner (images_of shapes level of) part result (asks_room IsFetch Memory (images_from shapes level [] (reads_of of)) (from_images_asks shapes level (reads_of of) [])) held
+images_fetch manner given shapes level of part result held =
+    all_asked IsFetch manner (images_of given shapes level of) part result (asks_room IsFetch Memory (images_from given shapes level [] (reads_of of)) (from_images_asks given shapes level (reads_of of) [])) held
 
 -- ---- at the highest level
 
 abbrev top : List TableTree → TableRead → Dialog (Result Rows Refusal)
 top shapes read = rows_in (shape_of read.0 shapes) false (Fetch read.0 First Last Range (part_of read.1))
 
-table_top : (shapes : List TableTree) (read : TableRead) → AsksOnly HoldsIt (reads_table shapes Serializable read)
+table_top : (given : GivenRows) (shapes : List TableTree) (read : TableRead) → AsksOnly HoldsIt (reads_table given shapes Serializable read)
 unfolding reads_table
-table_top shapes read = in_fetches read.0 Last (part_of read.1) (shape_of read.0 shapes) false First
+table_top given shapes read = unless_asks HoldsIt (given read.0) (top shapes read) (in_fetches read.0 Last (part_of read.1) (shape_of read.0 shapes) false First)
 
-from_top : (shapes : List TableTree) (reads : List TableRead) (images : List Rows) → AsksOnly HoldsIt (images_from shapes Serializable images reads)
+from_top : (given : GivenRows) (shapes : List TableTree) (reads : List TableRead) (images : List Rows) → AsksOnly HoldsIt (images_from given shapes Serializable images reads)
 unfolding images_from
-from_top shapes [] images = tt
-from_top shapes (read ∷ reads) images =
-    asks_ok HoldsIt (reads_table shapes Serializable read) (λ rows. with_room Memory (images_from shapes Serializable (images ++ rows ∷ []) reads)) (table_top shapes read)
-    (λ rows. asks_room HoldsIt Memory (images_from shapes Serializable (images ++ rows ∷ []) reads) (from_top shapes reads (images ++ rows ∷ [])))
+from_top given shapes [] images = tt
+from_top given shapes (read ∷ reads) images =
+    asks_ok HoldsIt (reads_table given shapes Serializable read) (λ rows. with_room Memory (images_from given shapes Serializable (images ++ rows ∷ []) reads)) (table_top given shapes read)
+    (λ rows. asks_room HoldsIt Memory (images_from given shapes Serializable (images ++ rows ∷ []) reads) (from_top given shapes reads (images ++ rows ∷ [])))
 
-module _ (db : Database) (one : KeysAreOne db) (manner : Manner) (shapes : List TableTree) where
+module _ (db : Database) (one : KeysAreOne db) (manner : Manner) (given : GivenRows) (shapes : List TableTree) where
   abbrev Answered : List Exchange → Type 0
   Answered part = AllByRecursion (λ x. AnswersIn db x.op x.reply) part
 
+  -- one of them
+  image_read : (rows_given : Option Rows) (read : TableRead) (rows : Rows) (part : List Exchange) → IfFetched rows_given (KeysHave (key_size shapes read.0) db read.0) → Answered part
+      → Held manner (unless_given rows_given (top shapes read)) part (Ok rows) → IsImageOf rows_given db shapes read.0 rows
+  unfolding Held
+  image_read None read rows part long answered held = read_in db one manner (shape_of read.0 shapes) false (whole_table read.0) (part_of read.1) rows part answered held long tt
+  image_read (Some found) read rows part long answered held = let over_so = held_room manner Memory (over (Ok found)) part rows held in cc
+
   -- behind those that were read so far
-  images_behind : (reads : List TableRead) (so_far images : List Rows) (part : List Exchange) → AllByRecursion (λ read. KeysHave (key_size shapes read.0) db read.0) reads → Answered part
-      → Held manner (images_from shapes Serializable so_far reads) part (Ok images) → (rest : List Rows) × (images ≡ so_far ++ rest) × AreImages db shapes reads rest
+  images_behind : (reads : List TableRead) (so_far images : List Rows) (part : List Exchange) → AllByRecursion (λ read. IfFetched (given read.0) (KeysHave (key_size shapes read.0) db read.0)) reads → Answered part
+      → Held manner (images_from given shapes Serializable so_far reads) part (Ok images) → (rest : List Rows) × (images ≡ so_far ++ rest) × AreImages given db shapes reads rest
   unfolding Held images_from reads_table
   images_behind [] so_far images part long answered held = ([], (let is : images ≡ so_far = cc in is) ∙ sym (append-nil so_far), refl)
   images_behind (read ∷ reads) so_far images part long answered held =
-      let h = held_ok manner (top shapes read) (λ rows. with_room Memory (images_from shapes Serializable (so_far ++ rows ∷ []) reads)) part images held in
+      let h = held_ok manner (unless_given (given read.0) (top shapes read)) (λ rows. with_room Memory (images_from given shapes Serializable (so_far ++ rows ∷ []) reads)) part images held in
       let answered : Answered (h.first ++ h.second) = subst Answered h.parts answered in
-      let here = read_in db one manner (shape_of read.0 shapes) false (whole_table read.0) (part_of read.1) h.came h.first (all_left (λ (x : Exchange). AnswersIn db x.op x.reply) h.first h.second answered) h.held long.0 tt in
+      let here = image_read (given read.0) read h.came h.first long.0 (all_left (λ (x : Exchange). AnswersIn db x.op x.reply) h.first h.second answered) h.held in
       let more = images_behind reads (so_far ++ h.came ∷ []) images h.second long.1 (all_right (λ (x : Exchange). AnswersIn db x.op x.reply) h.first h.second answered)
-      (held_room manner Memory (images_from shapes Serializable (so_far ++ h.came ∷ []) reads) h.second images h.more) in
+      (held_room manner Memory (images_from given shapes Serializable (so_far ++ h.came ∷ []) reads) h.second images h.more) in
       (h.came ∷ more.0, more.1 ∙ append_assoc so_far (h.came ∷ []) more.0, (h.came, more.0, refl, here, more.2))
 
 pub images_read : ImagesRead
 unfolding images_of
-images_read log mine before part later manner shapes of images is holds held long =
-    let asked = held_room manner Memory (images_from shapes Serializable [] (reads_of of)) part images held in
-    let came = images_behind (at_place log before later) (one_place log before later) manner shapes (reads_of of) [] images part long
-    (answers log mine before part later is holds (all_asked HoldsIt manner (images_from shapes Serializable [] (reads_of of)) part (Ok images) (from_top shapes (reads_of of) []) asked)) asked in
-    subst (AreImages (at_place log before later) shapes (reads_of of)) (sym came.1) came.2
+images_read log mine before part later manner given shapes of images is holds held long =
+    let asked = held_room manner Memory (images_from given shapes Serializable [] (reads_of of)) part images held in
+    let came = images_behind (at_place log before later) (one_place log before later) manner given shapes (reads_of of) [] images part long
+    (answers log mine before part later is holds (all_asked HoldsIt manner (images_from given shapes Serializable [] (reads_of of)) part (Ok images) (from_top given shapes (reads_of of) []) asked)) asked in
+    subst (AreImages given (at_place log before later) shapes (reads_of of)) (sym came.1) came.2

@@ -36,12 +36,12 @@ use Rattle.dml_exec.specs.declared.refusal.Level.{Level}
 use Rattle.dml_exec.specs.declared.refusal.Level.TheVariants.{Serializable}
 use Rattle.dml_exec.specs.declared.refusal.Refusal.{Refusal}
 use Rattle.dml_exec.specs.Planning.{Chg, table_written}
-use Rattle.dml_exec.specs.Reading.{fetch_of, fits, images_of, key_width, reads_of, rows_in}
+use Rattle.dml_exec.specs.Reading.{GivenRows, fetch_of, fits, images_of, key_width, reads_of, rows_in}
 use Rattle.dml_exec.specs.Writing.{checks_all, writes}
 use Rattle.step_model.specs.Runs.{Asked, Run, mine_of, opening}
 use Rattle.step_model.specs.State.{Engine}
 use Rattle.reading_laws.specs.Once.{KeyFits, WroteOnce}
-use Rattle.reading_laws.specs.Reads.{at_place, key_size, AllFit, AreImages, AskOnly, HaveParents, HoldsIt, IfOne, IsFetch, IsOneKey, IsRead, IsReadable, KeysHave, RowsFit, Tells, Walks, WereRead}
+use Rattle.reading_laws.specs.Reads.{at_place, key_size, AllFit, AreImages, AskOnly, HaveParents, HoldsIt, IfFetched, IfOne, IsFetch, IsOneKey, IsRead, IsReadable, KeysHave, RowsFit, Tells, Walks, WereRead}
 
 -- a range that was read and held has the rows that the database has there at the transaction's place
 abbrev pub RangeRead : Type 0
@@ -84,14 +84,14 @@ KeyTold = (log : List Logged) (mine before later : List Exchange) (exchange : Ex
 
 -- for images fetches alone are asked
 abbrev pub ImagesFetch : Type 0
-ImagesFetch = (manner : Manner) (shapes : List TableTree) (level : Level) (of : Bound) (part : List Exchange) (result : Result (List Rows) Refusal) → Held manner (images_of shapes level of) part result → AskOnly IsFetch part
+ImagesFetch = (manner : Manner) (given : GivenRows) (shapes : List TableTree) (level : Level) (of : Bound) (part : List Exchange) (result : Result (List Rows) Refusal) → Held manner (images_of given shapes level of) part result → AskOnly IsFetch part
 
--- images that were read at the highest level are those of the database at the transaction's place
+-- images that were read at the highest level are those of the database at the transaction's place, but for what is given
 abbrev pub ImagesRead : Type 0
-ImagesRead = (log : List Logged) (mine before part later : List Exchange) (manner : Manner) (shapes : List TableTree) (of : Bound) (images : List Rows)
-    → mine ≡ before ++ (part ++ later) → ranges_hold log mine → Held manner (images_of shapes Serializable of) part (Ok images)
-    → AllByRecursion (λ read. KeysHave (key_size shapes read.0) (at_place log before later) read.0) (reads_of of)
-    → AreImages (at_place log before later) shapes (reads_of of) images
+ImagesRead = (log : List Logged) (mine before part later : List Exchange) (manner : Manner) (given : GivenRows) (shapes : List TableTree) (of : Bound) (images : List Rows)
+    → mine ≡ before ++ (part ++ later) → ranges_hold log mine → Held manner (images_of given shapes Serializable of) part (Ok images)
+    → AllByRecursion (λ read. IfFetched (given read.0) (KeysHave (key_size shapes read.0) (at_place log before later) read.0)) (reads_of of)
+    → AreImages given (at_place log before later) shapes (reads_of of) images
 
 -- ---- checks
 

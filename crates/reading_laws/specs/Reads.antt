@@ -1,6 +1,6 @@
 -- Own: what was read of a range, in the database that a transaction has at its place in the log. Of one range all fetches
 -- read that same database, since they change nothing.
-use Rattle.std.specs.Prelude.{◌≡◌, ℕ, Bool, true, false, List, [], ◌∷◌, length, map, filter, None, Some, IsTrue, IsSome}
+use Rattle.std.specs.Prelude.{◌≡◌, ℕ, Bool, true, false, List, [], ◌∷◌, length, map, filter, Option, None, Some, IsTrue, IsSome}
 use Rattle.std.specs.List.{AllByRecursion}
 use Rattle.std.specs.List.Sorted.{IsStrictlySortedBy}
 use Rattle.value_types.specs.declared.table_name.TableName.{TableName}
@@ -28,7 +28,7 @@ use Rattle.step_model.specs.Ranges.{Keeps, Rows}
 use Rattle.catalog_rows.specs.Rows.{row_fits}
 use Rattle.constraint_check.specs.Integrity.{Stands}
 use Rattle.constraint_check.specs.Reads.{places_of, rows_table, shape_of}
-use Rattle.dml_exec.specs.Reading.{TableRead, behind_gone, fits}
+use Rattle.dml_exec.specs.Reading.{GivenRows, TableRead, behind_gone, fits}
 use Rattle.dml_exec.specs.Writing.{is_one_key}
 
 -- what the database has at the place of a transaction, of which `later` is left, with its own changes so far
@@ -133,7 +133,17 @@ HaveParents shapes = AllByRecursion (λ shape. AllByRecursion (HasParent shapes 
 abbrev pub whole_table : TableName → KeyRange
 whole_table table = record { table = table; start = First; stop = Last }
 
--- the images of tables that were read are the rows of each that fit
-abbrev pub AreImages : Database → List TableTree → List TableRead → List Rows → Type 0
-AreImages db shapes [] images = images ≡ []
-AreImages db shapes (read ∷ reads) images = (rows : Rows) × (rest : List Rows) × (images ≡ rows ∷ rest) × IsRead db (fits (shape_of read.0 shapes)) (whole_table read.0) rows × AreImages db shapes reads rest
+-- of a table that is fetched this is so; nothing is said of one that is given
+abbrev pub IfFetched : Option Rows → Type 0 → Type 0
+IfFetched None P = P
+IfFetched (Some given) P = Unit {0}
+
+-- the image of a table is its rows that fit, or those that are given
+abbrev pub IsImageOf : Option Rows → Database → List TableTree → TableName → Rows → Type 0
+IsImageOf None db shapes table rows = IsRead db (fits (shape_of table shapes)) (whole_table table) rows
+IsImageOf (Some given) db shapes table rows = rows ≡ given
+
+-- and so each of those that were read for a statement
+abbrev pub AreImages : GivenRows → Database → List TableTree → List TableRead → List Rows → Type 0
+AreImages given db shapes [] images = images ≡ []
+AreImages given db shapes (read ∷ reads) images = (rows : Rows) × (rest : List Rows) × (images ≡ rows ∷ rest) × IsImageOf (given read.0) db shapes read.0 rows × AreImages given db shapes reads rest

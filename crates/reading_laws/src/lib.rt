@@ -31,7 +31,8 @@ pub fn law_walk()
     ensures key { KeyTold }
 {}
 
-/// For images fetches alone are asked; at the highest level they are those of the database at the transaction's place.
+/// For images fetches alone are asked; at the highest level they are those of the database at the transaction's place, but
+/// for what is given.
 pub fn law_images()
     ensures fetch { ImagesFetch }
     ensures read { ImagesRead }

@@ -64,12 +64,12 @@ pub all_firm : (engine : Engine) (seats : List EngineSeat) → All (AgreesSeat e
 all_firm engine seats agree served others place =
     let each : (number : ℕ) → Stands engine number (steps_at number seats) = λ number. stands engine number seats agree served (others number) in
     let fits : (number : ℕ) → Fits number [] engine.log (mine_in (steps_at number seats)) = λ number. (each number).known.0.accords.fits in
-    (history_sound engine.log (λ number. mine_in (steps_at number seats)) (λ number. record {
+    history_sound engine.log (λ number. mine_in (steps_at number seats)) (λ number. record {
       ranges = (fits number).ranges;
       inserts = (fits number).inserts;
       commits = (fits number).commits;
       comes = (each number).known.1;
-    }) fits (λ number. (each number).connections) place).firm
+    }) fits (λ number. (each number).connections) place
 
 -- ---- seats that serve
 

@@ -1,5 +1,5 @@
 -- The tokens of a refused login have bytes.
-use Rattle.std.proofs.Common.{[], ◌∷◌, pos, Some, Result, Ok, Err, IfOk, ◌≡◌, ℤ, sym, subst}
+use Rattle.std.proofs.Common.{[], ◌∷◌, pos, Some, Result, Ok, Err, IfOk, ◌≡◌, ℤ, sym, subst, arith}
 use Rattle.std.specs.declared.alloc.Global.{Global}
 use Rattle.std.specs.declared.vec.Vec.{Vec}
 use Rattle.error_table.specs.declared.action.Action.TheVariants.{Batch}
@@ -15,5 +15,5 @@ use Rattle.session_server.specs.Response.{refusal_tokens}
 
 pub refusal_fits : (number : ℤ) (result : Result (Vec Token Global) Memory) → IfOk result (λ tokens. tokens.items ≡ refusal_tokens number) → IfOk result (λ tokens. FitTokens [] tokens.items)
 refusal_fits number (Ok tokens) is = subst (FitTokens []) (sym is) (fit_both (error_token (raised_at (pos 1) (record { number = number; name = Some [] })) ∷ []) (Finished Done done_error command_none 0 ∷ [])
-    (told_fits Batch command_none (raised_at (pos 1) (record { number = number; name = Some [] }))) (done_fit Done done_error command_none 0) [])
+    (told_fits Done Batch command_none (raised_at (pos 1) (record { number = number; name = Some [] })) (omega arith)) (done_fit Done done_error command_none 0) [])
 refusal_fits number (Err memory) is = tt

@@ -1,10 +1,10 @@
 -- Values as ones of a type, and what is made of them.
-use Rattle.std.proofs.Common.{◌≡◌, ℕ, ℤ, pos, negsuc, if◌then◌else◌, ◌≤◌, ◌<◌, ◌&&◌, Bool, true, false, List, ◌++◌, length, take, length-take, arith, Option, Some, Result, Ok, refl, ap, subst}
+use Rattle.std.proofs.Common.{◌≡◌, ℕ, ℤ, pos, negsuc, if◌then◌else◌, ◌≤◌, ◌<◌, ◌&&◌, Bool, true, false, List, [], ◌∷◌, ◌++◌, length, take, length-take, arith, Option, Some, Result, Ok, refl, ap, subst}
 use Rattle.std.proofs.lemmas.Bool.{le-leb}
 use mir.Syntax.{w32}
 use mir.Val.{SFits}
 use Rattle.value_types.specs.declared.sql_type.SqlType.{SqlType}
-use Rattle.value_types.specs.declared.sql_type.SqlType.TheVariants.{Int, SmallInt}
+use Rattle.value_types.specs.declared.sql_type.SqlType.TheVariants.{Int, NText, SmallInt}
 use Rattle.value_types.specs.declared.value.Value.{Value}
 use Rattle.value_types.specs.declared.value.Value.TheVariants.{Whole}
 use Rattle.convert_rules.specs.declared.fault.ConvertFault.{ConvertFault}
@@ -17,7 +17,7 @@ use Rattle.txn_rules.specs.declared.state.TxnState.{TxnState}
 use Rattle.txn_rules.specs.State.{is_closed, xact_state}
 use Rattle.batch_meaning.specs.declared.raised.Raised.{Raised}
 use Rattle.batch_meaning.specs.Progress.{SessionProgress}
-use Rattle.batch_meaning.specs.Raised.{error_values}
+use Rattle.batch_meaning.specs.Raised.{error_values, procedure_value}
 use Rattle.session_state.specs.Parts.{count_kinds, counts_in, error_kinds}
 
 -- what a cast gives is of the type
@@ -48,9 +48,13 @@ counts_typed p count rows error fetched = (count_of p.txn.count count, (int_of p
 short : (text : List ℕ) → length (take 4000 text) ≤ 4000
 short text = omega (arith, length-take 4000 text)
 
-pub errors_typed : (raised : Raised) → SFits w32 raised.number → raised.class ≤ 255 → raised.state ≤ 255 → SFits w32 raised.line → AreOf error_kinds (error_values (Some raised))
-errors_typed raised number class state line =
-    (int_of raised.number number, (count_of raised.class (omega arith), (count_of raised.state (omega arith), (int_of raised.line line, (short raised.text, (tt, tt))))))
+named : (name : List ℕ) → length name ≤ 128 → IsOf (NText 128) (procedure_value name)
+named [] few = tt
+named (unit ∷ units) few = few
+
+pub errors_typed : (raised : Raised) → SFits w32 raised.number → raised.class ≤ 255 → raised.state ≤ 255 → SFits w32 raised.line → length raised.procedure ≤ 128 → AreOf error_kinds (error_values (Some raised))
+errors_typed raised number class state line name =
+    (int_of raised.number number, (count_of raised.class (omega arith), (count_of raised.state (omega arith), (int_of raised.line line, (short raised.text, (named raised.procedure name, tt))))))
 
 -- both are the values of the session
 pub system_typed : (p : SessionProgress) (caught : Option Raised) → AreOf count_kinds (counts_in p) → AreOf error_kinds (error_values caught) → AreOf system_kinds (counts_in p ++ error_values caught)

@@ -1,5 +1,5 @@
 -- The tokens that are sent have bytes: counts and texts fit their fields.
-use Rattle.std.proofs.Common.{◌≡◌, ℕ, ◌+◌, ◌≤◌, Bool, true, false, List, [], ◌∷◌, ◌++◌, length, take, refl, sym, subst, length-take, arith, if◌then◌else◌}
+use Rattle.std.proofs.Common.{◌≡◌, ℕ, ℤ, ◌≤◌, Bool, true, false, List, [], ◌∷◌, ◌++◌, length, take, refl, sym, subst, length-take, arith, if◌then◌else◌}
 use Rattle.error_table.specs.declared.action.Action.{Action}
 use Rattle.error_table.specs.declared.action.Action.TheVariants.{Statement as EndsStatement, Batch, BatchAndTransaction, Doom}
 use Rattle.tds_tokens.specs.declared.columns.ColumnInfo.{ColumnInfo}
@@ -14,9 +14,9 @@ use Rattle.tds_tokens.specs.Spelling.{columns_after}
 use Rattle.tds_tokens.proofs.Lengths.{length-notice_bytes}
 use Rattle.batch_meaning.specs.declared.raised.Raised.{Raised}
 use Rattle.batch_meaning.specs.Meaning.{told_tokens}
-use Rattle.batch_meaning.specs.Raised.{info_token}
+use Rattle.batch_meaning.specs.Raised.{error_token, info_token}
 use Rattle.session_state.specs.Sendable.{IsFit}
-use Rattle.batch_meaning.specs.Tokens.{descriptor, statement_done, batch_done, transaction_begun, transaction_committed, transaction_rolled_back}
+use Rattle.batch_meaning.specs.Tokens.{descriptor, procedure_done, statement_done, batch_done, transaction_begun, transaction_committed, transaction_rolled_back}
 
 -- ---- one list behind another
 
@@ -34,30 +34,43 @@ fit_none = λ columns. tt
 
 -- ---- errors
 
-short_fits : (notice : Notice) → length notice.text ≤ 2000 → length notice.procedure ≡ 0 → FitsNotice notice
-short_fits notice short none = record {
+-- no name is longer than this
+abbrev HasName : Raised → Type 0
+HasName raised = length raised.procedure ≤ 128
+
+short_fits : (notice : Notice) → length notice.text ≤ 2000 → length notice.procedure ≤ 128 → FitsNotice notice
+short_fits notice short named = record {
   text = omega arith;
   procedure = omega arith;
   whole = omega (arith, length-notice_bytes notice);
 }
 
 -- what is told of an error or a message
-notice_fits : (raised : Raised) → FitsNotice (record { number = raised.number; state = raised.state; class = raised.class; text = take 2000 raised.text; procedure = []; line = raised.line })
-notice_fits raised =
-    short_fits (record { number = raised.number; state = raised.state; class = raised.class; text = take 2000 raised.text; procedure = []; line = raised.line }) (omega (arith, length-take 2000 raised.text)) (omega arith)
+notice_fits : (raised : Raised) → HasName raised → FitsNotice (record { number = raised.number; state = raised.state; class = raised.class; text = take 2000 raised.text; procedure = raised.procedure; line = raised.line })
+notice_fits raised named =
+    short_fits (record { number = raised.number; state = raised.state; class = raised.class; text = take 2000 raised.text; procedure = raised.procedure; line = raised.line }) (omega (arith, length-take 2000 raised.text)) named
 
 -- an error, by what it ends
-pub told_fits : (action : Action) (command : ℕ) (raised : Raised) → IsFit (told_tokens action command raised)
+pub told_fits : (kind : DoneKind) (action : Action) (command : ℕ) (raised : Raised) → HasName raised → IsFit (told_tokens kind action command raised)
 unfolding FitTokens
-told_fits Batch command raised = λ columns. (notice_fits raised, tt)
-told_fits BatchAndTransaction command raised = λ columns. (notice_fits raised, tt)
-told_fits EndsStatement command raised = λ columns. (notice_fits raised, (tt, tt))
-told_fits Doom command raised = λ columns. (notice_fits raised, (tt, tt))
+told_fits kind Batch command raised named = λ columns. (notice_fits raised named, tt)
+told_fits kind BatchAndTransaction command raised named = λ columns. (notice_fits raised named, tt)
+told_fits kind EndsStatement command raised named = λ columns. (notice_fits raised named, (tt, tt))
+told_fits kind Doom command raised named = λ columns. (notice_fits raised named, (tt, tt))
 
 -- a message
-pub info_fits : (raised : Raised) → IsFit (info_token raised ∷ [])
+pub info_fits : (raised : Raised) → HasName raised → IsFit (info_token raised ∷ [])
 unfolding FitTokens
-info_fits raised = λ columns. (notice_fits raised, tt)
+info_fits raised named = λ columns. (notice_fits raised named, tt)
+
+-- the end of a procedure, and an error in front of it
+pub procedure_fits : (status : ℤ) → IsFit (procedure_done status)
+unfolding FitTokens
+procedure_fits status = λ columns. (tt, (tt, tt))
+
+pub error_and_fits : (raised : Raised) (status : ℤ) → HasName raised → IsFit (error_token raised ∷ procedure_done status)
+unfolding FitTokens
+error_and_fits raised status named = λ columns. (notice_fits raised named, (tt, (tt, tt)))
 
 -- a DONE alone
 pub done_fit : (kind : DoneKind) (status command rows : ℕ) → IsFit (Finished kind status command rows ∷ [])
@@ -69,14 +82,14 @@ pub batch_done_fit : (failed : Bool) → IsFit (batch_done failed ∷ [])
 batch_done_fit failed = done_fit Done (if failed then done_error else done_final) command_none 0
 
 -- a statement's end with its count
-pub told_fit : (no_count : Bool) (command rows : ℕ) (columns : List ColumnInfo) → FitTokens columns (statement_done no_count command rows ∷ [])
+pub told_fit : (kind : DoneKind) (no_count : Bool) (command rows : ℕ) (columns : List ColumnInfo) → FitTokens columns (statement_done kind no_count command rows ∷ [])
 unfolding FitTokens
-told_fit true command rows columns = (tt, tt)
-told_fit false command rows columns = (tt, tt)
+told_fit kind true command rows columns = (tt, tt)
+told_fit kind false command rows columns = (tt, tt)
 
 -- so many rows were written
-pub written_fit : (no_count : Bool) (command rows : ℕ) → IsFit (statement_done no_count command rows ∷ [])
-written_fit no_count command rows = λ columns. told_fit no_count command rows columns
+pub written_fit : (kind : DoneKind) (no_count : Bool) (command rows : ℕ) → IsFit (statement_done kind no_count command rows ∷ [])
+written_fit kind no_count command rows = λ columns. told_fit kind no_count command rows columns
 
 -- a transaction's change of environment
 pub env_fits : (kind : ℕ) (fresh former : List ℕ) → env_collation ≤ kind → kind ≤ env_rollback → length fresh ≤ 8 → length former ≤ 8 → IsFit (EnvBytes kind fresh former ∷ [])

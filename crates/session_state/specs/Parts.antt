@@ -1,6 +1,9 @@
 -- Own: what a part of a statement comes to, where it is done in memory alone: what is meant, or memory was wanting.
-use Rattle.std.specs.Prelude.{◌≡◌, ◌⊎◌, ℕ, ℤ, pos, All, List, [], ◌∷◌, Option, None, Some, Result, Ok, Err}
+use Rattle.std.specs.Prelude.{◌≡◌, ◌⊎◌, ℕ, ℤ, pos, Bool, true, false, All, List, [], ◌∷◌, Option, None, Some, Result, Ok, Err}
+use Rattle.error_table.specs.declared.action.Caught.{Caught}
+use Rattle.error_table.specs.declared.action.Caught.TheVariants.{LevelUp}
 use Rattle.value_types.specs.declared.memory.Memory.{Memory}
+use Rattle.value_types.specs.Units.{same_units}
 use Rattle.value_types.specs.declared.value.Value.{Value}
 use Rattle.value_types.specs.declared.sql_type.SqlType.{SqlType}
 use Rattle.value_types.specs.declared.sql_type.SqlType.TheVariants.{Int, NText, SmallInt}
@@ -15,10 +18,10 @@ use Rattle.txn_rules.specs.State.{after_cut, xact_state}
 use Rattle.step_model.specs.Ranges.{no_memory}
 use Rattle.batch_meaning.specs.declared.failure.Failure.{Failure}
 use Rattle.batch_meaning.specs.Failures.{plain, naming}
-use Rattle.batch_meaning.specs.Selecting.{Effect, no_effect}
+use Rattle.batch_meaning.specs.Raised.{Fired}
 use Rattle.batch_meaning.specs.Progress.{SessionProgress, assigns, made}
 use Rattle.batch_meaning.specs.Doing.{Came, Doing}
-use Rattle.batch_meaning.specs.Values.{◌>>=◌, Assigned, return_of}
+use Rattle.batch_meaning.specs.Values.{Assigned}
 
 -- it is what was meant, or memory was wanting
 abbrev pub IsOrMemory : {A : Type 0} → Result A Failure → Result A Failure → Type 0
@@ -53,10 +56,6 @@ abbrev pub IsWhole : Result Value Failure → Result (Option ℤ) Failure → Ty
 IsWhole (Ok value) result = (result ≡ Ok (number_of value)) ⊎ (result ≡ Err (plain no_memory))
 IsWhole (Err failure) result = (result ≡ Err failure) ⊎ (result ≡ Err (plain no_memory))
 
--- what RETURN makes of values
-abbrev pub returned : List Value → Result Effect Failure
-returned values = return_of values >>= λ sets. Ok no_effect
-
 -- ---- variables
 
 -- each value is one of the type of the variable at its place
@@ -79,6 +78,18 @@ count_kinds = Int ∷ Int ∷ Int ∷ Int ∷ SmallInt ∷ []
 
 abbrev pub error_kinds : List SqlType
 error_kinds = Int ∷ Int ∷ Int ∷ Int ∷ NText 4000 ∷ NText 128 ∷ []
+
+-- ---- what stands around
+
+-- it is the trigger of this name
+abbrev pub is_trigger_of : List ℕ → Option Fired → List ℕ → Bool
+is_trigger_of name None procedure = false
+is_trigger_of name (Some fired) procedure = same_units name procedure
+
+-- an error is caught only one level up
+abbrev pub is_level_up : Caught → Bool
+is_level_up LevelUp = true
+is_level_up other = false
 
 -- ---- what is done without the port
 

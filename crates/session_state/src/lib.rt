@@ -10,6 +10,7 @@
 mod around;
 mod effect;
 mod failures;
+mod fired;
 mod numbers;
 mod sendable;
 mod state;
@@ -17,20 +18,22 @@ mod system;
 mod tokens;
 mod values;
 
-pub use around::Around;
+pub use around::{Around, is_for_outside};
 pub use effect::Effect;
 pub use failures::{naming, no_memory, stopped_by, unbound_by, unplanned_by};
+pub use fired::Fired;
 pub use numbers::{
-    CURSOR_OPEN, CURSOR_PRESENT, CURSOR_SHUT, DEADLOCK, DOOMED_AT_END, DOOMED_WRITE, IS_PARENT,
-    LOCK_TIMEOUT, NO_MEMORY, NO_SUCH_CURSOR, NOT_BUILT, NOT_THERE, NOTHING_OPEN, OBJECT_PRESENT,
-    OTHER_COUNT, OUTSIDE_LIMITS, OUTSIDE_PROFILE, RANGE_FULL, RESULT_FULL, STATEMENTS_SPENT,
-    UNKNOWN_TABLE,
+    CURSOR_OPEN, CURSOR_PRESENT, CURSOR_SHUT, DEADLOCK, DOOMED_AT_END, DOOMED_IN_TRIGGER,
+    DOOMED_WRITE, ENDED_IN_TRIGGER, IS_PARENT, LOCK_TIMEOUT, NO_MEMORY, NO_PROCEDURE,
+    NO_SUCH_CURSOR, NOT_THERE, NOTHING_OPEN, OBJECT_PRESENT, OTHER_COUNT, OUTSIDE_LIMITS,
+    OUTSIDE_PROFILE, RANGE_FULL, RESULT_FULL, STATEMENTS_SPENT, TOO_DEEP, UNEVEN, UNKNOWN_TABLE,
 };
 pub use sendable::TokenList;
 pub use state::SessionState;
 pub use system::system_in;
 pub use tokens::{
-    batch_end, command_of, error_of, error_tokens, is_message, messages, raised_at, result_tokens,
-    told_tokens, transaction_begun, transaction_committed, transaction_rolled_back, written_tokens,
+    batch_end, command_of, error_and_done, error_of, error_tokens, is_message, messages,
+    procedure_done, raised_at, raised_in, result_tokens, told_tokens, transaction_begun,
+    transaction_committed, transaction_rolled_back, written_tokens,
 };
-pub use values::{first_row, is_true, made_of, raised_by, rows_assigned, sets_of};
+pub use values::{first_row, is_true, made_of, raised_by, rows_assigned, sets_of, status_of};

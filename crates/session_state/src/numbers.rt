@@ -60,5 +60,17 @@ pub const OUTSIDE_LIMITS: u16 = 49007;
 /// The error of a FETCH into another count of variables than the cursor has columns.
 pub const OTHER_COUNT: u16 = 49012;
 
-/// The error of a text that is not built yet.
-pub const NOT_BUILT: u16 = 49099;
+/// No procedure of that name is there.
+pub const NO_PROCEDURE: u16 = 2812;
+
+/// Procedures and triggers stand too deep in one another.
+pub const TOO_DEEP: u16 = 217;
+
+/// A procedure ended with another count of transactions than it began with.
+pub const UNEVEN: u16 = 266;
+
+/// A trigger has ended the transaction.
+pub const ENDED_IN_TRIGGER: u16 = 3609;
+
+/// A trigger has doomed the transaction.
+pub const DOOMED_IN_TRIGGER: u16 = 3616;

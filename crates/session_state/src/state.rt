@@ -9,7 +9,8 @@ ghost use Rattle.session_vars.specs.Variables.{FitsAt, HasItsType};
 ghost use Rattle.tds_tokens.specs.Fit.{FitTokens};
 ghost use Rattle.txn_rules.specs.State.{commit_answer, count_limit, is_closed, rollback_answer, save_refusal, xact_state};
 ghost use Rattle.batch_meaning.specs.Doing.{Exchanged};
-ghost use Rattle.batch_meaning.specs.Progress.{Ready, first_progress, made, asked, assigns, begins, closes_one, counts, declares, dooms, fetches, fills, is_open_after, opens, removes, saves, sends, sets, shuts, size_of, tells_error, tells_fetch, tells_rows, touched_after, touches, txn_after};
+ghost use Rattle.batch_meaning.specs.Progress.{Ready, first_progress, made, asked, assigns, begins, closes_one, counts, declares, dooms, fetches, fills, fired_from, fires_from, stands_with, unless_ended, is_open_after, opens, removes, saves, sends, sets, shuts, size_of, tells_error, tells_fetch, tells_rows, touched_after, touches, txn_after};
+ghost use Rattle.batch_meaning.specs.Firing.{has_mark};
 ghost use Rattle.batch_meaning.specs.Transactions.{next_serial};
 ghost use Rattle.session_state.specs.Parts.{SetsFit, assigned_all, cut_to};
 ghost use Rattle.session_state.specs.Sendable.{IsFit};
@@ -64,11 +65,13 @@ pub struct SessionState {
     settings: Settings,
     txn: TxnState,
     is_open: bool,
+    is_own: bool,
+    stands: bool,
     touched: bool,
 }
 
 impl Model for SessionState {
-    ghost use Rattle.std.specs.Prelude.{◌≤◌};
+    ghost use Rattle.std.specs.Prelude.{◌≡◌, ◌≤◌, true};
     ghost use Rattle.tsql_tree.specs.contracts.query.Select as select;
     ghost use Rattle.std.specs.Coded.{codes};
     ghost use Rattle.batch_meaning.specs.Progress.{SessionProgress};
@@ -78,9 +81,9 @@ impl Model for SessionState {
 
     ghost coded = { Prim.hlevel (codes, select.the_row.coded) };
 
-    ghost view = { λ s. record { tokens = s.tokens.items; bytes_left = s.bytes_left; statements_left = s.statements_left; vars = s.vars; row_count = s.row_count; error = s.error; fetch_status = s.fetch_status; cursors = s.cursors; settings = s.settings; txn = s.txn; is_open = s.is_open; touched = s.touched } };
+    ghost view = { λ s. record { tokens = s.tokens.items; bytes_left = s.bytes_left; statements_left = s.statements_left; vars = s.vars; row_count = s.row_count; error = s.error; fetch_status = s.fetch_status; cursors = s.cursors; settings = s.settings; txn = s.txn; is_open = s.is_open; is_own = s.is_own; stands = s.stands; touched = s.touched } };
 
-    ghost invariant = { λ s. IsFit s.tokens.items × (s.txn.count ≤ 2147483647) × (s.row_count ≤ 2147483647) };
+    ghost invariant = { λ s. IsFit s.tokens.items × (s.txn.count ≤ 2147483647) × (s.row_count ≤ 2147483647) × (s.stands ≡ true → s.is_open ≡ true) };
 }
 
 impl SessionState {
@@ -100,6 +103,8 @@ impl SessionState {
             settings: FIRST_SETTINGS,
             txn: TxnState::new(alloc),
             is_open: false,
+            is_own: false,
+            stands: false,
             touched: false,
         }
     }
@@ -135,6 +140,8 @@ impl SessionState {
         ensures { self.new ≡ asked op.now reply.now self.old }
     {
         self.is_open = is_open_after(self.is_open, op, reply);
+        self.is_own = unless_ended(self.is_own, reply);
+        self.stands = unless_ended(self.stands, reply);
         self.touched = touched_after(self.touched, op);
         self.note_txn(op, reply);
     }
@@ -165,6 +172,32 @@ impl SessionState {
         ensures { result ≡ self.now.is_open }
     {
         self.is_open
+    }
+
+    /// Whether the open transaction is a statement's own, whose triggers run.
+    pub fn is_own(&self) -> bool
+        ensures { result ≡ self.now.is_own }
+    {
+        self.is_own
+    }
+
+    /// Whether the transaction in which a statement worked whose triggers run still stands.
+    pub fn stands(&self) -> bool
+        ensures stands { result ≡ self.now.stands }
+        ensures begun { result ≡ true → self.now.is_open ≡ true }
+    {
+        self.stands
+    }
+
+    /// Whether the mark of a statement whose triggers run is there.
+    pub fn has_mark(&self, mark: u64) -> bool
+        ensures { result ≡ has_mark mark self.now }
+    {
+        self.txn
+            .saves
+            .as_slice()
+            .iter()
+            .any(|savepoint| savepoint.mark == mark)
     }
 
     /// Whether something was fetched or written since the last Relax.
@@ -234,7 +267,7 @@ impl SessionState {
     }
 
     /// How many transactions are open in one another.
-    pub(crate) fn count(&self) -> u32
+    pub fn count(&self) -> u32
         ensures count { result ≡ self.now.txn.count }
         ensures most { result ≤ 2147483647 }
     {
@@ -442,6 +475,37 @@ impl SessionState {
         }
     }
 
+    /// The variables of a procedure or trigger come in the place of those around it, or those come back.
+    pub fn stand_with(&mut self, vars: Vars) -> Vars
+        ensures made { self.new ≡ made (stands_with vars) self.old }
+        ensures before { result ≡ self.old.vars }
+    {
+        std::mem::replace(&mut self.vars, vars)
+    }
+
+    /// The triggers of a statement with this mark begin to run.
+    pub fn begin_firing(&mut self, alloc: Global, mark: u64) -> Result<(), Memory>
+        requires begun { self.old.is_open ≡ true }
+        ensures fired { IfOk result (λ _. self.new ≡ made (fires_from mark) self.old) }
+        ensures kept { IfErr result (λ _. self.new ≡ self.old) }
+    {
+        let is_own = self.txn.count == 0;
+        self.txn.fire(alloc, mark)?;
+        self.is_own = self.is_own || is_own;
+        self.stands = true;
+        Ok(())
+    }
+
+    /// They have run, where the transaction around stood or didn't.
+    pub fn end_firing(&mut self, mark: u64, stood: bool)
+        ensures { self.new ≡ made (fired_from mark stood) self.old }
+    {
+        if self.stands {
+            self.txn.fired(mark);
+        }
+        self.stands = stood && self.stands;
+    }
+
     /// DECLARE of a cursor keeps its select, unless that is refused.
     pub fn declare_cursor(&mut self, name: Units, select: Select) -> Result<(), CursorFault>
         ensures came { Gives result (list.declare_answer name self.old.cursors) }
@@ -498,6 +562,16 @@ fn is_open_after(before: bool, op: &Op, reply: &Reply) -> bool
 {
     match reply {
         Reply::Began => true,
+        Reply::Ended { .. } => false,
+        _ => before,
+    }
+}
+
+/// What was so before, unless the reply ends a transaction.
+fn unless_ended(before: bool, reply: &Reply) -> bool
+    ensures { result ≡ unless_ended before reply.now }
+{
+    match reply {
         Reply::Ended { .. } => false,
         _ => before,
     }

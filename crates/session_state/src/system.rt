@@ -1,13 +1,14 @@
 //! The values of the session that expressions read.
 
-ghost use Rattle.std.specs.Prelude.{◌≡◌, take, IfOk, Some, None};
+ghost use Rattle.std.specs.Prelude.{◌≡◌, ◌≤◌, length, take, IfOk, Some, None};
 ghost use Rattle.bound_tree.specs.Typed.{AreOf};
 ghost use Rattle.batch_meaning.specs.Progress.{system_in};
-ghost use Rattle.batch_meaning.specs.Raised.{error_values, longest};
+ghost use Rattle.batch_meaning.specs.Raised.{error_values, longest, procedure_value};
 ghost use Rattle.session_state.specs.Parts.{count_kinds, counts_in, error_kinds};
 
 use crate::around::Around;
 use crate::state::SessionState;
+use crate::tokens::procedure_of;
 use batch_meaning::Raised;
 use bound_tree::SystemValues;
 use std::alloc::Global;
@@ -20,7 +21,7 @@ const LONGEST: usize = 4_000;
 pub fn system_in(
     alloc: Global,
     session: &SessionState,
-    around: &Around<'_>,
+    around: &Around<'_, '_>,
 ) -> Result<SystemValues, Memory>
     ensures { IfOk result (λ system. system ≡ system_in around.now session.now) }
 {
@@ -45,7 +46,7 @@ fn counts_in(alloc: Global, session: &SessionState) -> Result<Vec<Value>, Memory
 }
 
 /// The values of the error of the CATCH around.
-fn error_values(alloc: Global, around: &Around<'_>) -> Result<Vec<Value>, Memory>
+fn error_values(alloc: Global, around: &Around<'_, '_>) -> Result<Vec<Value>, Memory>
     ensures errors { IfOk result (λ values. values.items ≡ error_values around.now.caught) }
     ensures typed { IfOk result (λ values. AreOf error_kinds values.items) }
 {
@@ -61,14 +62,28 @@ fn values_of(alloc: Global, raised: &Raised) -> Result<Vec<Value>, Memory>
     ensures typed { IfOk result (λ values. AreOf error_kinds values.items) }
 {
     let text = text_of(alloc, raised)?;
+    let procedure = procedure_value(alloc, raised)?;
     Ok(vec![in alloc;
         Value::Whole(i64::from(raised.number)),
         Value::Whole(i64::from(raised.class)),
         Value::Whole(i64::from(raised.state)),
         Value::Whole(i64::from(raised.line)),
         Value::Text(text),
-        Value::Null,
+        procedure,
     ]?)
+}
+
+/// ERROR_PROCEDURE: the name of the procedure or trigger, or NULL.
+fn procedure_value(alloc: Global, raised: &Raised) -> Result<Value, Memory>
+    ensures value { IfOk result (λ value. value ≡ procedure_value raised.now.procedure) }
+    ensures short { IfOk result (λ _. length raised.now.procedure ≤ 128) }
+{
+    let name = procedure_of(alloc, raised)?;
+    if name.is_empty() {
+        Ok(Value::Null)
+    } else {
+        Ok(Value::Text(name))
+    }
 }
 
 /// Outside of a CATCH there are none.

@@ -1,18 +1,19 @@
 //! The tokens that answer a statement.
 
-ghost use Rattle.std.specs.Prelude.{◌≡◌, ◌++◌, ◌∷◌, ◌<◌, [], All, take, IfOk, Some, pos};
+ghost use Rattle.std.specs.Prelude.{◌≡◌, ◌++◌, ◌∷◌, ◌<◌, ◌≤◌, [], All, length, take, IfOk, Some, pos};
 ghost use Rattle.error_table.specs.Text.{text_with};
 ghost use Rattle.tsql_tree.specs.declared.statement.Form.{out-Form};
 ghost use Rattle.session_state.specs.Sendable.{IsResult};
 ghost use Rattle.batch_meaning.specs.Meaning.{told_tokens};
-ghost use Rattle.batch_meaning.specs.Raised.{error_token, named, raised_at};
+ghost use Rattle.batch_meaning.specs.Raised.{error_token, named, raised_at, raised_in};
 ghost use Rattle.batch_meaning.specs.Selecting.{messages};
-ghost use Rattle.batch_meaning.specs.Tokens.{batch_done, command_of, descriptor, result_tokens, row_tokens, statement_done, statement_failed, transaction_begun, transaction_committed, transaction_rolled_back};
+ghost use Rattle.batch_meaning.specs.Tokens.{batch_done, command_of, descriptor, procedure_done, result_tokens, row_tokens, statement_done, statement_failed, transaction_begun, transaction_committed, transaction_rolled_back};
 ghost use Rattle.batch_meaning.specs.Values.{is_message};
 
 use crate::sendable::TokenList;
 use batch_meaning::{Failure, Raised};
 use error_table::{Action, RaisedBy, parts_of, row_of};
+use sqlite_items::Boxed;
 use std::alloc::Global;
 use tds_tokens::{
     Bytes, COMMAND_DELETE, COMMAND_INSERT, COMMAND_NONE, COMMAND_SELECT, COMMAND_UPDATE,
@@ -22,31 +23,36 @@ use tds_tokens::{
 use tsql_tree::Form;
 use value_types::{Memory, Row, Units};
 
+/// How many units the name of a procedure or trigger has at most.
+const LONGEST_NAME: usize = 128;
+
 // ---- what a statement sends
 
 /// A result: its columns, its rows and their count.
 pub fn result_tokens(
     alloc: Global,
+    kind: DoneKind,
     no_count: bool,
     columns: ColumnList,
     rows: Vec<Row>,
 ) -> Result<TokenList, Memory>
-    requires fit { IsResult no_count columns rows.items }
-    ensures { IfOk result (λ tokens. tokens ≡ result_tokens no_count columns rows.items) }
+    requires fit { IsResult kind no_count columns rows.items }
+    ensures { IfOk result (λ tokens. tokens ≡ result_tokens kind no_count columns rows.items) }
 {
-    Ok(TokenList::new(tokens_of(alloc, no_count, columns, rows)?))
+    Ok(TokenList::new(tokens_of(alloc, kind, no_count, columns, rows)?))
 }
 
 /// The same as tokens alone.
 fn tokens_of(
     alloc: Global,
+    kind: DoneKind,
     no_count: bool,
     columns: ColumnList,
     rows: Vec<Row>,
 ) -> Result<Vec<Token>, Memory>
-    ensures { IfOk result (λ tokens. tokens.items ≡ result_tokens no_count columns rows.items) }
+    ensures { IfOk result (λ tokens. tokens.items ≡ result_tokens kind no_count columns rows.items) }
 {
-    let ended = statement_done(no_count, COMMAND_SELECT, rows.len() as u64);
+    let ended = statement_done(kind, no_count, COMMAND_SELECT, rows.len() as u64);
     let mut tokens = vec![in alloc; Token::Columns(columns)]?;
     push_rows(&mut tokens, rows)?;
     tokens.push(ended)?;
@@ -67,33 +73,34 @@ fn push_rows(tokens: &mut Vec<Token>, rows: Vec<Row>) -> Result<(), Memory>
 /// So many rows were written.
 pub fn written_tokens(
     alloc: Global,
+    kind: DoneKind,
     no_count: bool,
     command: u16,
     rows: u64,
 ) -> Result<TokenList, Memory>
-    ensures { IfOk result (λ tokens. tokens ≡ statement_done no_count command rows ∷ []) }
+    ensures { IfOk result (λ tokens. tokens ≡ statement_done kind no_count command rows ∷ []) }
 {
-    Ok(TokenList::new(vec![in alloc; statement_done(no_count, command, rows)]?))
+    Ok(TokenList::new(vec![in alloc; statement_done(kind, no_count, command, rows)]?))
 }
 
 // ---- DONE
 
 /// The end of a statement of a command, where more follows, with its count unless none is told.
-fn statement_done(no_count: bool, command: u16, rows: u64) -> Token
-    ensures { result ≡ statement_done no_count command rows }
+fn statement_done(kind: DoneKind, no_count: bool, command: u16, rows: u64) -> Token
+    ensures { result ≡ statement_done kind no_count command rows }
 {
     if no_count {
-        done(DONE_MORE, command, 0)
+        done(kind, DONE_MORE, command, 0)
     } else {
-        done(DONE_MORE | DONE_COUNT, command, rows)
+        done(kind, DONE_MORE | DONE_COUNT, command, rows)
     }
 }
 
 /// A statement's end with an error, where more follows.
-fn statement_failed(command: u16) -> Token
-    ensures { result ≡ statement_failed command }
+fn statement_failed(kind: DoneKind, command: u16) -> Token
+    ensures { result ≡ statement_failed kind command }
 {
-    done(DONE_MORE | DONE_ERROR, command, 0)
+    done(kind, DONE_MORE | DONE_ERROR, command, 0)
 }
 
 /// A batch's end, by whether an error ended it.
@@ -107,22 +114,43 @@ fn batch_done(failed: bool) -> Token
     ensures { result ≡ batch_done failed }
 {
     if failed {
-        done(DONE_ERROR, COMMAND_NONE, 0)
+        done(DoneKind::Done, DONE_ERROR, COMMAND_NONE, 0)
     } else {
-        done(DONE_FINAL, COMMAND_NONE, 0)
+        done(DoneKind::Done, DONE_FINAL, COMMAND_NONE, 0)
     }
 }
 
 /// A DONE.
-fn done(status: u16, command: u16, rows: u64) -> Token
-    ensures { result ≡ Token.Finished DoneKind.Done status command rows }
+fn done(kind: DoneKind, status: u16, command: u16, rows: u64) -> Token
+    ensures { result ≡ Token.Finished kind status command rows }
 {
     Token::Finished {
-        kind: DoneKind::Done,
+        kind,
         status,
         command,
         rows,
     }
+}
+
+/// The end of a procedure: its status, and DONEPROC.
+pub fn procedure_done(alloc: Global, status: i32) -> Result<TokenList, Memory>
+    ensures { IfOk result (λ tokens. tokens ≡ procedure_done status) }
+{
+    Ok(TokenList::new(vec![in alloc;
+        Token::ReturnStatus(status),
+        done(DoneKind::Proc, DONE_MORE, COMMAND_NONE, 0),
+    ]?))
+}
+
+/// An error in front of the end of its procedure.
+pub fn error_and_done(alloc: Global, raised: &Raised, status: i32) -> Result<TokenList, Memory>
+    ensures { IfOk result (λ tokens. tokens ≡ error_token raised.now ∷ procedure_done status) }
+{
+    Ok(TokenList::new(vec![in alloc;
+        Token::Error(notice_of(alloc, raised)?),
+        Token::ReturnStatus(status),
+        done(DoneKind::Proc, DONE_MORE, COMMAND_NONE, 0),
+    ]?))
 }
 
 /// The command that a DONE names.
@@ -188,30 +216,33 @@ fn descriptor(alloc: Global, serial: u64) -> Result<Bytes, Memory>
 /// What is told of an error, by what it ends.
 pub fn told_tokens(
     alloc: Global,
+    kind: DoneKind,
     action: Action,
     command: u16,
     raised: &Raised,
 ) -> Result<TokenList, Memory>
-    ensures { IfOk result (λ tokens. tokens ≡ told_tokens action command raised.now) }
+    ensures { IfOk result (λ tokens. tokens ≡ told_tokens kind action command raised.now) }
 {
-    Ok(TokenList::new(tokens_of_error(alloc, action, command, raised)?))
+    Ok(TokenList::new(tokens_of_error(alloc, kind, action, command, raised)?))
 }
 
 /// The same as tokens alone.
 fn tokens_of_error(
     alloc: Global,
+    kind: DoneKind,
     action: Action,
     command: u16,
     raised: &Raised,
 ) -> Result<Vec<Token>, Memory>
-    ensures { IfOk result (λ tokens. tokens.items ≡ told_tokens action command raised.now) }
+    ensures told { IfOk result (λ tokens. tokens.items ≡ told_tokens kind action command raised.now) }
+    ensures short { IfOk result (λ _. length raised.now.procedure ≤ 128) }
 {
     let error = Token::Error(notice_of(alloc, raised)?);
     match action {
         Action::Batch => Ok(vec![in alloc; error]?),
         Action::BatchAndTransaction => Ok(vec![in alloc; error]?),
-        Action::Statement => Ok(vec![in alloc; error, statement_failed(command)]?),
-        Action::Doom => Ok(vec![in alloc; error, statement_failed(command)]?),
+        Action::Statement => Ok(vec![in alloc; error, statement_failed(kind, command)]?),
+        Action::Doom => Ok(vec![in alloc; error, statement_failed(kind, command)]?),
     }
 }
 
@@ -219,7 +250,7 @@ fn tokens_of_error(
 pub fn error_tokens(alloc: Global, raised: &Raised) -> Result<TokenList, Memory>
     ensures { IfOk result (λ tokens. tokens ≡ error_token raised.now ∷ []) }
 {
-    told_tokens(alloc, Action::Batch, COMMAND_NONE, raised)
+    told_tokens(alloc, DoneKind::Done, Action::Batch, COMMAND_NONE, raised)
 }
 
 /// INFO, for what is no error.
@@ -241,19 +272,33 @@ pub fn is_message(raised: &Raised) -> bool
     raised.class <= 10
 }
 
-/// What is told of an error or a message, with no procedure.
+/// What is told of an error or a message.
 fn notice_of(alloc: Global, raised: &Raised) -> Result<Notice, Memory>
-    ensures { IfOk result (λ notice. notice ≡ record { number = raised.now.number; state = raised.now.state; class = raised.now.class; text = take 2000 raised.now.text; procedure = []; line = raised.now.line }) }
+    ensures told { IfOk result (λ notice. notice ≡ record { number = raised.now.number; state = raised.now.state; class = raised.now.class; text = take 2000 raised.now.text; procedure = raised.now.procedure; line = raised.now.line }) }
+    ensures short { IfOk result (λ _. length raised.now.procedure ≤ 128) }
 {
     let text = raised.text.copy(alloc)?;
+    let procedure = procedure_of(alloc, raised)?;
     Ok(Notice::new(
         raised.number,
         raised.state,
         raised.class,
         text,
-        Units::new(alloc),
+        procedure,
         raised.line,
     ))
+}
+
+/// A copy of the name of the procedure or trigger of an error; of a batch it is empty. One that is longer than a name may be
+/// is not told: it is as if memory were wanting.
+pub(crate) fn procedure_of(alloc: Global, raised: &Raised) -> Result<Units, Memory>
+    ensures name { IfOk result (λ name. name ≡ raised.now.procedure) }
+    ensures short { IfOk result (λ _. length raised.now.procedure ≤ 128) }
+{
+    if LONGEST_NAME < raised.procedure.len() {
+        return Err(Memory);
+    }
+    raised.procedure.copy(alloc)
 }
 
 /// ERROR of this number at a line, with state 1 and no procedure, for a name.
@@ -265,22 +310,36 @@ pub fn error_of(alloc: Global, number: i32, name: Units, line: i32) -> Result<To
         name: Some(name),
     };
     let raised = raised_at(alloc, line, &failure)?;
-    Ok(Token::Error(notice_of(alloc, &raised)?))
+    Ok(Token::Error(notice_of(alloc, raised.get())?))
 }
 
-/// Why a statement at a line failed, as it is raised.
-pub fn raised_at(alloc: Global, line: i32, failure: &Failure) -> Result<Raised, Memory>
+/// Why a statement at a line failed, as it is raised in a batch.
+pub fn raised_at(alloc: Global, line: i32, failure: &Failure) -> Result<Boxed<Raised>, Memory>
     ensures { IfOk result (λ raised. raised ≡ raised_at line failure.now) }
 {
+    raised_in(alloc, Units::new(alloc), line, failure)
+}
+
+/// The same in a procedure or trigger of this name.
+pub fn raised_in(
+    alloc: Global,
+    procedure: Units,
+    line: i32,
+    failure: &Failure,
+) -> Result<Boxed<Raised>, Memory>
+    ensures { IfOk result (λ raised. raised ≡ raised_in procedure line failure.now) }
+{
     let (class, text) = class_and_text(alloc, failure)?;
-    Ok(Raised {
+    let raised = Raised {
         number: failure.number,
         class,
         state: 1,
         text,
+        procedure,
         line,
         by: RaisedBy::Engine,
-    })
+    };
+    Ok(Boxed::new(alloc, raised)?)
 }
 
 /// The class and the text of an error.

@@ -4,20 +4,20 @@ ghost use Rattle.std.specs.Prelude.{◌≡◌, ◌≤ℤ◌, ◌++◌, ◌∷◌
 ghost use Rattle.convert_rules.specs.Types.{IsOf};
 ghost use Rattle.tsql_tree.specs.declared.statement.Form.{out-Form};
 ghost use Rattle.batch_meaning.specs.Selecting.{assigning_to, made_of, raised_by};
-ghost use Rattle.batch_meaning.specs.Values.{assigned_at, assigned_onto, assigned_to, cast_to, first_of, first_row, given_names, is_one, kind_or, number_between, places_onto, printed, raiserror_of, rows_assigned, text_in, throw_of, whole_of};
-ghost use Rattle.session_state.specs.Parts.{IsOrMemory, IsWhole, SetsFit, returned};
+ghost use Rattle.batch_meaning.specs.Values.{assigned_at, assigned_onto, assigned_to, cast_to, first_of, first_row, given_names, is_one, kind_or, number_between, places_onto, printed, raiserror_of, rows_assigned, status_of, text_in, throw_of, whole_of};
+ghost use Rattle.session_state.specs.Parts.{IsOrMemory, IsWhole, SetsFit};
 ghost use Rattle.dml_exec.specs.Asking.{seen};
 ghost use Rattle.session_vars.specs.Variables.{FitsAt};
 
 use crate::effect::Effect;
 use crate::failures::no_memory;
-use crate::numbers::{NOT_BUILT, OUTSIDE_LIMITS, OUTSIDE_PROFILE};
+use crate::numbers::{OUTSIDE_LIMITS, OUTSIDE_PROFILE};
 use crate::sendable::TokenList;
 use batch_meaning::{Failure, Raised};
 use convert_rules::{cast, error_of, type_of};
 use error_table::RaisedBy;
 use session_vars::Vars;
-use sqlite_items::Items;
+use sqlite_items::{Boxed, Items};
 use std::alloc::Global;
 use tsql_tree::{Declaration, Form};
 use value_types::{Memory, Row, SqlType, Units, Value};
@@ -222,7 +222,7 @@ pub fn is_true(values: &[Value]) -> bool
     matches!(values, [Value::Whole(1), ..])
 }
 
-/// What DECLARE, SET and RETURN make of values.
+/// What DECLARE and SET make of values.
 pub fn made_of(alloc: Global, form: &Form, vars: &Vars, values: &[Value]) -> Result<Effect, Failure>
     ensures came { IsOrMemory (made_of (out-Form form.now) vars.now values.now) result }
     ensures fits { IfOk result (λ effect. SetsFit vars.now effect.sets) }
@@ -236,19 +236,19 @@ pub fn made_of(alloc: Global, form: &Form, vars: &Vars, values: &[Value]) -> Res
             Ok(names) => assigned_to(alloc, vars, names.as_slice(), values),
             Err(_) => Err(no_memory()),
         },
-        Form::Return(_) => returned(alloc, values),
-        _ => Err(Failure::plain(NOT_BUILT)),
+        _ => Err(Failure::plain(OUTSIDE_LIMITS)),
     }
 }
 
-/// RETURN: an INT, which is dropped.
-fn returned(alloc: Global, values: &[Value]) -> Result<Effect, Failure>
-    ensures came { IsOrMemory (returned values.now) result }
-    ensures none { IfOk result (λ effect. effect.sets ≡ []) }
+/// RETURN: its status as an INT, which is 0 where it has no value, or NULL.
+pub fn status_of(alloc: Global, values: &[Value]) -> Result<i32, Failure>
+    ensures { IsOrMemory (status_of values.now) result }
 {
     let null = Value::Null;
-    cast_to(alloc, SqlType::Int, value_at(values, 0, &null))?;
-    Ok(Effect::none(alloc))
+    match cast_to(alloc, SqlType::Int, value_at(values, 0, &null))? {
+        Value::Whole(number) => Ok(number as i32),
+        _ => Ok(0),
+    }
 }
 
 /// The value at a place, or this one.
@@ -264,67 +264,110 @@ fn value_at<'a>(values: &'a [Value], at: usize, null: &'a Value) -> &'a Value
 // ---- messages
 
 /// What PRINT, RAISERROR and THROW make of values.
-pub fn raised_by(alloc: Global, form: &Form, line: i32, values: &[Value]) -> Result<Raised, Failure>
-    ensures { IsOrMemory (raised_by (out-Form form.now) line values.now) result }
+pub fn raised_by(
+    alloc: Global,
+    form: &Form,
+    procedure: Units,
+    line: i32,
+    values: &[Value],
+) -> Result<Boxed<Raised>, Failure>
+    ensures { IsOrMemory (raised_by (out-Form form.now) procedure line values.now) result }
 {
     match form {
-        Form::Print(_) => printed(alloc, line, values),
-        Form::RaiseError(_, _, _) => raiserror_of(alloc, line, values),
-        Form::Throw(_, _, _) => throw_of(alloc, line, values),
-        _ => Err(Failure::plain(NOT_BUILT)),
+        Form::Print(_) => printed(alloc, procedure, line, values),
+        Form::RaiseError(_, _, _) => raiserror_of(alloc, procedure, line, values),
+        Form::Throw(_, _, _) => throw_of(alloc, procedure, line, values),
+        _ => Err(Failure::plain(OUTSIDE_LIMITS)),
     }
 }
 
 /// PRINT: a message of number and class 0.
-fn printed(alloc: Global, line: i32, values: &[Value]) -> Result<Raised, Failure>
-    ensures { IsOrMemory (printed line values.now) result }
+fn printed(
+    alloc: Global,
+    procedure: Units,
+    line: i32,
+    values: &[Value],
+) -> Result<Boxed<Raised>, Failure>
+    ensures { IsOrMemory (printed procedure line values.now) result }
 {
     let null = Value::Null;
     let text = text_in(alloc, value_at(values, 0, &null))?;
-    Ok(Raised {
-        number: 0,
-        class: 0,
-        state: 1,
-        text,
-        line,
-        by: RaisedBy::Raiserror,
-    })
+    boxed(
+        alloc,
+        Raised {
+            number: 0,
+            class: 0,
+            state: 1,
+            text,
+            procedure,
+            line,
+            by: RaisedBy::Raiserror,
+        },
+    )
 }
 
 /// RAISERROR: its text, its class and its state.
-fn raiserror_of(alloc: Global, line: i32, values: &[Value]) -> Result<Raised, Failure>
-    ensures { IsOrMemory (raiserror_of line values.now) result }
+fn raiserror_of(
+    alloc: Global,
+    procedure: Units,
+    line: i32,
+    values: &[Value],
+) -> Result<Boxed<Raised>, Failure>
+    ensures { IsOrMemory (raiserror_of procedure line values.now) result }
 {
     let null = Value::Null;
     let text = text_in(alloc, value_at(values, 0, &null))?;
     let class = number_between(alloc, 0, 18, value_at(values, 1, &null))?;
     let state = number_between(alloc, 0, 255, value_at(values, 2, &null))?;
-    Ok(Raised {
-        number: RAISERROR_NUMBER,
-        class: class as u8,
-        state: state as u8,
-        text,
-        line,
-        by: RaisedBy::Raiserror,
-    })
+    boxed(
+        alloc,
+        Raised {
+            number: RAISERROR_NUMBER,
+            class: class as u8,
+            state: state as u8,
+            text,
+            procedure,
+            line,
+            by: RaisedBy::Raiserror,
+        },
+    )
 }
 
 /// THROW: its number, its text and its state.
-fn throw_of(alloc: Global, line: i32, values: &[Value]) -> Result<Raised, Failure>
-    ensures { IsOrMemory (throw_of line values.now) result }
+fn throw_of(
+    alloc: Global,
+    procedure: Units,
+    line: i32,
+    values: &[Value],
+) -> Result<Boxed<Raised>, Failure>
+    ensures { IsOrMemory (throw_of procedure line values.now) result }
 {
     let null = Value::Null;
     let number = number_between(alloc, 50_000, 2_147_483_647, value_at(values, 0, &null))?;
     let text = text_in(alloc, value_at(values, 1, &null))?;
     let state = number_between(alloc, 0, 255, value_at(values, 2, &null))?;
-    Ok(Raised {
-        number: narrowed(number),
-        class: THROW_CLASS,
-        state: state as u8,
-        text,
-        line,
-        by: RaisedBy::Throw,
-    })
+    boxed(
+        alloc,
+        Raised {
+            number: narrowed(number),
+            class: THROW_CLASS,
+            state: state as u8,
+            text,
+            procedure,
+            line,
+            by: RaisedBy::Throw,
+        },
+    )
+}
+
+/// What is raised, in a box of its own.
+fn boxed(alloc: Global, raised: Raised) -> Result<Boxed<Raised>, Failure>
+    ensures { IsOrMemory (Ok raised) result }
+{
+    match Boxed::new(alloc, raised) {
+        Ok(raised) => Ok(raised),
+        Err(_) => Err(no_memory()),
+    }
 }
 
 /// A number that is no more than the greatest INT.

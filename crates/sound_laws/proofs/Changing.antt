@@ -1,10 +1,10 @@
--- What a write and DROP TABLE ask keeps what stands: they plan on what they have read in the database at their transaction's place.
+-- What a write and DROP ask keeps what stands: they plan on what they have read in the database at their transaction's place.
 use Rattle.std.proofs.Common.{◌≡◌, ℕ, Bool, true, false, if◌then◌else◌, List, [], ◌∷◌, ◌++◌, length, Option, Some, None, Result, Ok, Err, refl, sym, ap, subst, ◌∙◌, append-nil}
 use Rattle.std.specs.Prelude.{nat_lt}
-use Rattle.std.specs.List.{AllByRecursion}
-use Rattle.value_types.specs.declared.table_name.TableName.{TableName}
+use Rattle.std.specs.Option.{ForSome}
 use Rattle.tsql_tree.specs.declared.definition.Definition.{Definition}
 use Rattle.tsql_tree.specs.declared.definition.TableTree.{TableTree}
+use Rattle.tsql_tree.specs.declared.definition.TriggerTree.{TriggerTree}
 use Rattle.bound_tree.specs.declared.write.Bound.{Bound}
 use Rattle.bound_tree.specs.declared.write.Bound.TheVariants as bound
 use Rattle.bound_tree.specs.declared.write.BoundWrite.{BoundWrite}
@@ -22,39 +22,41 @@ use Rattle.dml_exec.specs.declared.refusal.Level.{Level}
 use Rattle.dml_exec.specs.declared.refusal.Level.TheVariants.{Serializable}
 use Rattle.dml_exec.specs.declared.refusal.Refusal.{Refusal}
 use Rattle.dml_exec.specs.Planning.{table_written}
-use Rattle.dml_exec.specs.Reading.{fits, images_of, reads_of}
+use Rattle.dml_exec.specs.Reading.{GivenRows, fetches_any, fits, images_of, none_given, reads_of}
 use Rattle.write_laws.specs.Laws.{HaveColumns, rows_before}
 use Rattle.write_laws.proofs.Images.{rows_read}
-use Rattle.write_laws.proofs.Planned.{shape_named}
 use Rattle.reading_laws.specs.Reads.{AreImages, AskOnly, IsFetch, IsRead, KeysHave, at_place}
 use Rattle.reading_laws.proofs.Images.{images_fetch, images_read}
 use Rattle.batch_meaning.specs.declared.failure.Failure.{Failure}
-use Rattle.batch_meaning.specs.Raised.{Around}
-use Rattle.batch_meaning.specs.Asking.{applies, comes_to, fails, reads_at, reads_definitions, reads_images, unless_stopped, with_room, ◌>>=◌}
-use Rattle.batch_meaning.specs.Changing.{dropped, planned_over, told_by, unless_referred, whole}
+use Rattle.batch_meaning.specs.Raised.{Around, Fired}
+use Rattle.batch_meaning.specs.Asking.{applies, comes_to, fails, reads_at, reads_definitions, reads_images, touches_if, unless_stopped, with_room, ◌>>=◌, ◌gives◌}
+use Rattle.batch_meaning.specs.Changing.{definition_erased, dropped, planned_over, told_by, unless_referred, whole}
 use Rattle.batch_meaning.specs.Doing.{Doing, over, reads, Held}
 use Rattle.batch_meaning.specs.Failures.{plain}
 use Rattle.batch_meaning.specs.Progress.{SessionProgress, size_of}
 use Rattle.batch_meaning.specs.Selecting.{Effect, no_effect, result_full}
-use Rattle.batch_meaning.specs.Working.{changes, drops, if_it_fits}
-use Rattle.statement_paths.proofs.Apart.{comes_apart, holds_apart, room_apart}
+use Rattle.batch_meaning.specs.Tokens.{done_kind}
+use Rattle.batch_meaning.specs.Working.{given_in, if_it_fits}
+use Rattle.batch_meaning.specs.Writes.{Written, changes, drops_definition, drops_table, fired_by, fires_of, shape_or}
+use Rattle.statement_paths.proofs.Apart.{comes_apart, gives_apart, room_apart}
 use Rattle.statement_paths.proofs.Looking.{definitions_apart, definitions_read, ok_same}
 use Rattle.statement_paths.proofs.Only.{AnyStep, IsTouch, only_comes, only_if, only_room}
 use Rattle.statement_paths.proofs.Still.{Reads}
 use Rattle.statement_paths.proofs.Working.{at_level_reads, images_read as images_fetched}
-use Rattle.integrity_laws.specs.Laws.{AreTables}
+use Rattle.integrity_laws.specs.Laws.{AreDefinitions, IsNoTable}
 use Rattle.integrity_laws.specs.Plans.{IsDropPlanned, IsPlanned}
 use Rattle.integrity_laws.specs.Sound.{IsTableOf}
-use Rattle.integrity_laws.proofs.Drops.{firm_drop_planned, untriggered_drop_planned}
+use Rattle.integrity_laws.proofs.Drops.{firm_drop_planned}
+use Rattle.integrity_laws.proofs.Erased.{firm_erased}
 use Rattle.integrity_laws.proofs.Keys.{keys_sized}
-use Rattle.integrity_laws.proofs.Writes.{firm_planned, planned_readable, untriggered_planned}
-use Rattle.integrity_laws.proofs.Written.{of_found}
+use Rattle.integrity_laws.proofs.Writes.{firm_planned, planned_readable}
 use Rattle.sound_laws.specs.Stands.{Intact, Brings, Stands}
 use Rattle.sound_laws.specs.Tied.{Tied}
-use Rattle.sound_laws.proofs.Defined.{tables_read}
-use Rattle.sound_laws.proofs.Bringing.{brings_bind, brings_over, brings_room}
+use Rattle.sound_laws.proofs.Defined.{definitions_hold}
+use Rattle.sound_laws.proofs.Bringing.{brings_bind, brings_mono, brings_over, brings_room}
+use Rattle.sound_laws.proofs.Targets.{IsTarget, shape_itself}
 use Rattle.sound_laws.proofs.Steps.{IsStill}
-use Rattle.sound_laws.proofs.Trees.{StandsWith, WritesNothing, carries_still, front_place, reads_bind}
+use Rattle.sound_laws.proofs.Trees.{StandsWith, WritesNothing, front_place, reads_bind}
 use Rattle.sound_laws.proofs.Writing.{MayWrite, applies_bring}
 
 pub fits_still : (effect : Effect) → WritesNothing (if_it_fits effect)
@@ -67,203 +69,257 @@ fits_fetch effect = λ p. only_if IsTouch IsFetch (nat_lt p.bytes_left (size_of 
 
 -- ---- images
 
--- where there are tables they were read
-abbrev WereRead : Manner → Level → List TableTree → Bound → List Exchange → List Rows → Type 0
-WereRead manner level [] of exchanges images = Unit {0}
-WereRead manner level (shape ∷ shapes) of exchanges images = Said manner (images_of (shape ∷ shapes) level of) exchanges (Ok images)
+-- where there are tables they were read, but for those whose rows are given
+abbrev WereRead : Manner → GivenRows → Level → List TableTree → Bound → List Exchange → List Rows → Type 0
+WereRead manner given level [] of exchanges images = Unit {0}
+WereRead manner given level (shape ∷ shapes) of exchanges images = Said manner (images_of given (shape ∷ shapes) level of) exchanges (Ok images)
 
-image_apart : (level : Level) (shapes : List TableTree) (of : Bound) (p new : SessionProgress) (exchanges : List Exchange) (images : List Rows) → Held (reads_at level shapes of) p exchanges (Ok images) new → WereRead p.settings.manner level shapes of exchanges images
+image_apart : (given : GivenRows) (level : Level) (shapes : List TableTree) (of : Bound) (p new : SessionProgress) (exchanges : List Exchange) (images : List Rows) → Held (reads_at given level shapes of) p exchanges (Ok images) new → WereRead p.settings.manner given level shapes of exchanges images
 unfolding reads_at Held
-image_apart level [] of p new exchanges images held = tt
-image_apart level (shape ∷ shapes) of p new exchanges images held =
-    let on = holds_apart (images_of (shape ∷ shapes) level of) unless_stopped p new exchanges (Ok images) held in by_came on.front on.back on.came _ on.parts on.held on.rest
+image_apart given level [] of p new exchanges images held = tt
+image_apart given level (shape ∷ shapes) of p new exchanges images held = by_touch (fetches_any given of) held
   where
-    by_came : (front back : List Exchange) (came : Result (List Rows) Refusal) (mid : SessionProgress) → exchanges ≡ front ++ back → Said p.settings.manner (images_of (shape ∷ shapes) level of) front came → Held (unless_stopped came) mid back (Ok images) new
-        → Said p.settings.manner (images_of (shape ∷ shapes) level of) exchanges (Ok images)
-    by_came front back (Ok rows) mid parts was rest =
-        subst (λ (l : List Exchange). Said p.settings.manner (images_of (shape ∷ shapes) level of) l (Ok images)) (sym (parts ∙ ap (λ (l : List Exchange). front ++ l) rest.0 ∙ append-nil front))
-        (subst (λ (r : List Rows). Said p.settings.manner (images_of (shape ∷ shapes) level of) front (Ok r)) (sym (ok_same {E = Failure} images rows rest.1)) was)
-    by_came front back (Err why) mid parts was rest = absurd (let no : Ok images ≡ Err _ = rest.1 in cc)
+    Reading : Doing (Result (List Rows) Failure)
+    Reading = images_of given (shape ∷ shapes) level of gives unless_stopped
+
+    by_came : (p : SessionProgress) (front back : List Exchange) (came : Result (List Rows) Refusal) (mid : SessionProgress) → exchanges ≡ front ++ back → Said p.settings.manner (images_of given (shape ∷ shapes) level of) front came → Held (unless_stopped came) mid back (Ok images) new
+        → Said p.settings.manner (images_of given (shape ∷ shapes) level of) exchanges (Ok images)
+    by_came p front back (Ok rows) mid parts was rest =
+        subst (λ (l : List Exchange). Said p.settings.manner (images_of given (shape ∷ shapes) level of) l (Ok images)) (sym (parts ∙ ap (λ (l : List Exchange). front ++ l) rest.0 ∙ append-nil front))
+        (subst (λ (r : List Rows). Said p.settings.manner (images_of given (shape ∷ shapes) level of) front (Ok r)) (sym (ok_same {E = Failure} images rows rest.1)) was)
+    by_came p front back (Err why) mid parts was rest = absurd (let no : Ok images ≡ Err _ = rest.1 in cc)
+
+    by_gives : (q : SessionProgress) → Held Reading q exchanges (Ok images) new → Said q.settings.manner (images_of given (shape ∷ shapes) level of) exchanges (Ok images)
+    by_gives q held = let on = gives_apart (images_of given (shape ∷ shapes) level of) unless_stopped q new exchanges (Ok images) held in by_came q on.front on.back on.came _ on.parts on.held on.rest
+
+    by_touch : (b : Bool) → Held (touches_if b Reading) p exchanges (Ok images) new → Said p.settings.manner (images_of given (shape ∷ shapes) level of) exchanges (Ok images)
+    by_touch true held = by_gives (record p { touched = true }) held
+    by_touch false held = by_gives p held
 
 -- the rows of a table that is written have its columns
 abbrev HaveAll : List TableTree → BoundWrite → List Rows → Type 0
 HaveAll shapes write images = (shape : TableTree) → shape_of (table_written write) shapes ≡ Some shape → HaveColumns shape (rows_before write images)
 
-all_columns : (manner : Manner) (level : Level) (shapes : List TableTree) (write : BoundWrite) (exchanges : List Exchange) (images : List Rows) → WereRead manner level shapes (bound.Write write) exchanges images → HaveAll shapes write images
-all_columns manner level [] write exchanges images was shape known = absurd (let no : None ≡ Some shape = known in cc)
-all_columns manner level (one ∷ shapes) write exchanges images was shape known = rows_read (one ∷ shapes) level write shape manner exchanges images known was
+-- they are not given
+none_columns : (shape : TableTree) (given : Option Rows) → given ≡ None → ForSome given (HaveColumns shape)
+none_columns shape given none = λ rows is. absurd (let no : None ≡ Some rows = sym none ∙ is in cc)
+
+all_columns : (manner : Manner) (given : GivenRows) (level : Level) (shapes : List TableTree) (write : BoundWrite) (exchanges : List Exchange) (images : List Rows) → ((shape : TableTree) → shape_of (table_written write) shapes ≡ Some shape → given (table_written write) ≡ None)
+    → WereRead manner given level shapes (bound.Write write) exchanges images → HaveAll shapes write images
+all_columns manner given level [] write exchanges images none was shape known = absurd (let no : None ≡ Some shape = known in cc)
+all_columns manner given level (one ∷ shapes) write exchanges images none was shape known = rows_read given (one ∷ shapes) level write shape manner exchanges images known (none_columns shape (given (table_written write)) (none shape known)) was
 
 -- the rows of a table that is dropped are one image
 abbrev IsImage : Database → Option TableTree → List ℕ → List Rows → Type 0
 IsImage db found name images = (rows : Rows) × (images ≡ rows ∷ []) × IsRead db (fits found) (all_rows name) rows
 
-one_image : (db : Database) (named : List TableTree) (name : List ℕ) (images : List Rows) → AreImages db named (reads_of (bound.Write (whole name))) images → IsImage db (shape_of (rows_table name) named) name images
+one_image : (db : Database) (named : List TableTree) (name : List ℕ) (images : List Rows) → AreImages none_given db named (reads_of (bound.Write (whole name))) images → IsImage db (shape_of (rows_table name) named) name images
 one_image db named name images (rows, rest, is, read, none) = (rows, is ∙ ap (λ (rest : List Rows). rows ∷ rest) none, read)
 
 module _ (session : ℕ) (begin log : List Logged) (mine : List Exchange) (tied : Tied session begin log mine) where
   -- that was read in the database at the transaction's place
-  whole_read : (before part later : List Exchange) (manner : Manner) (named : List TableTree) (name : List ℕ) (shape : TableTree) (images : List Rows) → mine ≡ before ++ (part ++ later)
-      → WereRead manner Serializable named (bound.Write (whole name)) part images → shape_of (rows_table name) named ≡ Some shape → KeysHave (length (key_places (Some shape))) (at_place log before (part ++ later)) (rows_table name)
-      → IsImage (at_place log before (part ++ later)) (Some shape) name images
-  whole_read before part later manner [] name shape images is was known long = absurd (let no : None ≡ Some shape = known in cc)
-  whole_read before part later manner (one ∷ named) name shape images is was known long =
-      let fetches : AskOnly IsFetch part = images_fetch manner (one ∷ named) Serializable (bound.Write (whole name)) part (Ok images) was in
+  whole_read : (before part later : List Exchange) (manner : Manner) (shape : TableTree) (images : List Rows) → mine ≡ before ++ (part ++ later)
+      → WereRead manner none_given Serializable (shape ∷ []) (bound.Write (whole shape.name)) part images → KeysHave (length (key_places (Some shape))) (at_place log before (part ++ later)) (rows_table shape.name)
+      → IsImage (at_place log before (part ++ later)) (Some shape) shape.name images
+  whole_read before part later manner shape images is was long =
+      let fetches : AskOnly IsFetch part = images_fetch manner none_given (shape ∷ []) Serializable (bound.Write (whole shape.name)) part (Ok images) was in
       let there : at_place log before (part ++ later) ≡ at_place log before later = front_place log before part later fetches in
-      let image = images_read log mine before part later manner (one ∷ named) (bound.Write (whole name)) images is tied.ranges was
-      (subst (λ (o : Option TableTree). KeysHave (length (key_places o)) (at_place log before later) (rows_table name)) (sym known) (subst (λ (db : Database). KeysHave (length (key_places (Some shape))) db (rows_table name)) there long), tt) in
-      subst (λ (o : Option TableTree). IsImage (at_place log before (part ++ later)) o name images) known
-      (subst (λ (db : Database). IsImage db (shape_of (rows_table name) (one ∷ named)) name images) (sym there) (one_image (at_place log before later) (one ∷ named) name images image))
-
-  -- behind either what stands goes on
-  abbrev To : Result Effect Failure → List Exchange → List Exchange → Type 0
-  To result = Stands log
+      let image = images_read log mine before part later manner none_given (shape ∷ []) (bound.Write (whole shape.name)) images is tied.ranges was
+      (subst (λ (o : Option TableTree). KeysHave (length (key_places o)) (at_place log before later) (rows_table shape.name)) (sym itself) (subst (λ (db : Database). KeysHave (length (key_places (Some shape))) db (rows_table shape.name)) there long), tt) in
+      subst (λ (o : Option TableTree). IsImage (at_place log before (part ++ later)) o shape.name images) itself
+      (subst (λ (db : Database). IsImage db (shape_of (rows_table shape.name) (shape ∷ [])) shape.name images) (sym there) (one_image (at_place log before later) (shape ∷ []) shape.name images image))
+    where
+      itself : shape_of (rows_table shape.name) (shape ∷ []) ≡ Some shape
+      itself = shape_itself shape
 
   -- ---- what is read for both
 
-  -- tables that are defined, and all definitions
-  abbrev Defined : List TableTree → List Definition → Database → Type 0
-  Defined shapes definitions db = AllByRecursion (IsTableOf db) shapes × AreTables db (tables_of definitions)
-
-  all_defined : (shapes : List TableTree) (before part later : List Exchange) (p new : SessionProgress) (definitions : List Definition) → mine ≡ before ++ (part ++ later) → Held reads_definitions p part (Ok definitions) new
-      → Intact (at_place log before (part ++ later)) → AllByRecursion (IsTableOf (at_place log before (part ++ later))) shapes → Defined shapes definitions (at_place log before (part ++ later))
-  all_defined shapes before part later p new definitions is held intact known =
-      (known, tables_read log mine before part later p.settings.manner definitions tied.ranges is (definitions_apart p.settings.manner p new part definitions refl held) intact.firm)
+  all_defined : (before part later : List Exchange) (p new : SessionProgress) (definitions : List Definition) → mine ≡ before ++ (part ++ later) → Held reads_definitions p part (Ok definitions) new
+      → Intact (at_place log before (part ++ later)) → AreDefinitions (at_place log before (part ++ later)) definitions
+  all_defined before part later p new definitions is held intact =
+      definitions_hold log mine before part later p.settings.manner definitions tied.ranges is (definitions_apart p.settings.manner p new part definitions refl held) intact
 
   -- ---- a write
 
-  module _ (around : Around) (shapes : List TableTree) (write : BoundWrite) where
+  module _ (around : Around) (shape : TableTree) (shapes : List TableTree) (write : BoundWrite) where
+    abbrev Done : Result Written Failure → List Exchange → List Exchange → Type 0
+    Done result = Stands log
+
+    abbrev named : List TableTree
+    named = shape ∷ shapes
+
+    abbrev given : GivenRows
+    given = given_in around.fired
+
     abbrev MayPut : List Definition → List Planned → Database → Type 0
     MayPut definitions planned db = MayWrite db (tables_of definitions) planned
 
-    may_write : (definitions : List Definition) (images : List Rows) (planned : List Planned) (p : SessionProgress) (db : Database) → Intact db → Defined shapes definitions db → HaveAll shapes write images
-        → planned_over around p shapes write images ≡ Ok planned → MayPut definitions planned db
+    -- the table that is written, and all definitions
+    abbrev Known : List Definition → Database → Type 0
+    Known definitions db = IsTarget around named write db × AreDefinitions db definitions
+
+    may_write : (definitions : List Definition) (images : List Rows) (planned : List Planned) (p : SessionProgress) (db : Database) → Intact db → Known definitions db → HaveAll named write images
+        → planned_over around p named write images ≡ Ok planned → MayPut definitions planned db
     may_write definitions images planned p db intact known columns plans =
-        let plan : IsPlanned around p db shapes write images planned = record { defined = known.0; read = columns; plans = plans } in
-        let readable = planned_readable around p db (tables_of definitions) shapes write images planned intact.firm known.1 plan in
+        let plan : IsPlanned around p db named write images planned = record { defined = λ of found. (known.0 of found).0; read = columns; plans = plans } in
+        let readable = planned_readable around p db (tables_of definitions) named write images planned intact known.1.tables plan in
         record {
           parents = readable.parents;
           rows = readable.rows;
-          intact = λ passes. record {
-            firm = firm_planned around p db (tables_of definitions) shapes write images planned intact.firm known.1 plan passes;
-            untriggered = untriggered_planned around p db shapes write images planned intact.firm intact.untriggered plan;
-          };
+          intact = λ passes. firm_planned around p db (tables_of definitions) named write images planned intact known.1.tables plan passes;
         }
 
-    abbrev Planning : List Rows → Doing (Result (List Planned) Failure)
-    Planning images = reads λ p. comes_to (planned_over around p shapes write images)
+    abbrev Applying : List Definition → List Planned → Effect → List TriggerTree → Fired → Doing (Result Written Failure)
+    Applying definitions planned fitting fires fired = with_room (applies (tables_of definitions) planned) >>= λ mark. over (Ok (record { effect = fitting; mark = mark; fires = fires; fired = fired }))
+
+    abbrev Seeing : List Rows → List Planned → Doing (Result Fired Failure)
+    Seeing images planned = comes_to (Ok (fired_by (shape_or shape (shape_of (table_written write) named)) write images planned))
+
+    abbrev Firing : List Definition → Doing (Result (List TriggerTree) Failure)
+    Firing definitions = comes_to (Ok (fires_of around definitions write))
 
     abbrev Telling : List Planned → Doing (Result Effect Failure)
-    Telling planned = reads λ p. comes_to (Ok (told_by p.settings.no_count write planned))
+    Telling planned = reads λ p. comes_to (Ok (told_by (done_kind around) p.settings.no_count write planned))
 
-    put_last : (definitions : List Definition) (planned : List Planned) (fitting : Effect) → Brings log mine (StandsWith log (MayPut definitions planned)) (with_room (applies (tables_of definitions) planned) >>= λ put. over (Ok fitting)) To
-    put_last definitions planned fitting =
-        brings_bind log mine (StandsWith log (MayPut definitions planned)) (with_room (applies (tables_of definitions) planned)) (λ (put : Result (Unit {0}) Failure). Stands log) (λ put. over (Ok fitting)) To
-        (brings_room log mine (StandsWith log (MayPut definitions planned)) (λ enough. if enough then applies (tables_of definitions) planned else fails no_memory) (λ (put : Result (Unit {0}) Failure). Stands log) by_room)
-        (λ put. carries_still (over (Ok fitting)) tt session begin log mine tied) (λ failure before later is stands. stands)
-      where
-        by_room : (enough : Bool) → Brings log mine (StandsWith log (MayPut definitions planned)) (if enough then applies (tables_of definitions) planned else fails no_memory) (λ (put : Result (Unit {0}) Failure). Stands log)
-        by_room true = applies_bring session begin log mine tied (tables_of definitions) planned
-        by_room false = brings_over log mine (StandsWith log (MayPut definitions planned)) (Err (plain no_memory)) (λ (put : Result (Unit {0}) Failure). Stands log) (λ before later is from. from.0)
-
-    put_bring : (definitions : List Definition) (planned : List Planned) (effect : Effect) → Brings log mine (StandsWith log (MayPut definitions planned)) (if_it_fits effect >>= λ fitting. with_room (applies (tables_of definitions) planned) >>= λ put. over (Ok fitting)) To
-    put_bring definitions planned effect =
-        reads_bind session begin log mine tied (MayPut definitions planned) (if_it_fits effect) (λ fitting. MayPut definitions planned) (λ fitting. with_room (applies (tables_of definitions) planned) >>= λ put. over (Ok fitting))
-        (fits_fetch effect) (λ before part later p new fitting is held intact may. may) (put_last definitions planned)
-
-    pub changes_bring : Brings log mine (StandsWith log (λ db. AllByRecursion (IsTableOf db) shapes)) (changes around shapes write) To
-    unfolding changes Held reads_at reads_images
-    changes_bring =
-        reads_bind session begin log mine tied (λ db. AllByRecursion (IsTableOf db) shapes) reads_definitions (Defined shapes)
-        (λ definitions. reads_images shapes (bound.Write write) >>= λ images. Planning images >>= λ planned. Telling planned >>= λ effect. if_it_fits effect >>= λ fitting. with_room (applies (tables_of definitions) planned) >>= λ put. over (Ok fitting))
-        definitions_read (all_defined shapes) on_definitions
-      where
-        on_planned : (definitions : List Definition) (planned : List Planned) → Brings log mine (StandsWith log (MayPut definitions planned)) (Telling planned >>= λ effect. if_it_fits effect >>= λ fitting. with_room (applies (tables_of definitions) planned) >>= λ put. over (Ok fitting)) To
-        on_planned definitions planned =
-            reads_bind session begin log mine tied (MayPut definitions planned) (Telling planned) (λ effect. MayPut definitions planned) (λ effect. if_it_fits effect >>= λ fitting. with_room (applies (tables_of definitions) planned) >>= λ put. over (Ok fitting))
-            (λ p. only_comes IsTouch IsFetch (Ok (told_by p.settings.no_count write planned))) (λ before part later p new effect is held intact may. may) (put_bring definitions planned)
-
-        on_images : (definitions : List Definition) (images : List Rows) → Brings log mine (StandsWith log (λ db. Defined shapes definitions db × HaveAll shapes write images)) (Planning images >>= λ planned. Telling planned >>= λ effect. if_it_fits effect >>= λ fitting. with_room (applies (tables_of definitions) planned) >>= λ put. over (Ok fitting)) To
-        on_images definitions images =
-            reads_bind session begin log mine tied (λ db. Defined shapes definitions db × HaveAll shapes write images) (Planning images) (MayPut definitions) (λ planned. Telling planned >>= λ effect. if_it_fits effect >>= λ fitting. with_room (applies (tables_of definitions) planned) >>= λ put. over (Ok fitting))
-            (λ p. only_comes IsTouch IsFetch (planned_over around p shapes write images))
-            (λ before part later p new planned is held intact known. may_write definitions images planned p (at_place log before (part ++ later)) intact known.0 known.1 (comes_apart (planned_over around p shapes write images) p new part planned held).1)
-            (on_planned definitions)
-
-        on_definitions : (definitions : List Definition) → Brings log mine (StandsWith log (Defined shapes definitions)) (reads_images shapes (bound.Write write) >>= λ images. Planning images >>= λ planned. Telling planned >>= λ effect. if_it_fits effect >>= λ fitting. with_room (applies (tables_of definitions) planned) >>= λ put. over (Ok fitting)) To
-        on_definitions definitions =
-            reads_bind session begin log mine tied (Defined shapes definitions) (reads_images shapes (bound.Write write)) (λ images db. Defined shapes definitions db × HaveAll shapes write images) (λ images. Planning images >>= λ planned. Telling planned >>= λ effect. if_it_fits effect >>= λ fitting. with_room (applies (tables_of definitions) planned) >>= λ put. over (Ok fitting))
-            (images_fetched shapes (bound.Write write))
-            (λ before part later p new images is held intact known. (known, all_columns p.settings.manner p.settings.level shapes write part images (image_apart p.settings.level shapes (bound.Write write) p new part images held)))
-            (on_images definitions)
-
-  -- ---- DROP TABLE
-
-  module _ (around : Around) (shapes : List TableTree) (shape : TableTree) (name : List ℕ) (known : shape_of (rows_table name) shapes ≡ Some shape) where
-    same_name : name ≡ shape.name
-    same_name = ap (λ (t : TableName). t.object) (shape_named (rows_table name) shapes shape known)
-
-    may_drop : (definitions : List Definition) (images : List Rows) (planned : List Planned) (p : SessionProgress) (db : Database) → Intact db → Defined shapes definitions db → unless_referred name (tables_of definitions) ≡ Ok tt
-        → IsImage db (Some shape) name images → dropped around p shape name images ≡ Ok planned → MayWrite db [] planned
-    may_drop definitions images planned p db intact there free image plans =
-        let plan : IsDropPlanned around p db (tables_of definitions) shape image.0 planned = record {
-          defined = of_found (IsTableOf db) (rows_table name) shapes shape known there.0;
-          read = subst (λ (name : List ℕ). IsRead db (fits (Some shape)) (all_rows name) image.0) same_name image.2;
-          unreferred = subst (λ (name : List ℕ). unless_referred name (tables_of definitions) ≡ Ok tt) same_name free;
-          plans = subst (λ (name : List ℕ). dropped around p shape name (image.0 ∷ []) ≡ Ok planned) same_name (sym (ap (dropped around p shape name) image.1) ∙ plans);
-        } in
-        record {
-          parents = tt;
-          rows = tt;
-          intact = λ passes. record {
-            firm = firm_drop_planned around p db (tables_of definitions) shape image.0 planned intact.firm there.1 intact.untriggered plan;
-            untriggered = untriggered_drop_planned around p db (tables_of definitions) shape image.0 planned intact.firm intact.untriggered plan;
-          };
-        }
-
-    long : (db : Database) → Intact db → AllByRecursion (IsTableOf db) shapes → KeysHave (length (key_places (Some shape))) db (rows_table name)
-    long db intact defined = subst (λ (name : List ℕ). KeysHave (length (key_places (Some shape))) db (rows_table name)) (sym same_name) ((keys_sized db intact.firm).1 shape (of_found (IsTableOf db) (rows_table name) shapes shape known defined))
+    abbrev Planning : List Rows → Doing (Result (List Planned) Failure)
+    Planning images = reads λ p. comes_to (planned_over around p named write images)
 
     abbrev Reading : Doing (Result (List Rows) Failure)
-    Reading = with_room (reads_at Serializable shapes (bound.Write (whole name)))
+    Reading = reads_images given named (bound.Write write)
 
-    abbrev Dropping : List Rows → Doing (Result (List Planned) Failure)
-    Dropping images = reads λ p. comes_to (dropped around p shape name images)
+    put_last : (definitions : List Definition) (planned : List Planned) (fitting : Effect) (fires : List TriggerTree) (fired : Fired) → Brings log mine (StandsWith log (MayPut definitions planned)) (Applying definitions planned fitting fires fired) Done
+    put_last definitions planned fitting fires fired =
+        brings_bind log mine (StandsWith log (MayPut definitions planned)) (with_room (applies (tables_of definitions) planned)) (λ (put : Result ℕ Failure). Stands log)
+        (λ mark. over (Ok (record { effect = fitting; mark = mark; fires = fires; fired = fired }))) Done
+        (brings_room log mine (StandsWith log (MayPut definitions planned)) (λ enough. if enough then applies (tables_of definitions) planned else fails no_memory) (λ (put : Result ℕ Failure). Stands log) by_room)
+        (λ mark. brings_over log mine (Stands log) (Ok (record { effect = fitting; mark = mark; fires = fires; fired = fired })) Done (λ before later is stands. stands)) (λ failure before later is stands. stands)
+      where
+        by_room : (enough : Bool) → Brings log mine (StandsWith log (MayPut definitions planned)) (if enough then applies (tables_of definitions) planned else fails no_memory) (λ (put : Result ℕ Failure). Stands log)
+        by_room true = applies_bring session begin log mine tied (tables_of definitions) planned
+        by_room false = brings_over log mine (StandsWith log (MayPut definitions planned)) (Err (plain no_memory)) (λ (put : Result ℕ Failure). Stands log) (λ before later is from. from.0)
+
+    -- what only reads on the way leaves that
+    on_way : {A : Type 0} (definitions : List Definition) (planned : List Planned) (tree : Doing (Result A Failure)) (go : A → Doing (Result Written Failure)) → Reads tree → ((a : A) → Brings log mine (StandsWith log (MayPut definitions planned)) (go a) Done)
+        → Brings log mine (StandsWith log (MayPut definitions planned)) (tree >>= go) Done
+    on_way {A} definitions planned tree go only on = reads_bind session begin log mine tied (MayPut definitions planned) tree (λ (a : A). MayPut definitions planned) go only (λ before part later p new a is held intact may. may) on
+
+    abbrev Behind : List Definition → List Rows → List Planned → Doing (Result Written Failure)
+    Behind definitions images planned = Telling planned >>= λ effect. if_it_fits effect >>= λ fitting. Firing definitions >>= λ fires. Seeing images planned >>= λ fired. Applying definitions planned fitting fires fired
+
+    on_planned : (definitions : List Definition) (images : List Rows) (planned : List Planned) → Brings log mine (StandsWith log (MayPut definitions planned)) (Behind definitions images planned) Done
+    on_planned definitions images planned =
+        on_way definitions planned (Telling planned) _ (λ p. only_comes IsTouch IsFetch (Ok (told_by (done_kind around) p.settings.no_count write planned))) (λ effect.
+        on_way definitions planned (if_it_fits effect) _ (fits_fetch effect) (λ fitting.
+        on_way definitions planned (Firing definitions) _ (only_comes IsTouch IsFetch (Ok (fires_of around definitions write))) (λ fires.
+        on_way definitions planned (Seeing images planned) _ (only_comes IsTouch IsFetch (Ok (fired_by (shape_or shape (shape_of (table_written write) named)) write images planned)))
+        (λ fired. put_last definitions planned fitting fires fired))))
+
+    on_images : (definitions : List Definition) (images : List Rows) → Brings log mine (StandsWith log (λ db. Known definitions db × HaveAll named write images)) (Planning images >>= Behind definitions images) Done
+    unfolding Held
+    on_images definitions images =
+        reads_bind session begin log mine tied (λ db. Known definitions db × HaveAll named write images) (Planning images) (MayPut definitions) (Behind definitions images)
+        (λ p. only_comes IsTouch IsFetch (planned_over around p named write images))
+        (λ before part later p new planned is held intact known. may_write definitions images planned p (at_place log before (part ++ later)) intact known.0 known.1 (comes_apart (planned_over around p named write images) p new part planned held).1)
+        (on_planned definitions images)
+
+    on_definitions : (definitions : List Definition) → Brings log mine (StandsWith log (Known definitions)) (Reading >>= λ images. Planning images >>= Behind definitions images) Done
+    unfolding Held reads_images
+    on_definitions definitions =
+        reads_bind session begin log mine tied (Known definitions) Reading (λ images db. Known definitions db × HaveAll named write images) (λ images. Planning images >>= Behind definitions images)
+        (images_fetched given named (bound.Write write))
+        (λ before part later p new images is held intact known. (
+          known,
+          all_columns p.settings.manner given p.settings.level named write part images (λ of found. (known.0 of found).1) (image_apart given p.settings.level named (bound.Write write) p new part images held),
+        ))
+        (on_images definitions)
+
+    pub changes_bring : Brings log mine (StandsWith log (IsTarget around named write)) (changes around shape shapes write) Done
+    unfolding changes
+    changes_bring =
+        reads_bind session begin log mine tied (IsTarget around named write) reads_definitions Known (λ definitions. Reading >>= λ images. Planning images >>= Behind definitions images)
+        definitions_read (λ before part later p new definitions is held intact known. (known, all_defined before part later p new definitions is held intact)) on_definitions
+
+  -- ---- DROP
+
+  abbrev Dropped : Result Effect Failure → List Exchange → List Exchange → Type 0
+  Dropped result = Stands log
+
+  -- changes that are checked by no shapes
+  put_alone : (planned : List Planned) → Brings log mine (StandsWith log (λ db. MayWrite db [] planned)) (applies [] planned >>= λ put. over (Ok no_effect)) Dropped
+  put_alone planned =
+      brings_bind log mine (StandsWith log (λ db. MayWrite db [] planned)) (applies [] planned) (λ (put : Result ℕ Failure). Stands log) (λ put. over (Ok no_effect)) Dropped (applies_bring session begin log mine tied [] planned)
+      (λ put. brings_over log mine (Stands log) (Ok no_effect) Dropped (λ before later is stands. stands)) (λ failure before later is stands. stands)
+
+  module _ (around : Around) (shape : TableTree) where
+    -- all definitions, and the table among them
+    abbrev There : List Definition → Database → Type 0
+    There definitions db = IsTableOf db shape × AreDefinitions db definitions
+
+    may_drop : (definitions : List Definition) (images : List Rows) (planned : List Planned) (p : SessionProgress) (db : Database) → Intact db → There definitions db → unless_referred shape.name (tables_of definitions) ≡ Ok tt
+        → IsImage db (Some shape) shape.name images → dropped around p definitions shape shape.name images ≡ Ok planned → MayWrite db [] planned
+    may_drop definitions images planned p db intact there free image plans =
+        let plan : IsDropPlanned around p db definitions shape image.0 planned = record {
+          defined = there.0;
+          read = image.2;
+          unreferred = free;
+          plans = sym (ap (dropped around p definitions shape shape.name) image.1) ∙ plans;
+        } in
+        record { parents = tt; rows = tt; intact = λ passes. firm_drop_planned around p db definitions shape image.0 planned intact there.1 plan }
+
+    abbrev Fetching : Doing (Result (List Rows) Failure)
+    Fetching = with_room (reads_at none_given Serializable (shape ∷ []) (bound.Write (whole shape.name)))
+
+    abbrev Dropping : List Definition → List Rows → Doing (Result (List Planned) Failure)
+    Dropping definitions images = reads λ p. comes_to (dropped around p definitions shape shape.name images)
 
     abbrev Free : List Definition → Database → Type 0
-    Free definitions db = Defined shapes definitions db × (unless_referred name (tables_of definitions) ≡ Ok tt)
+    Free definitions db = There definitions db × (unless_referred shape.name (tables_of definitions) ≡ Ok tt)
 
-    pub drops_bring : Brings log mine (StandsWith log (λ db. AllByRecursion (IsTableOf db) shapes)) (drops around shapes shape name) To
-    unfolding drops Held
+    pub drops_bring : Brings log mine (StandsWith log (λ db. IsTableOf db shape)) (drops_table around shape shape.name) Dropped
+    unfolding drops_table Held
     drops_bring =
-        reads_bind session begin log mine tied (λ db. AllByRecursion (IsTableOf db) shapes) reads_definitions (Defined shapes)
-        (λ definitions. comes_to (unless_referred name (tables_of definitions)) >>= λ free. Reading >>= λ images. Dropping images >>= λ planned. applies [] planned >>= λ put. over (Ok no_effect))
-        definitions_read (all_defined shapes) on_definitions
+        reads_bind session begin log mine tied (λ db. IsTableOf db shape) reads_definitions There
+        (λ definitions. comes_to (unless_referred shape.name (tables_of definitions)) >>= λ free. Fetching >>= λ images. Dropping definitions images >>= λ planned. applies [] planned >>= λ put. over (Ok no_effect))
+        definitions_read (λ before part later p new definitions is held intact known. (known, all_defined before part later p new definitions is held intact)) on_definitions
       where
-        on_planned : (planned : List Planned) → Brings log mine (StandsWith log (λ db. MayWrite db [] planned)) (applies [] planned >>= λ put. over (Ok no_effect)) To
-        on_planned planned =
-            brings_bind log mine (StandsWith log (λ db. MayWrite db [] planned)) (applies [] planned) (λ (put : Result (Unit {0}) Failure). Stands log) (λ put. over (Ok no_effect)) To (applies_bring session begin log mine tied [] planned)
-            (λ put. brings_over log mine (Stands log) (Ok no_effect) To (λ before later is stands. stands)) (λ failure before later is stands. stands)
-
-        on_images : (definitions : List Definition) (images : List Rows) → Brings log mine (StandsWith log (λ db. Free definitions db × IsImage db (Some shape) name images)) (Dropping images >>= λ planned. applies [] planned >>= λ put. over (Ok no_effect)) To
+        on_images : (definitions : List Definition) (images : List Rows) → Brings log mine (StandsWith log (λ db. Free definitions db × IsImage db (Some shape) shape.name images)) (Dropping definitions images >>= λ planned. applies [] planned >>= λ put. over (Ok no_effect)) Dropped
         on_images definitions images =
-            reads_bind session begin log mine tied (λ db. Free definitions db × IsImage db (Some shape) name images) (Dropping images) (λ planned db. MayWrite db [] planned) (λ planned. applies [] planned >>= λ put. over (Ok no_effect))
-            (λ p. only_comes IsTouch IsFetch (dropped around p shape name images))
-            (λ before part later p new planned is held intact there. may_drop definitions images planned p (at_place log before (part ++ later)) intact there.0.0 there.0.1 there.1 (comes_apart (dropped around p shape name images) p new part planned held).1)
-            on_planned
+            reads_bind session begin log mine tied (λ db. Free definitions db × IsImage db (Some shape) shape.name images) (Dropping definitions images) (λ planned db. MayWrite db [] planned) (λ planned. applies [] planned >>= λ put. over (Ok no_effect))
+            (λ p. only_comes IsTouch IsFetch (dropped around p definitions shape shape.name images))
+            (λ before part later p new planned is held intact there. may_drop definitions images planned p (at_place log before (part ++ later)) intact there.0.0 there.0.1 there.1 (comes_apart (dropped around p definitions shape shape.name images) p new part planned held).1)
+            put_alone
 
-        on_free : (definitions : List Definition) → Brings log mine (StandsWith log (Free definitions)) (Reading >>= λ images. Dropping images >>= λ planned. applies [] planned >>= λ put. over (Ok no_effect)) To
+        on_free : (definitions : List Definition) → Brings log mine (StandsWith log (Free definitions)) (Fetching >>= λ images. Dropping definitions images >>= λ planned. applies [] planned >>= λ put. over (Ok no_effect)) Dropped
         on_free definitions =
-            reads_bind session begin log mine tied (Free definitions) Reading (λ images db. Free definitions db × IsImage db (Some shape) name images) (λ images. Dropping images >>= λ planned. applies [] planned >>= λ put. over (Ok no_effect))
-            (only_room IsTouch IsFetch (reads_at Serializable shapes (bound.Write (whole name))) (at_level_reads Serializable shapes (bound.Write (whole name))))
+            reads_bind session begin log mine tied (Free definitions) Fetching (λ images db. Free definitions db × IsImage db (Some shape) shape.name images) (λ images. Dropping definitions images >>= λ planned. applies [] planned >>= λ put. over (Ok no_effect))
+            (only_room IsTouch IsFetch (reads_at none_given Serializable (shape ∷ []) (bound.Write (whole shape.name))) (at_level_reads none_given Serializable (shape ∷ []) (bound.Write (whole shape.name))))
             (λ before part later p new images is held intact there. (
               there,
-              whole_read before part later p.settings.manner shapes name shape images is
-                  (image_apart Serializable shapes (bound.Write (whole name)) p new part images (room_apart (reads_at Serializable shapes (bound.Write (whole name))) p new part images held)) known (long (at_place log before (part ++ later)) intact there.0.0),
+              whole_read before part later p.settings.manner shape images is
+                  (image_apart none_given Serializable (shape ∷ []) (bound.Write (whole shape.name)) p new part images (room_apart (reads_at none_given Serializable (shape ∷ []) (bound.Write (whole shape.name))) p new part images held))
+                  ((keys_sized (at_place log before (part ++ later)) intact).1 shape there.0.0),
             ))
             (on_images definitions)
 
-        on_definitions : (definitions : List Definition) → Brings log mine (StandsWith log (Defined shapes definitions)) (comes_to (unless_referred name (tables_of definitions)) >>= λ free. Reading >>= λ images. Dropping images >>= λ planned. applies [] planned >>= λ put. over (Ok no_effect)) To
+        on_definitions : (definitions : List Definition) → Brings log mine (StandsWith log (There definitions)) (comes_to (unless_referred shape.name (tables_of definitions)) >>= λ free. Fetching >>= λ images. Dropping definitions images >>= λ planned. applies [] planned >>= λ put. over (Ok no_effect)) Dropped
         on_definitions definitions =
-            reads_bind session begin log mine tied (Defined shapes definitions) (comes_to (unless_referred name (tables_of definitions))) (λ free. Free definitions) (λ free. Reading >>= λ images. Dropping images >>= λ planned. applies [] planned >>= λ put. over (Ok no_effect))
-            (only_comes IsTouch IsFetch (unless_referred name (tables_of definitions)))
-            (λ before part later p new free is held intact there. (there, (comes_apart (unless_referred name (tables_of definitions)) p new part free held).1)) (λ free. on_free definitions)
+            reads_bind session begin log mine tied (There definitions) (comes_to (unless_referred shape.name (tables_of definitions))) (λ free. Free definitions) (λ free. Fetching >>= λ images. Dropping definitions images >>= λ planned. applies [] planned >>= λ put. over (Ok no_effect))
+            (only_comes IsTouch IsFetch (unless_referred shape.name (tables_of definitions)))
+            (λ before part later p new free is held intact there. (there, (comes_apart (unless_referred shape.name (tables_of definitions)) p new part free held).1)) (λ free. on_free definitions)
+
+  -- what is defined as no table
+  pub erases_bring : (around : Around) (name : List ℕ) → Brings log mine (StandsWith log (λ db. IsNoTable db name)) (drops_definition around name) Dropped
+  unfolding drops_definition
+  erases_bring around name =
+      brings_bind log mine From (with_room (applies [] (definition_erased name ∷ []))) (λ (put : Result ℕ Failure). Stands log) (λ put. over (Ok no_effect)) Dropped
+      (brings_room log mine From (λ enough. if enough then applies [] (definition_erased name ∷ []) else fails no_memory) (λ (put : Result ℕ Failure). Stands log) by_room)
+      (λ put. brings_over log mine (Stands log) (Ok no_effect) Dropped (λ before later is stands. stands)) (λ failure before later is stands. stands)
+    where
+      From : List Exchange → List Exchange → Type 0
+      From = StandsWith log (λ db. IsNoTable db name)
+
+      by_room : (enough : Bool) → Brings log mine From (if enough then applies [] (definition_erased name ∷ []) else fails no_memory) (λ (put : Result ℕ Failure). Stands log)
+      by_room true = brings_mono log mine (StandsWith log (λ db. MayWrite db [] (definition_erased name ∷ []))) From (applies [] (definition_erased name ∷ [])) (λ (put : Result ℕ Failure). Stands log) (λ (put : Result ℕ Failure). Stands log)
+          (λ before later is from. (from.0, λ intact. record { parents = tt; rows = tt; intact = λ passes. firm_erased (at_place log before later) name (from.0 intact).now (from.1 intact) })) (λ a before later is stands. stands)
+          (applies_bring session begin log mine tied [] (definition_erased name ∷ []))
+      by_room false = brings_over log mine From (Err (plain no_memory)) (λ (put : Result ℕ Failure). Stands log) (λ before later is from. from.0)

@@ -1,4 +1,4 @@
--- Where a table's definition is put, or not, what stands goes on.
+-- Where a definition is put, or not, what stands goes on.
 use Rattle.std.proofs.Common.{◌≡◌, ◌≢◌, ℕ, Bool, true, false, if◌then◌else◌, List, [], ◌∷◌, ◌++◌, length, map, take, None, Result, Ok, Err, refl, sym, ap, subst, ◌∙◌, append-nil}
 use Rattle.step_model.specs.declared.change.Planned.{Planned}
 use Rattle.step_model.specs.declared.op.Op.{Op}
@@ -23,7 +23,7 @@ use Rattle.batch_meaning.specs.Changing.{created, object_present}
 use Rattle.batch_meaning.specs.Doing.{asks, over}
 use Rattle.batch_meaning.specs.Failures.{naming, plain}
 use Rattle.batch_meaning.specs.Selecting.{Effect, no_effect}
-use Rattle.batch_meaning.specs.Working.{creates, inserted}
+use Rattle.batch_meaning.specs.Writes.{creates, inserted}
 use Rattle.statement_paths.specs.Paths.{definition_put}
 use Rattle.sound_laws.specs.Stands.{Intact, Keeps, Brings, Stands, StandsAt, base_of}
 use Rattle.sound_laws.specs.Tied.{Tied}

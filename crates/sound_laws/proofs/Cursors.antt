@@ -1,58 +1,97 @@
 -- What the statements on cursors ask writes nothing.
-use Rattle.std.proofs.Common.{ℕ, Bool, List, Result, is_ok}
+use Rattle.std.proofs.Common.{◌==◌, ℕ, Bool, List, [], Option, Some, None, Result, Ok, Err, length}
+use Rattle.value_types.specs.declared.sql_type.SqlType.{SqlType}
+use Rattle.value_types.specs.declared.value.Value.{Value}
 use Rattle.tsql_tree.specs.declared.definition.TableTree.{TableTree}
 use Rattle.tsql_tree.specs.declared.query.Select.{Select}
 use Rattle.tsql_tree.specs.declared.statement.Statement.{Statement}
 use Rattle.bound_tree.specs.declared.write.Bound.{Bound}
+use Rattle.bound_tree.specs.declared.write.Bound.TheVariants as bound
+use Rattle.session_cursors.specs.declared.fault.CursorFault.{CursorFault}
+use Rattle.session_cursors.specs.declared.fault.CursorFault.TheVariants.{NoSuch, Present, AlreadyFilled, NotFilled, Memory}
+use Rattle.session_cursors.specs.Cursors.{close_answer, declare_answer, fill_answer, kinds_of as kinds_left, next_of, query_of, remove_answer}
 use Rattle.binder.specs.Names.{looked_up}
-use Rattle.step_model.specs.declared.op.Op.{Op}
 use Rattle.batch_meaning.specs.declared.failure.Failure.{Failure}
+use Rattle.batch_meaning.specs.Asking.{comes_to, fails, with_room}
+use Rattle.batch_meaning.specs.Cursors.{already_there, answered, assigns_row, closes_cursor, declares_cursor, fails_for_cursor, fetches_cursor, fetches_into, fetches_row, fills_with, kinds_of, no_such_cursor, opens_bound, opens_cursor, opens_kept, other_count, removes_cursor, select_statement}
+use Rattle.batch_meaning.specs.Doing.{Doing, makes, over, reads}
+use Rattle.batch_meaning.specs.Progress as step
+use Rattle.batch_meaning.specs.Progress.{SessionProgress}
 use Rattle.batch_meaning.specs.Raised.{Around}
-use Rattle.batch_meaning.specs.Cursors.{closes_cursor, declares_cursor, fetches_cursor, opens_bound, opens_cursor, removes_cursor, select_statement}
-use Rattle.batch_meaning.specs.Doing.{Doing, over, ◌then◌}
-use Rattle.batch_meaning.specs.Progress.{first_progress}
-use Rattle.batch_meaning.specs.Working.{asks_any, binds, enters, leaves, own, prepares, within}
-use Rattle.statement_paths.proofs.Only.{AnyStep, only_bind, only_room, only_then}
-use Rattle.statement_paths.proofs.Cursors.{IsCursorStep, IsLookStep, Silent, closes_silent, declares_silent, fetches_silent, only_opens, opens_look, removes_silent}
-use Rattle.statement_paths.proofs.Statements.{NoOp}
-use Rattle.statement_paths.proofs.Works.{prepares_reads}
-use Rattle.reading_laws.specs.Reads.{IsFetch}
-use Rattle.sound_laws.proofs.Statements.{enters_still, left_still}
+use Rattle.batch_meaning.specs.Selecting.{Effect, bound_over, no_effect}
+use Rattle.batch_meaning.specs.Transactions.{bound_first}
+use Rattle.batch_meaning.specs.Values.{assigned_to}
+use Rattle.batch_meaning.specs.Working.{answers, asks_any, binds, enters, known_by, own, prepares, within}
+use Rattle.statement_paths.proofs.Only.{AnyStep, only_bind, only_comes, only_if, only_naming, only_room, only_then}
+use Rattle.sound_laws.proofs.Preparing.{prepares_read}
+use Rattle.sound_laws.proofs.Statements.{answers_still, enters_still, left_still}
 use Rattle.sound_laws.proofs.Steps.{IsStill}
-use Rattle.sound_laws.proofs.Trees.{WritesNothing, fetch_still, only_more, reads_still}
+use Rattle.sound_laws.proofs.Trees.{WritesNothing, reads_still}
+
+-- ---- by what is answered of a cursor
+
+pub first_still : (statement : Statement) (go : SessionProgress → Doing (Result Effect Failure)) → ((p : SessionProgress) → WritesNothing (go p)) → WritesNothing (bound_first statement go)
+first_still statement go still =
+    only_bind AnyStep IsStill (reads λ p. comes_to (bound_over [] p.vars statement)) (λ of. with_room (reads go)) (λ p. only_comes AnyStep IsStill (bound_over [] p.vars statement)) (λ of. only_room AnyStep IsStill (reads go) still)
+
+fault_still : (A : Type 0) (name : List ℕ) (fault : CursorFault) → WritesNothing (fails_for_cursor {A = A} name fault)
+fault_still A name Present = only_naming AnyStep IsStill A already_there name
+fault_still A name NoSuch = only_naming AnyStep IsStill A no_such_cursor name
+fault_still A name AlreadyFilled = tt
+fault_still A name NotFilled = tt
+fault_still A name Memory = tt
+
+answer_still : {A B : Type 0} (name : List ℕ) (go : A → Doing (Result B Failure)) (answer : Result A CursorFault) → ((a : A) → WritesNothing (go a)) → WritesNothing (answered name go answer)
+answer_still name go (Ok a) still = still a
+answer_still {B = B} name go (Err fault) still = fault_still B name fault
 
 -- ---- what asks nothing
 
-silent_still : {A : Type 0} (tree : Doing A) → Silent tree → WritesNothing tree
-silent_still tree silent = only_more IsCursorStep NoOp IsStill none_still tree silent
-  where
-    none_still : (op : Op) → NoOp op → IsStill op
-    none_still op none = absurd none
-
 pub declares_still : (statement : Statement) (name : List ℕ) (select : Select) → WritesNothing (declares_cursor statement name select)
-declares_still statement name select = silent_still (declares_cursor statement name select) (declares_silent statement name select)
+unfolding declares_cursor
+declares_still statement name select = first_still statement _ (λ p. answer_still name (λ done. makes (step.declares name select) (over (Ok no_effect))) (declare_answer name p.cursors) (λ done. (tt, tt)))
+
+row_still : (p : SessionProgress) (variables : List (List ℕ)) (row : Option (List Value)) → WritesNothing (assigns_row p variables row)
+row_still p variables None = (tt, tt)
+row_still p variables (Some row) = only_bind AnyStep IsStill (comes_to (assigned_to p.vars variables row)) _ (only_comes AnyStep IsStill (assigned_to p.vars variables row)) (λ sets. (tt, tt))
+
+into_still : (p : SessionProgress) (name : List ℕ) (variables : List (List ℕ)) (kinds : List SqlType) → WritesNothing (fetches_into p name variables kinds)
+into_still p name variables kinds = only_if AnyStep IsStill (length variables == length kinds) (answered name (λ row. with_room (fetches_row p name variables row)) (next_of name p.cursors)) (fails other_count)
+    (answer_still name (λ row. with_room (fetches_row p name variables row)) (next_of name p.cursors) (λ row. only_room AnyStep IsStill (fetches_row p name variables row) (tt, row_still p variables row))) tt
 
 pub fetches_still : (statement : Statement) (name : List ℕ) (variables : List (List ℕ)) → WritesNothing (fetches_cursor statement name variables)
-fetches_still statement name variables = silent_still (fetches_cursor statement name variables) (fetches_silent statement name variables)
+unfolding fetches_cursor
+fetches_still statement name variables = first_still statement _ (λ p. answer_still name (fetches_into p name variables) (kinds_left name p.cursors) (into_still p name variables))
 
 pub closes_still : (statement : Statement) (name : List ℕ) → WritesNothing (closes_cursor statement name)
-closes_still statement name = silent_still (closes_cursor statement name) (closes_silent statement name)
+unfolding closes_cursor
+closes_still statement name = first_still statement _ (λ p. answer_still name (λ done. makes (step.shuts name) (over (Ok no_effect))) (close_answer name p.cursors) (λ done. (tt, tt)))
 
 pub removes_still : (statement : Statement) (name : List ℕ) → WritesNothing (removes_cursor statement name)
-removes_still statement name = silent_still (removes_cursor statement name) (removes_silent statement name)
+unfolding removes_cursor
+removes_still statement name = first_still statement _ (λ p. answer_still name (λ done. makes (step.removes name) (over (Ok no_effect))) (remove_answer name p.cursors) (λ done. (tt, tt)))
 
 -- ---- OPEN
 
-own_still : {A : Type 0} (asking : Bool) (work : Doing (Result A Failure)) → WritesNothing work → WritesNothing (own asking work)
+pub own_still : {A : Type 0} (asking : Bool) (work : Doing (Result A Failure)) → WritesNothing work → WritesNothing (own asking work)
 unfolding own
 own_still asking work still = only_bind AnyStep IsStill (enters asking) _ (enters_still asking)
-    (λ home. only_then AnyStep IsStill work (λ came. leaves home (is_ok came) then λ done. over came) still (λ came. left_still home came))
+    (λ home. only_then AnyStep IsStill work _ still (λ came. left_still home came))
 
-within_still : {A : Type 0} (statement : Statement) (go : List TableTree → Bound → Doing (Result A Failure)) → ((shapes : List TableTree) (of : Bound) → WritesNothing (go shapes of)) → WritesNothing (within statement go)
+within_still : {A : Type 0} (around : Around) (statement : Statement) (go : List TableTree → Bound → Doing (Result A Failure)) → ((shapes : List TableTree) (of : Bound) → WritesNothing (go shapes of)) → WritesNothing (within around statement go)
 unfolding within binds
-within_still statement go still = only_room AnyStep IsStill (own (asks_any (looked_up statement)) (binds statement go)) (own_still (asks_any (looked_up statement)) (binds statement go)
-    (only_bind AnyStep IsStill (prepares statement) (λ made. go made.0 made.1) (reads_still (prepares statement) (prepares_reads statement)) (λ made. still made.0 made.1)))
+within_still around statement go still = only_room AnyStep IsStill (own (asks_any (known_by around statement) (looked_up statement)) (binds around statement go)) (own_still (asks_any (known_by around statement) (looked_up statement)) (binds around statement go)
+    (only_bind AnyStep IsStill (prepares around statement) (λ made. go made.0 made.1) (reads_still (prepares around statement) (prepares_read around statement)) (λ made. still made.0 made.1)))
+
+bound_still : (around : Around) (name : List ℕ) (shapes : List TableTree) (of : Bound) → WritesNothing (opens_bound around name shapes of)
+unfolding fills_with
+bound_still around name shapes (bound.Query query) = only_bind AnyStep IsStill (answers around shapes query) _ (answers_still around shapes query)
+    (λ rows. only_room AnyStep IsStill (makes (step.fills name (kinds_of query) rows) (over (Ok no_effect))) (tt, tt))
+bound_still around name shapes (bound.Assign query places) = tt
+bound_still around name shapes (bound.Write write) = tt
+bound_still around name shapes bound.Plain = tt
 
 pub opens_still : (around : Around) (statement : Statement) (name : List ℕ) → WritesNothing (opens_cursor around statement name)
-opens_still around statement name = only_opens AnyStep IsStill around statement name (λ select.
-    within_still (select_statement statement select) (opens_bound around name) (λ shapes of. only_more IsLookStep IsFetch IsStill fetch_still (opens_bound around name shapes of) (opens_look around first_progress name shapes of)))
+unfolding opens_cursor
+opens_still around statement name = first_still statement _ (λ p. answer_still name (opens_kept around statement name p) (query_of name p.cursors)
+    (λ select. answer_still name (λ done. within around (select_statement statement select) (opens_bound around name)) (fill_answer name p.cursors) (λ done. within_still around (select_statement statement select) (opens_bound around name) (bound_still around name))))

@@ -1,5 +1,4 @@
--- Where all of `objects` was read, its range held, the tables among the definitions are those that are defined in the
--- database at the transaction's place.
+-- Where all of `objects` was read, its range held, the definitions are those of the database at the transaction's place.
 use Rattle.std.proofs.Common.{◌≡◌, List, [], ◌∷◌, ◌++◌, refl, sym, subst}
 use Rattle.lock_modes.specs.declared.KeyPart.TheVariants.{S}
 use Rattle.value_types.specs.declared.table_name.TableName.{TableName}
@@ -15,7 +14,7 @@ use Rattle.step_model.specs.Database.{Database, In}
 use Rattle.step_model.specs.Exchange.{Exchange, CanReply}
 use Rattle.step_model.specs.Fits.{ranges_hold}
 use Rattle.step_model.specs.Log.{Commit as Logged}
-use Rattle.catalog_rows.specs.Definitions.{objects_name, tables_of}
+use Rattle.catalog_rows.specs.Definitions.{objects_name}
 use Rattle.constraint_check.specs.Reads.{rows_table}
 use Rattle.dml_exec.specs.Reading.{behind_gone}
 use Rattle.batch_meaning.specs.Asking.{with_found}
@@ -23,9 +22,9 @@ use Rattle.reading_laws.specs.Reads.{AskOnly, FindsBy, HoldsIt, KeysHave, Walks,
 use Rattle.reading_laws.proofs.Walks.{walk_read}
 use Rattle.statement_paths.specs.Paths.{AddsBy, AreDefined}
 use Rattle.integrity_laws.specs.Found.{Entry, ReadAs}
-use Rattle.integrity_laws.specs.Laws.{AreTables}
+use Rattle.integrity_laws.specs.Laws.{AreDefinitions}
 use Rattle.integrity_laws.specs.Sound.{Firm}
-use Rattle.integrity_laws.proofs.Found.{found_tables}
+use Rattle.integrity_laws.proofs.Found.{found_definitions}
 use Rattle.integrity_laws.proofs.Keys.{keys_sized}
 use Rattle.sound_laws.proofs.Here.{hold_fetches}
 use Rattle.sound_laws.proofs.Trees.{front_place}
@@ -81,12 +80,12 @@ module _ (manner : Manner) (all : List Definition) where
       by_reply (replies.End at) adds goes = subst (AskOnly HoldsIt) (sym adds.0) tt
       by_reply reply adds goes = absurd adds
 
-pub tables_read : (log : List Logged) (mine front part rest : List Exchange) (manner : Manner) (all : List Definition) → ranges_hold log mine
-    → mine ≡ front ++ (part ++ rest) → AreDefined manner First [] part all → Firm (at_place log front (part ++ rest)) → AreTables (at_place log front (part ++ rest)) (tables_of all)
-tables_read log mine front part rest manner all ranges is defined firm =
+pub definitions_hold : (log : List Logged) (mine front part rest : List Exchange) (manner : Manner) (all : List Definition) → ranges_hold log mine
+    → mine ≡ front ++ (part ++ rest) → AreDefined manner First [] part all → Firm (at_place log front (part ++ rest)) → AreDefinitions (at_place log front (part ++ rest)) all
+definitions_hold log mine front part rest manner all ranges is defined firm =
     let holds = defined_holds manner all part First [] defined in
     let there : at_place log front (part ++ rest) ≡ at_place log front rest = front_place log front part rest (hold_fetches part holds) in
     let read = all_read manner all part First [] defined in
     let rows : In (at_place log front rest) objects First Last read.entries = walk_read log mine front part rest 1 objects First Last S read.entries is ranges read.walks
     (subst (λ (db : Database). KeysHave 1 db objects) there (keys_sized (at_place log front (part ++ rest)) firm).0) in
-    found_tables (at_place log front (part ++ rest)) read.entries all firm (subst (λ (db : Database). In db objects First Last read.entries) (sym there) rows) read.reads
+    found_definitions (at_place log front (part ++ rest)) read.entries all firm (subst (λ (db : Database). In db objects First Last read.entries) (sym there) rows) read.reads

@@ -1,14 +1,14 @@
 -- Where each commit is one of a batch, each database of the log is intact; and so it is sound.
 use Rattle.std.proofs.Common.{◌≡◌, ℕ, zero, suc, ◌+◌, ◌-◌, ◌≤◌, ◌<◌, List, length, take, subst, arith}
 use Rattle.step_model.specs.Log.{Commit as Logged, State}
-use Rattle.integrity_laws.proofs.Empty.{firm_empty, untriggered_empty}
+use Rattle.integrity_laws.proofs.Empty.{firm_empty}
 use Rattle.integrity_laws.proofs.Whole.{firm_sound}
 use Rattle.sound_laws.specs.Laws.{IntactSound, IsOfBatch, LogSound, WholeLogSound}
 use Rattle.sound_laws.specs.Stands.{Intact}
 use Rattle.sound_laws.proofs.Serving.{served_keep}
 
 pub intact_sound : IntactSound
-intact_sound db intact = firm_sound db intact.firm
+intact_sound db intact = firm_sound db intact
 
 -- one commit more
 one_more : (log : List Logged) (place : ℕ) → IsOfBatch log place → Intact (State (take place log)) → Intact (State (take (place + 1) log))
@@ -34,4 +34,4 @@ log_sound log first intact each place low high =
 
 pub whole_log_sound : WholeLogSound
 whole_log_sound log each place high =
-    log_sound log 0 (record { firm = firm_empty; untriggered = untriggered_empty }) (λ place low. each place) place (omega arith) high
+    log_sound log 0 firm_empty (λ place low. each place) place (omega arith) high

@@ -1,61 +1,76 @@
--- So does each batch: by induction on the levels of its statements.
-use Rattle.std.proofs.Common.{◌≡◌, ℕ, zero, suc, ℤ, ◌==◌, not, Bool, true, false, if◌then◌else◌, List, [], ◌∷◌, Option, Some, None, Result, Ok, Err, refl}
-use Rattle.std.specs.Prelude.{◌&&◌, nat_le, pos}
+-- So does each batch: by induction on the levels of its statements. The bodies of procedures and triggers are statements whose tables read back, too.
+use Rattle.std.proofs.Common.{◌≡◌, ℕ, zero, suc, ℤ, ◌==◌, not, Bool, true, false, if◌then◌else◌, is_ok, List, [], ◌∷◌, Option, Some, None, Result, Ok, Err, refl, ap}
+use Rattle.std.specs.Prelude.{◌&&◌, nat_le, nat_lt, pos}
 use Rattle.std.specs.List.{AllByRecursion}
 use Rattle.std.specs.Option.{ForSome}
+use Rattle.tsql_tree.specs.declared.definition.Definition.{Definition}
+use Rattle.tsql_tree.specs.declared.definition.TriggerTree.{TriggerTree}
 use Rattle.tsql_tree.specs.declared.option.SessionOption.{SessionOption}
+use Rattle.tsql_tree.specs.declared.statement.Argument.{Argument}
 use Rattle.tsql_tree.specs.declared.statement.Form.{Form-F}
 use Rattle.tsql_tree.specs.declared.statement.Statement.{Statement}
-use Rattle.binder.specs.Names.{Layer, form_of}
+use Rattle.bound_tree.specs.declared.write.Bound.{Bound}
+use Rattle.binder.specs.Names.{Layer, form_of, looked_up}
 use Rattle.error_table.specs.declared.action.Action.{Action}
 use Rattle.error_table.specs.declared.action.Action.TheVariants as action
+use Rattle.session_vars.specs.declared.Variable.{Variable}
 use Rattle.step_model.specs.declared.op.Op.TheVariants as ops
 use Rattle.step_model.specs.declared.reply.Reply.{Reply}
 use Rattle.step_model.specs.declared.reply.Reply.TheVariants as replies
+use Rattle.step_model.specs.Ranges.{no_memory}
 use Rattle.txn_rules.specs.declared.state.BackKind.{BackKind}
 use Rattle.txn_rules.specs.declared.state.BackKind.TheVariants.{Mark, Whole}
-use Rattle.txn_rules.specs.declared.state.TxnState.{TxnState}
 use Rattle.txn_rules.specs.State.{commit_answer, count_limit, is_closed, rollback_answer, save_refusal}
+use Rattle.tds_tokens.specs.Numbers.{command_none}
 use Rattle.tds_tokens.specs.declared.token.Token.{Token}
 use Rattle.batch_meaning.specs.declared.exit.Exit.{Exit}
-use Rattle.batch_meaning.specs.declared.exit.Exit.TheVariants.{On, Leave, Again, Return, Raise, End}
+use Rattle.batch_meaning.specs.declared.exit.Exit.TheVariants.{On, Leave, Again, Return, Raise, RaiseUp, End}
 use Rattle.batch_meaning.specs.declared.failure.Failure.{Failure}
 use Rattle.batch_meaning.specs.declared.form.ReadText.{ReadText}
 use Rattle.batch_meaning.specs.declared.form.ReadText.TheVariants as text
+use Rattle.batch_meaning.specs.declared.home.Home.{Home}
+use Rattle.batch_meaning.specs.declared.home.Home.TheVariants.{Nowhere, Open, Own}
 use Rattle.batch_meaning.specs.declared.raised.Raised.{Raised}
 use Rattle.batch_meaning.specs.declared.settings.Settings.{Settings}
-use Rattle.batch_meaning.specs.Asking.{comes_to, fails, marked, unless_refused, where_begun, where_ended, with_room}
+use Rattle.batch_meaning.specs.declared.stop.Stop.{Stop}
+use Rattle.batch_meaning.specs.declared.stop.Stop.TheVariants.{Failed, Left}
+use Rattle.batch_meaning.specs.Asking.{assigns_all, comes_to, fails, finds_by, marked, unless_refused, where_begun, where_ended, with_room, ◌>>=◌}
+use Rattle.batch_meaning.specs.Calls.{Call, call_over, call_vars, depth_limit, finds_call, given_back, too_deep}
 use Rattle.batch_meaning.specs.Cursors.{closes_cursor, declares_cursor, fetches_cursor, opens_cursor, removes_cursor}
-use Rattle.batch_meaning.specs.Doing.{Doing, asks, makes, over, reads, ◌then◌}
+use Rattle.batch_meaning.specs.Doing.{Doing, asks, makes, over, reads, room, ◌then◌}
 use Rattle.batch_meaning.specs.Failures.{plain}
-use Rattle.batch_meaning.specs.Meaning.{Meaning, batch, branch, caught_as, concluded, concludes, counted, decides, does, doomed_write, each_of, ended_by, ends, ends_doomed, fails_for, goes_on, handled, is_refused_doomed, mean_by, mean_form, mean_of, raises, raises_again, raises_or_tells, rolls_back_open, rolls_back_told, runs_text, sends_some, set_by, sets_option, spends, strikes, succeeds, tells, told_as, tries, turned, turns, turns_again, leaves_rows}
+use Rattle.batch_meaning.specs.Firing.{closes_own, has_mark, in_trigger, leaves_fired, relaxes_then, settles, trigger_end, undone_to}
+use Rattle.batch_meaning.specs.Meaning.{Meaning, batch, branch, calls, caught_as, concluded, concludes, counted, decides, defined, defines_object, does, doomed_write, each_of, effect_of, ended_by, ends, ends_call, ends_doomed, ends_even, ends_uneven, ends_uneven_as, fails_for, fires, gives_back, goes_on, handled, is_refused_doomed, leaves_rows, mean_by, mean_form, mean_of, raises, raises_again, raises_at, raises_or_tells, returns_from, rolls_back_open, rolls_back_told, runs_body, runs_call, runs_fired, runs_text, runs_trigger, runs_triggers, sends_some, set_by, sets_option, spends, strikes, succeeds, tells, tells_behind, told_as, told_unless_own, tries, turned, turns, turns_again, uneven_end, uneven_tokens, unless_stopped, where_it_fits, writes, writes_in, written, written_in, written_with}
 use Rattle.batch_meaning.specs.Progress as step
-use Rattle.batch_meaning.specs.Progress.{SessionProgress, statement_limit}
-use Rattle.batch_meaning.specs.Raised.{Around, action_in, around_batch, in_catch, in_try, is_caught_in}
-use Rattle.batch_meaning.specs.Selecting.{Effect, bound_over, no_effect, sending}
+use Rattle.batch_meaning.specs.Progress.{SessionProgress, size_of, statement_limit}
+use Rattle.batch_meaning.specs.Raised.{Around, Fired, action_in, around_batch, in_body, in_catch, in_try, is_caught_in}
+use Rattle.batch_meaning.specs.Selecting.{Effect, bound_over, no_effect, result_full, sending}
 use Rattle.batch_meaning.specs.Settings.{outside_profile, set_option}
-use Rattle.batch_meaning.specs.Tokens.{transaction_begun, transaction_committed, transaction_rolled_back}
-use Rattle.batch_meaning.specs.Transactions.{begins_outermost, begins_over, begins_transaction, bound_first, commits_by, commits_transaction, goes_back, next_serial, nothing_open, rolls_back_to, rolls_back_transaction, rolls_back_whole, saves_transaction, saves_unless}
+use Rattle.batch_meaning.specs.Statements.{vars_of}
+use Rattle.batch_meaning.specs.Tokens.{done_kind, procedure_done, transaction_begun, transaction_committed, transaction_rolled_back}
+use Rattle.batch_meaning.specs.Transactions.{begins_outermost, begins_over, begins_transaction, commits_by, commits_transaction, goes_back, next_serial, nothing_open, rolls_back_to, rolls_back_transaction, rolls_back_whole, saves_transaction, saves_unless, unless_own}
 use Rattle.batch_meaning.specs.Values.{is_message}
-use Rattle.batch_meaning.specs.Working.{composes, creates_table, tests, works}
+use Rattle.batch_meaning.specs.Working.{asks_any, binds, composes, enters, known_by, leaves, own, relaxes, statuses, tests, works}
+use Rattle.batch_meaning.specs.Writes.{Written, change_bound, creates_definition, creates_table, drops}
+use Rattle.statement_paths.proofs.Looking.{finds_read}
 use Rattle.statement_paths.proofs.Only.{AnyStep, only_bind, only_comes, only_if, only_room, only_then}
 use Rattle.sound_laws.specs.Laws.{BatchSound, RollbackSound, StatementSound}
-use Rattle.sound_laws.specs.Stands.{Carries}
+use Rattle.sound_laws.specs.Stands.{Carries, Stands}
 use Rattle.text_laws.specs.Laws.{EachIn, Everywhere, ReadsBack, ReadsBackAs, TextReadsBack, Within}
-use Rattle.sound_laws.proofs.Cursors.{closes_still, declares_still, fetches_still, opens_still, removes_still}
-use Rattle.sound_laws.proofs.Statements.{begun_still, bytes_still, carries_if, carries_makes, carries_reads, carries_then, composes_carry, creates_carry, done_still, ended_still, tests_carry, works_carry}
+use Rattle.sound_laws.proofs.Bringing.{brings_room, brings_then}
+use Rattle.sound_laws.proofs.Cursors.{closes_still, declares_still, fetches_still, first_still, opens_still, own_still, removes_still}
+use Rattle.sound_laws.proofs.Defining.{defines_carry}
+use Rattle.sound_laws.proofs.Statements.{begun_still, bytes_still, carries_if, carries_makes, carries_reads, carries_then, change_carry, closes_still as own_closes_still, composes_carry, creates_carry, done_still, drops_carry, ended_still, enters_still, leaves_still, relaxes_still, statuses_carry, tests_carry, works_carry}
 use Rattle.sound_laws.proofs.Steps.{IsStill}
-use Rattle.sound_laws.proofs.Trees.{WritesNothing, carries_still, only_assigns, only_refused}
+use Rattle.sound_laws.proofs.Targets.{target_of}
+use Rattle.sound_laws.proofs.Trees.{WritesNothing, carries_still, only_assigns, only_refused, reads_still}
+use Rattle.sound_laws.proofs.Yields.{CallBack, FiresBack, TriggerBack, Well, Yields, brings_yields, call_yields, write_yields}
 
 -- ---- BEGIN TRANSACTION, COMMIT, ROLLBACK and SAVE TRANSACTION
 
 marked_still : {A : Type 0} (next : ℕ → Doing (Result A Failure)) → ((mark : ℕ) → WritesNothing (next mark)) → (reply : Reply) → WritesNothing (marked next reply)
 marked_still next still (replies.Marked mark) = still mark
 marked_still next still reply = tt
-
-first_still : (statement : Statement) (go : SessionProgress → Doing (Result Effect Failure)) → ((p : SessionProgress) → WritesNothing (go p)) → WritesNothing (bound_first statement go)
-first_still statement go still =
-    only_bind AnyStep IsStill (reads λ p. comes_to (bound_over [] p.vars statement)) (λ of. with_room (reads go)) (λ p. only_comes AnyStep IsStill (bound_over [] p.vars statement)) (λ of. only_room AnyStep IsStill (reads go) still)
 
 outermost_still : (name : Option (List ℕ)) (serial : ℕ) → WritesNothing (begins_outermost name serial)
 unfolding begins_outermost
@@ -74,31 +89,31 @@ begins_still statement name = first_still statement (begins_over name)
 
 commits_still : (statement : Statement) → WritesNothing (commits_transaction statement)
 unfolding commits_transaction
-commits_still statement = first_still statement (λ p. commits_by p.txn (commit_answer p.txn)) (λ p. by_answer p.txn (commit_answer p.txn))
+commits_still statement = first_still statement (λ p. commits_by p (commit_answer p.txn)) (λ p. by_answer p (commit_answer p.txn))
   where
-    by_answer : (txn : TxnState) (answer : Result Bool ℤ) → WritesNothing (commits_by txn answer)
-    by_answer txn (Err number) = tt
-    by_answer txn (Ok false) = (tt, tt)
-    by_answer txn (Ok true) = bytes_still (transaction_committed txn.serial ∷ []) (asks ops.Commit (where_ended (over (Ok (sending (transaction_committed txn.serial ∷ []))))))
-        (tt, λ reply can. ended_still (over (Ok (sending (transaction_committed txn.serial ∷ [])))) tt reply)
+    by_answer : (p : SessionProgress) (answer : Result Bool ℤ) → WritesNothing (commits_by p answer)
+    by_answer p (Err number) = tt
+    by_answer p (Ok false) = (tt, tt)
+    by_answer p (Ok true) = bytes_still (unless_own p.is_own (transaction_committed p.txn.serial)) (asks ops.Commit (where_ended (over (Ok (sending (unless_own p.is_own (transaction_committed p.txn.serial)))))))
+        (tt, λ reply can. ended_still (over (Ok (sending (unless_own p.is_own (transaction_committed p.txn.serial))))) tt reply)
 
-whole_still : (txn : TxnState) → WritesNothing (rolls_back_whole txn)
+whole_still : (p : SessionProgress) → WritesNothing (rolls_back_whole p)
 unfolding rolls_back_whole
-whole_still txn = bytes_still (transaction_rolled_back txn.serial ∷ []) (asks ops.Rollback (where_ended (over (Ok (sending (transaction_rolled_back txn.serial ∷ []))))))
-    (tt, λ reply can. ended_still (over (Ok (sending (transaction_rolled_back txn.serial ∷ [])))) tt reply)
+whole_still p = bytes_still (unless_own p.is_own (transaction_rolled_back p.txn.serial)) (asks ops.Rollback (where_ended (over (Ok (sending (unless_own p.is_own (transaction_rolled_back p.txn.serial)))))))
+    (tt, λ reply can. ended_still (over (Ok (sending (unless_own p.is_own (transaction_rolled_back p.txn.serial))))) tt reply)
 
-back_still : (name : List ℕ) (txn : TxnState) (answer : Result BackKind ℤ) → WritesNothing (goes_back name txn answer)
-back_still name txn (Err number) = only_room AnyStep IsStill (over (Err (record { number = number; name = Some name }))) tt
-back_still name txn (Ok Whole) = whole_still txn
-back_still name txn (Ok (Mark mark)) = (tt, λ reply can. done_still (over (Ok no_effect)) tt reply)
+back_still : (name : List ℕ) (p : SessionProgress) (answer : Result BackKind ℤ) → WritesNothing (goes_back name p answer)
+back_still name p (Err number) = only_room AnyStep IsStill (over (Err (record { number = number; name = Some name }))) tt
+back_still name p (Ok Whole) = whole_still p
+back_still name p (Ok (Mark mark)) = (tt, λ reply can. done_still (over (Ok no_effect)) tt reply)
 
-to_still : (name : Option (List ℕ)) (txn : TxnState) → WritesNothing (rolls_back_to name txn)
-to_still None txn = only_if AnyStep IsStill (is_closed txn) (fails nothing_open) (rolls_back_whole txn) tt (whole_still txn)
-to_still (Some name) txn = back_still name txn (rollback_answer name txn)
+to_still : (name : Option (List ℕ)) (p : SessionProgress) → WritesNothing (rolls_back_to name p)
+to_still None p = only_if AnyStep IsStill (is_closed p.txn) (fails nothing_open) (rolls_back_whole p) tt (whole_still p)
+to_still (Some name) p = back_still name p (rollback_answer name p.txn)
 
 rolls_still : (statement : Statement) (name : Option (List ℕ)) → WritesNothing (rolls_back_transaction statement name)
 unfolding rolls_back_transaction
-rolls_still statement name = first_still statement (λ p. rolls_back_to name p.txn) (λ p. to_still name p.txn)
+rolls_still statement name = first_still statement (λ p. rolls_back_to name p) (λ p. to_still name p)
 
 saves_still : (statement : Statement) (name : List ℕ) → WritesNothing (saves_transaction statement name)
 unfolding saves_transaction
@@ -116,10 +131,11 @@ saves_still statement name = first_still statement (λ p. saves_unless name (sav
 
 told_still : WritesNothing rolls_back_told
 unfolding rolls_back_told
-told_still = λ p. only_if AnyStep IsStill p.is_open (asks ops.Rollback (where_ended (Told p))) (over tt) (tt, λ reply can. ended_still (Told p) (tt, tt) reply) tt
+told_still = λ p. only_if AnyStep IsStill p.is_open (asks ops.Rollback (where_ended (told_unless_own p.is_own p.txn.serial))) (over tt) (tt, λ reply can. ended_still (told_unless_own p.is_own p.txn.serial) (told p.is_own p.txn.serial) reply) tt
   where
-    Told : SessionProgress → Doing (Unit {0})
-    Told p = makes (step.sends (transaction_rolled_back p.txn.serial ∷ [])) (over tt)
+    told : (own : Bool) (serial : ℕ) → WritesNothing (told_unless_own own serial)
+    told true serial = tt
+    told false serial = (tt, tt)
 
 pub open_still : WritesNothing rolls_back_open
 unfolding rolls_back_open
@@ -140,14 +156,17 @@ caught_still action.BatchAndTransaction raised = tt
 
 strikes_still : (around : Around) (xact_abort : Bool) (command : ℕ) (raised : Raised) → WritesNothing (strikes around xact_abort command raised)
 strikes_still around xact_abort command raised =
-    (tt, only_if AnyStep IsStill (is_caught_in around raised) (caught_as What raised) (told_as What command raised) (caught_still What raised) (tt, ended_by_still What))
+    (tt, only_if AnyStep IsStill (is_caught_in around raised) (caught_as What raised) (told_as (done_kind around) What command raised) (caught_still What raised) (tt, ended_by_still What))
   where
     What : Action
     What = action_in around xact_abort raised
 
+raised_still : (around : Around) (line : ℤ) (command : ℕ) (raised : Raised) → WritesNothing (raises_at around line command raised)
+unfolding raises_at
+raised_still around line command raised = λ p. strikes_still around p.settings.xact_abort command _
+
 raises_still : (around : Around) (statement : Statement) (raised : Raised) → WritesNothing (raises around statement raised)
-unfolding raises
-raises_still around statement raised = λ p. strikes_still around p.settings.xact_abort _ _
+raises_still around statement raised = raised_still around _ _ raised
 
 counted_still : (form : Layer) (rows : ℕ) (next : Doing Exit) → WritesNothing next → WritesNothing (counted form rows next)
 counted_still form rows next still = only_if AnyStep IsStill (leaves_rows form) next (makes (step.tells_rows rows) next) still (tt, still)
@@ -216,8 +235,9 @@ goes_carry : (next : Doing Exit) → Carries next → (exit : Exit) → Carries 
 goes_carry next carries On = carries
 goes_carry next carries Leave = over_carries Leave
 goes_carry next carries Again = over_carries Again
-goes_carry next carries Return = over_carries Return
+goes_carry next carries (Return status) = over_carries (Return status)
 goes_carry next carries (Raise raised) = over_carries (Raise raised)
+goes_carry next carries (RaiseUp raised) = over_carries (RaiseUp raised)
 goes_carry next carries End = over_carries End
 
 each_carry : (one : Statement → Meaning) (statements : List Statement) (around : Around) → AllByRecursion (AllCarry one) statements → Carries (each_of one statements around)
@@ -231,12 +251,101 @@ handled_carry handler carries (Raise raised) = carries raised
 handled_carry handler carries On = over_carries On
 handled_carry handler carries Leave = over_carries Leave
 handled_carry handler carries Again = over_carries Again
-handled_carry handler carries Return = over_carries Return
+handled_carry handler carries (Return status) = over_carries (Return status)
+handled_carry handler carries (RaiseUp raised) = over_carries (RaiseUp raised)
 handled_carry handler carries End = over_carries End
 
 turned_carry : (again : Doing Exit) → Carries again → (left : Option Exit) → Carries (turns_again again left)
 turned_carry again carries None = carries
 turned_carry again carries (Some exit) = over_carries exit
+
+-- ---- trees of which more is known
+
+carries_given : {A B : Type 0} (P : A → Type 0) (tree : Doing A) (go : A → Doing B) → Carries tree → Yields P tree → ((a : A) → P a → Carries (go a)) → Carries (tree then go)
+carries_given {A} {B} P tree go first yields second session begin log mine tied =
+    brings_then log mine (Stands log) tree (λ a before later. Stands log before later × P a) go (λ (b : B). Stands log) (brings_yields log mine (Stands log) tree (λ a. Stands log) P (first session begin log mine tied) yields)
+    (λ a before part later p is agree from. second a from.1 session begin log mine tied before part later p is agree from.0)
+
+carries_any : {A : Type 0} (next : Bool → Doing A) → ((enough : Bool) → Carries (next enough)) → Carries (room next)
+carries_any {A} next each session begin log mine tied = brings_room log mine (Stands log) next (λ (a : A). Stands log) (λ enough. each enough session begin log mine tied)
+
+-- ---- the end of a call
+
+fits_still : (around : Around) (statement : Statement) (tokens : List Token) (next : Doing Exit) → WritesNothing next → WritesNothing (where_it_fits around statement tokens next)
+fits_still around statement tokens next still = λ p. only_if AnyStep IsStill (nat_lt p.bytes_left (size_of tokens)) (fails_for around statement (plain result_full)) next (fails_still around statement (plain result_full)) still
+
+even_still : (around : Around) (statement : Statement) (status : ℤ) → WritesNothing (ends_even around statement status)
+unfolding ends_even
+even_still around statement status = fits_still around statement (procedure_done status) (succeeds statement (sending (procedure_done status)) (over On)) (succeeds_still statement (sending (procedure_done status)) (over On) tt)
+
+uneven_end_still : (caught : Bool) (what : Action) (raised : Raised) → WritesNothing (uneven_end caught what raised)
+uneven_end_still true what raised = caught_still what raised
+uneven_end_still false what raised = ended_by_still what
+
+uneven_still : (around : Around) (statement : Statement) (status : ℤ) (raised : Raised) → WritesNothing (ends_uneven around statement status raised)
+unfolding ends_uneven
+uneven_still around statement status raised = λ p. by (is_caught_in around raised) (action_in around p.settings.xact_abort raised)
+  where
+    by : (caught : Bool) (what : Action) → WritesNothing (ends_uneven_as around statement status raised caught what)
+    by caught what = fits_still around statement (uneven_tokens caught what status raised) _ (tt, (tt, (tt, uneven_end_still caught what raised)))
+
+call_ends_still : (around : Around) (statement : Statement) (count : ℕ) (status : ℤ) → WritesNothing (ends_call around statement count status)
+call_ends_still around statement count status = λ p. only_if AnyStep IsStill (p.txn.count == count) (ends_even around statement status) _ (even_still around statement status) (uneven_still around statement status _)
+
+back_given_still : (around : Around) (statement : Statement) (status : Option (List ℕ)) (arguments : List Argument) (call : Call) (count : ℕ) (inner : List Variable) (number : ℤ) → WritesNothing (gives_back around statement status arguments call count inner number)
+unfolding gives_back concludes
+back_given_still around statement status arguments call count inner number =
+    only_then AnyStep IsStill (reads λ p. comes_to (given_back p.vars status arguments call number inner)) _ (λ p. only_comes AnyStep IsStill (given_back p.vars status arguments call number inner)) by_came
+  where
+    by_came : (came : Result (List _) Failure) → WritesNothing (concluded around statement (λ sets. assigns_all sets (ends_call around statement count number)) came)
+    by_came (Ok sets) = only_assigns IsStill sets (ends_call around statement count number) (call_ends_still around statement count number)
+    by_came (Err failure) = fails_still around statement failure
+
+returns_still : (around : Around) (statement : Statement) (status : Option (List ℕ)) (arguments : List Argument) (call : Call) (count : ℕ) (inner : List Variable) (exit : Exit) → WritesNothing (returns_from around statement status arguments call count inner exit)
+returns_still around statement status arguments call count inner (Raise raised) = (tt, tt)
+returns_still around statement status arguments call count inner (RaiseUp raised) = (tt, tt)
+returns_still around statement status arguments call count inner End = (tt, tt)
+returns_still around statement status arguments call count inner (Return number) = back_given_still around statement status arguments call count inner number
+returns_still around statement status arguments call count inner On = back_given_still around statement status arguments call count inner (pos 0)
+returns_still around statement status arguments call count inner Leave = back_given_still around statement status arguments call count inner (pos 0)
+returns_still around statement status arguments call count inner Again = back_given_still around statement status arguments call count inner (pos 0)
+
+-- what is called is looked up
+finds_call_still : (around : Around) (statement : Statement) (status : Option (List ℕ)) (name : List ℕ) (arguments : List Argument) → WritesNothing (finds_call around statement status name arguments)
+unfolding finds_call
+finds_call_still around statement status name arguments = only_room AnyStep IsStill (own (asks_any (known_by around statement) (name ∷ [])) Finding) (own_still (asks_any (known_by around statement) (name ∷ [])) Finding
+    (only_bind AnyStep IsStill (finds_by (known_by around statement name) name) _ (reads_still (finds_by (known_by around statement name) name) (finds_read (known_by around statement name) name))
+    (λ found. only_bind AnyStep IsStill Binding _ (λ p. only_comes AnyStep IsStill (bound_over [] p.vars statement)) (λ of p. only_comes AnyStep IsStill (call_over around status name arguments p.vars found)))))
+  where
+    Binding : Doing (Result Bound Failure)
+    Binding = reads λ p. comes_to (bound_over [] p.vars statement)
+
+    Finding : Doing (Result Call Failure)
+    Finding = finds_by (known_by around statement name) name >>= λ found. Binding >>= λ of. reads λ p. comes_to (call_over around status name arguments p.vars found)
+
+-- ---- the end of a write whose triggers have run
+
+own_end_still : (home : Home) (succeeded : Bool) → WritesNothing (closes_own home succeeded)
+own_end_still Own succeeded = own_closes_still succeeded
+own_end_still Open succeeded = tt
+own_end_still Nowhere succeeded = tt
+
+undone_still : (mark : ℕ) (there : Bool) (next : Doing (Unit {0})) → WritesNothing next → WritesNothing (undone_to mark there next)
+undone_still mark true next still = (tt, λ reply can. done_still next still reply)
+undone_still mark false next still = still
+
+then_relaxed_still : (next : Doing (Unit {0})) → WritesNothing next → WritesNothing (relaxes_then next)
+unfolding relaxes_then
+then_relaxed_still next still = (tt, λ reply can. done_still next still reply)
+
+settles_still : (home : Home) (mark : ℕ) (succeeded : Bool) (p : SessionProgress) → WritesNothing (settles home mark succeeded p)
+settles_still home mark true p = leaves_still home true
+settles_still home mark false p = undone_still mark (has_mark mark p) (relaxes_then (closes_own home false)) (then_relaxed_still (closes_own home false) (own_end_still home false))
+
+fired_left_still : (home : Home) (mark : ℕ) (stood succeeded : Bool) → WritesNothing (leaves_fired home mark stood succeeded)
+unfolding leaves_fired
+fired_left_still home mark stood succeeded = λ p. only_then AnyStep IsStill (if p.stands then settles home mark succeeded p else over tt) _
+    (only_if AnyStep IsStill p.stands (settles home mark succeeded p) (over tt) (settles_still home mark succeeded p) tt) (λ done. (tt, tt))
 
 -- ---- one statement, by those that it holds
 
@@ -256,38 +365,145 @@ module _ (one : Statement → Meaning) (around : Around) (statement : Statement)
       carries_then (each_of one body (in_try around)) (λ exit. handled (λ raised. each_of one handler (in_catch raised around)) exit) (each_carry one body (in_try around) first)
       (handled_carry (λ raised. each_of one handler (in_catch raised around)) (λ raised. each_carry one handler (in_catch raised around) second))
 
-  form_carry : (form : Layer) → form_of statement ≡ form → ReadsBackAs statement form → EachIn (AllCarry one) form → AllCarry one statement → Carries (mean_form one around statement form)
-  unfolding mean_form
-  form_carry (Form-F.If test so otherwise) is back each self = decides_carry around statement (branch one around so otherwise) (branch_carry so otherwise each.0 each.1)
-  form_carry (Form-F.While test body) is back each self = decides_carry around statement (turns one around statement body) (turn_carry body each self)
-  form_carry Form-F.Break is back each self = carries_still (makes (step.tells_error (pos 0)) (over Leave)) (tt, tt)
-  form_carry Form-F.Continue is back each self = carries_still (makes (step.tells_error (pos 0)) (over Again)) (tt, tt)
-  form_carry (Form-F.Block body) is back each self = each_carry one body around each
-  form_carry (Form-F.TryCatch body handler) is back each self = tries_carry body handler each.0 each.1
-  form_carry (Form-F.Print value) is back each self = tells_carry around statement
-  form_carry (Form-F.RaiseError value class state) is back each self = tells_carry around statement
-  form_carry (Form-F.Throw number value state) is back each self = tells_carry around statement
-  form_carry Form-F.ThrowAgain is back each self = carries_still (raises_again around statement around.caught) (again_still around statement around.caught)
-  form_carry (Form-F.Return value) is back each self = does_carry around statement Return (works around statement) (works_carry around statement)
-  form_carry (Form-F.SetOption option) is back each self = carries_still (sets_option around statement option) (option_still around statement option)
-  form_carry (Form-F.BeginTransaction name) is back each self = does_carry around statement On (begins_transaction statement name) (carries_still (begins_transaction statement name) (begins_still statement name))
-  form_carry (Form-F.Commit name) is back each self = does_carry around statement On (commits_transaction statement) (carries_still (commits_transaction statement) (commits_still statement))
-  form_carry (Form-F.Rollback name) is back each self = does_carry around statement On (rolls_back_transaction statement name) (carries_still (rolls_back_transaction statement name) (rolls_still statement name))
-  form_carry (Form-F.Save name) is back each self = does_carry around statement On (saves_transaction statement name) (carries_still (saves_transaction statement name) (saves_still statement name))
-  form_carry (Form-F.CreateTable table text) is back each self = does_carry around statement On (creates_table statement table.name text) (creates_carry statement table text is back)
-  form_carry (Form-F.DeclareCursor name select) is back each self = does_carry around statement On (declares_cursor statement name select) (carries_still (declares_cursor statement name select) (declares_still statement name select))
-  form_carry (Form-F.OpenCursor name) is back each self = does_carry around statement On (opens_cursor around statement name) (carries_still (opens_cursor around statement name) (opens_still around statement name))
-  form_carry (Form-F.Fetch name variables) is back each self = does_carry around statement On (fetches_cursor statement name variables) (carries_still (fetches_cursor statement name variables) (fetches_still statement name variables))
-  form_carry (Form-F.CloseCursor name) is back each self = does_carry around statement On (closes_cursor statement name) (carries_still (closes_cursor statement name) (closes_still statement name))
-  form_carry (Form-F.Deallocate name) is back each self = does_carry around statement On (removes_cursor statement name) (carries_still (removes_cursor statement name) (removes_still statement name))
-  form_carry form is back each self = does_carry around statement On (works around statement) (works_carry around statement)
+  -- ---- bodies, by the meaning of any statement whose tables read back
 
-  by_carry : ReadsBack statement → EachIn (AllCarry one) (form_of statement) → AllCarry one statement → Carries (mean_by one statement around)
+  module _ (carry : (inner : Statement) → Everywhere ReadsBack inner → AllCarry one inner) where
+    all_back : (body : List Statement) → AllByRecursion (Everywhere ReadsBack) body → AllByRecursion (AllCarry one) body
+    all_back [] back = tt
+    all_back (first ∷ rest) back = (carry first back.0, all_back rest back.1)
+
+    body_carry : (vars : List Variable) (settings : Settings → Settings) (body : List Statement) (inside : Around) → AllByRecursion (Everywhere ReadsBack) body → Carries (runs_body one vars settings body inside)
+    unfolding runs_body
+    body_carry vars settings body inside back = carries_reads _ (λ p. carries_makes (step.stands_with vars) _ (carries_makes (step.sets (settings p.settings)) _
+        (carries_then (each_of one body inside) _ (each_carry one body inside (all_back body back))
+        (λ exit. carries_reads _ (λ inner. carries_makes (step.stands_with p.vars) _ (carries_makes (step.sets p.settings) _ (over_carries (exit, inner.vars))))))))
+
+    -- EXEC
+    run_carry : (status : Option (List ℕ)) (arguments : List Argument) (call : Call) → CallBack call → Carries (runs_call one around statement status arguments call)
+    unfolding runs_call
+    run_carry status arguments call back = carries_reads _ (λ p. carries_then (runs_body one (call_vars call) (λ settings. settings) call.procedure.body (in_body call.procedure.name None around)) _
+        (body_carry (call_vars call) (λ settings. settings) call.procedure.body (in_body call.procedure.name None around) back)
+        (λ came. carries_still (returns_from around statement status arguments call p.txn.count came.1 came.0) (returns_still around statement status arguments call p.txn.count came.1 came.0)))
+
+    calls_carry : (status : Option (List ℕ)) (name : List ℕ) (arguments : List Argument) → Carries (calls one around statement status name arguments)
+    unfolding calls concludes
+    calls_carry status name arguments = carries_given (Well CallBack) (finds_call around statement status name arguments) _
+        (carries_still (finds_call around statement status name arguments) (finds_call_still around statement status name arguments)) (call_yields around statement status name arguments) by_came
+      where
+        by_came : (came : Result Call Failure) → Well CallBack came → Carries (concluded around statement (runs_call one around statement status arguments) came)
+        by_came (Ok call) back = run_carry status arguments call back
+        by_came (Err failure) back = carries_still (fails_for around statement failure) (fails_still around statement failure)
+
+    -- triggers
+    trigger_carry : (fired : Fired) (trigger : TriggerTree) → TriggerBack trigger → Carries (runs_trigger one around fired trigger)
+    unfolding runs_trigger
+    trigger_carry fired trigger back = carries_then (runs_body one (vars_of trigger.body) in_trigger trigger.body (in_body trigger.name (Some fired) around)) _
+        (body_carry (vars_of trigger.body) in_trigger trigger.body (in_body trigger.name (Some fired) around) back) (λ came. over_carries came.0)
+
+    stopped_carry : (next : Doing (Result (Unit {0}) Stop)) (came : Result (Unit {0}) Stop) → Carries next → Carries (unless_stopped one next came)
+    stopped_carry next (Ok done) carries = carries
+    stopped_carry next (Err stop) carries = over_carries (Err stop)
+
+    triggers_carry : (w : Written) (triggers : List TriggerTree) → AllByRecursion TriggerBack triggers → Carries (runs_triggers one around w triggers)
+    unfolding runs_triggers
+    triggers_carry w [] back = carries_reads _ (λ p. over_carries (tells_behind one w.effect p))
+    triggers_carry w (trigger ∷ triggers) back = carries_then (runs_trigger one around w.fired trigger) _ (trigger_carry w.fired trigger back.0)
+        (λ exit. carries_reads _ (λ p. stopped_carry (runs_triggers one around w triggers) (trigger_end exit p) (triggers_carry w triggers back.1)))
+
+    fired_carry : (w : Written) → FiresBack w → Carries (runs_fired one around w)
+    unfolding runs_fired
+    fired_carry w back = carries_if (nat_le depth_limit around.depth) (over (Err (Failed (plain too_deep)))) (runs_triggers one around w w.fires) (over_carries (Err (Failed (plain too_deep)))) (triggers_carry w w.fires back)
+
+    fires_carry : (home : Home) (w : Written) → FiresBack w → Carries (fires one around home w)
+    unfolding fires
+    fires_carry home w back = carries_then relaxes _ (carries_still relaxes relaxes_still) (λ done. carries_any _ by_room)
+      where
+        Firing : Doing (Result Effect Stop)
+        Firing = reads λ p. makes (step.fires_from w.mark) (runs_fired one around w then λ came. leaves_fired home w.mark p.stands (is_ok came) then λ done. over (effect_of one w.effect came))
+
+        Undoing : Doing (Result Effect Stop)
+        Undoing = undone_to w.mark true (relaxes_then (closes_own home false)) then λ done. over (Err (Failed (plain no_memory)))
+
+        firing : Carries Firing
+        firing = carries_reads _ (λ p. carries_makes (step.fires_from w.mark) _ (carries_then (runs_fired one around w) _ (fired_carry w back)
+            (λ came. carries_then (leaves_fired home w.mark p.stands (is_ok came)) _ (carries_still (leaves_fired home w.mark p.stands (is_ok came)) (fired_left_still home w.mark p.stands (is_ok came))) (λ done. over_carries (effect_of one w.effect came)))))
+
+        undoing : Carries Undoing
+        undoing = carries_then (undone_to w.mark true (relaxes_then (closes_own home false))) _
+            (carries_still (undone_to w.mark true (relaxes_then (closes_own home false))) (undone_still w.mark true (relaxes_then (closes_own home false)) (then_relaxed_still (closes_own home false) (own_end_still home false))))
+            (λ done. over_carries (Err (Failed (plain no_memory))))
+
+        by_room : (enough : Bool) → Carries (if enough then Firing else Undoing)
+        by_room true = firing
+        by_room false = undoing
+
+    -- a write
+    with_carry : (home : Home) (w : Written) → FiresBack w → (triggers : List TriggerTree) → Carries (written_with one around home w triggers)
+    with_carry home w back [] = carries_then (leaves home true) _ (carries_still (leaves home true) (leaves_still home true)) (λ done. over_carries (Ok w.effect))
+    with_carry home w back (trigger ∷ triggers) = fires_carry home w back
+
+    written_carry : (home : Home) (came : Result Written Failure) → Well FiresBack came → Carries (written_in one around home came)
+    written_carry home (Ok w) back = with_carry home w back w.fires
+    written_carry home (Err failure) back = carries_then (leaves home false) _ (carries_still (leaves home false) (leaves_still home false)) (λ done. over_carries (Err (Failed failure)))
+
+    writes_carry : (table : List ℕ) → target_of (form_of statement) ≡ Some table → Carries (writes one around statement)
+    unfolding writes
+    writes_carry table of_form = carries_any _ by_room
+      where
+        by_home : (home : Result Home Failure) → Carries (writes_in one around statement home)
+        by_home (Ok home) = carries_given (Well FiresBack) (binds around statement (change_bound around)) _ (change_carry around statement table of_form) (write_yields around statement) (written_carry home)
+        by_home (Err failure) = over_carries (Err (Failed failure))
+
+        by_room : (enough : Bool) → Carries (if enough then (enters (asks_any (known_by around statement) (looked_up statement)) then writes_in one around statement) else over (Err (Failed (plain no_memory))))
+        by_room true = carries_then (enters (asks_any (known_by around statement) (looked_up statement))) _ (carries_still (enters (asks_any (known_by around statement) (looked_up statement))) (enters_still (asks_any (known_by around statement) (looked_up statement)))) by_home
+        by_room false = over_carries (Err (Failed (plain no_memory)))
+
+    write_carry : (table : List ℕ) → target_of (form_of statement) ≡ Some table → Carries (writes one around statement then written around statement)
+    write_carry table of_form = carries_then (writes one around statement) (written around statement) (writes_carry table of_form) by_came
+      where
+        by_came : (came : Result Effect Stop) → Carries (written around statement came)
+        by_came (Ok effect) = carries_still (succeeds statement effect (over On)) (succeeds_still statement effect (over On) tt)
+        by_came (Err (Failed failure)) = carries_still (fails_for around statement failure) (fails_still around statement failure)
+        by_came (Err (Left exit)) = carries_still (makes (step.tells_rows 0) (over exit)) (tt, tt)
+
+  form_carry : (carry : (inner : Statement) → Everywhere ReadsBack inner → AllCarry one inner) (form : Layer) → form_of statement ≡ form → ReadsBackAs statement form → EachIn (AllCarry one) form → AllCarry one statement → Carries (mean_form one around statement form)
+  unfolding mean_form
+  form_carry carry (Form-F.If test so otherwise) is back each self = decides_carry around statement (branch one around so otherwise) (branch_carry so otherwise each.0 each.1)
+  form_carry carry (Form-F.While test body) is back each self = decides_carry around statement (turns one around statement body) (turn_carry body each self)
+  form_carry carry Form-F.Break is back each self = carries_still (makes (step.tells_error (pos 0)) (over Leave)) (tt, tt)
+  form_carry carry Form-F.Continue is back each self = carries_still (makes (step.tells_error (pos 0)) (over Again)) (tt, tt)
+  form_carry carry (Form-F.Block body) is back each self = each_carry one body around each
+  form_carry carry (Form-F.TryCatch body handler) is back each self = tries_carry body handler each.0 each.1
+  form_carry carry (Form-F.Print value) is back each self = tells_carry around statement
+  form_carry carry (Form-F.RaiseError value class state) is back each self = tells_carry around statement
+  form_carry carry (Form-F.Throw number value state) is back each self = tells_carry around statement
+  form_carry carry Form-F.ThrowAgain is back each self = carries_still (raises_again around statement around.caught) (again_still around statement around.caught)
+  form_carry carry (Form-F.Return value) is back each self = concludes_carry around statement (λ status. succeeds statement no_effect (over (Return status))) (statuses around statement) (statuses_carry around statement)
+      (λ status. carries_still (succeeds statement no_effect (over (Return status))) (succeeds_still statement no_effect (over (Return status)) tt))
+  form_carry carry (Form-F.SetOption option) is back each self = carries_still (sets_option around statement option) (option_still around statement option)
+  form_carry carry (Form-F.BeginTransaction name) is back each self = does_carry around statement On (begins_transaction statement name) (carries_still (begins_transaction statement name) (begins_still statement name))
+  form_carry carry (Form-F.Commit name) is back each self = does_carry around statement On (commits_transaction statement) (carries_still (commits_transaction statement) (commits_still statement))
+  form_carry carry (Form-F.Rollback name) is back each self = does_carry around statement On (rolls_back_transaction statement name) (carries_still (rolls_back_transaction statement name) (rolls_still statement name))
+  form_carry carry (Form-F.Save name) is back each self = does_carry around statement On (saves_transaction statement name) (carries_still (saves_transaction statement name) (saves_still statement name))
+  form_carry carry (Form-F.CreateTable table text) is back each self = does_carry around statement On (creates_table around statement table.name text) (creates_carry around statement table text is back)
+  form_carry carry (Form-F.Drop kind name) is back each self = does_carry around statement On (drops around statement kind name) (drops_carry around statement kind name is)
+  form_carry carry (Form-F.Insert table columns rows) is back each self = write_carry carry table (ap target_of is)
+  form_carry carry (Form-F.Update table assignments filter) is back each self = write_carry carry table (ap target_of is)
+  form_carry carry (Form-F.Delete table filter) is back each self = write_carry carry table (ap target_of is)
+  form_carry carry (Form-F.Execute status name arguments) is back each self = calls_carry carry status name arguments
+  form_carry carry (Form-F.DeclareCursor name select) is back each self = does_carry around statement On (declares_cursor statement name select) (carries_still (declares_cursor statement name select) (declares_still statement name select))
+  form_carry carry (Form-F.OpenCursor name) is back each self = does_carry around statement On (opens_cursor around statement name) (carries_still (opens_cursor around statement name) (opens_still around statement name))
+  form_carry carry (Form-F.Fetch name variables) is back each self = does_carry around statement On (fetches_cursor statement name variables) (carries_still (fetches_cursor statement name variables) (fetches_still statement name variables))
+  form_carry carry (Form-F.CloseCursor name) is back each self = does_carry around statement On (closes_cursor statement name) (carries_still (closes_cursor statement name) (closes_still statement name))
+  form_carry carry (Form-F.Deallocate name) is back each self = does_carry around statement On (removes_cursor statement name) (carries_still (removes_cursor statement name) (removes_still statement name))
+  form_carry carry form is back each self = does_carry around statement On (works around statement) (works_carry around statement)
+
+  by_carry : ((inner : Statement) → Everywhere ReadsBack inner → AllCarry one inner) → ReadsBack statement → EachIn (AllCarry one) (form_of statement) → AllCarry one statement → Carries (mean_by one statement around)
   unfolding mean_by
-  by_carry back each self = carries_reads (λ p. if p.txn.doomed && is_refused_doomed (form_of statement) then fails_for around statement (plain doomed_write) else mean_form one around statement (form_of statement))
+  by_carry carry back each self = carries_reads (λ p. if p.txn.doomed && is_refused_doomed (form_of statement) then fails_for around statement (plain doomed_write) else mean_form one around statement (form_of statement))
       (λ p. carries_if (p.txn.doomed && is_refused_doomed (form_of statement)) (fails_for around statement (plain doomed_write)) (mean_form one around statement (form_of statement))
       (carries_still (fails_for around statement (plain doomed_write)) (fails_still around statement (plain doomed_write)))
-      (form_carry (form_of statement) refl back each self))
+      (form_carry carry (form_of statement) refl back each self))
 
 -- ---- the cycle
 
@@ -316,7 +532,7 @@ mean_carry (suc levels) statement back around =
     carries_reads (λ p. if p.statements_left == 0 then spends statement around else makes step.counts (mean_by (λ inner at. mean_of levels inner at) statement around))
     (λ p. carries_if (p.statements_left == 0) (spends statement around) (makes step.counts (mean_by (λ inner at. mean_of levels inner at) statement around)) (spends_carry statement around)
     (carries_makes step.counts (mean_by (λ inner at. mean_of levels inner at) statement around)
-    (by_carry (λ inner at. mean_of levels inner at) around statement (back 1).0
+    (by_carry (λ inner at. mean_of levels inner at) around statement (mean_carry levels) (back 1).0
     (each_every (λ levels inner. Within levels ReadsBack inner) (AllCarry (λ inner at. mean_of levels inner at)) (λ inner each. mean_carry levels inner each) (form_of statement) (λ levels. (back (suc levels)).1))
     (mean_carry levels statement back))))
 
@@ -331,9 +547,18 @@ unfolding ends ends_doomed
 ends_still exit = λ p. only_if AnyStep IsStill p.txn.doomed ends_doomed (makes (step.sends _) (over tt))
     (tt, only_then AnyStep IsStill rolls_back_told (λ done. makes (step.sends _) (over tt)) told_still (λ done. (tt, tt))) (tt, tt)
 
+defined_still : (line : ℤ) (came : Result Effect Failure) → WritesNothing (defined line came)
+defined_still line (Ok effect) = (tt, (tt, tt))
+defined_still line (Err failure) = (tt, raised_still around_batch line command_none _)
+
+object_carry : (line : ℤ) (of : Definition) (kept : List ℕ) → TextReadsBack (text.Defines line of kept) → Carries (defines_object line of kept)
+unfolding defines_object
+object_carry line of kept back = carries_reads _ (λ p. carries_if p.txn.doomed (defined line (Err (plain doomed_write))) (creates_definition of kept then defined line) (carries_still (defined line (Err (plain doomed_write))) (defined_still line (Err (plain doomed_write))))
+    (carries_then (creates_definition of kept) (defined line) (defines_carry of kept back) (λ came. carries_still (defined line came) (defined_still line came))))
+
 text_carry : (read : ReadText) → TextReadsBack read → Carries (runs_text read)
 text_carry (text.Statements statements) back = each_carry (λ inner at. mean_of statement_limit inner at) statements around_batch (all_carry statement_limit statements back)
-text_carry text.NotBuilt back = carries_still (runs_text text.NotBuilt) (tt, tt)
+text_carry (text.Defines line of kept) back = object_carry line of kept back
 text_carry (text.Refused line code near) back = carries_still (runs_text (text.Refused line code near)) (tt, tt)
 
 -- what a batch asks keeps what stands

@@ -16,7 +16,7 @@ use Rattle.history_laws.proofs.Laws.{law_runs}
 use Rattle.reading_laws.specs.Laws.{HasCommit}
 use Rattle.reading_laws.proofs.Commits.{commit_leaves}
 use Rattle.reading_laws.proofs.States.{every_state}
-use Rattle.integrity_laws.proofs.Empty.{firm_empty, untriggered_empty}
+use Rattle.integrity_laws.proofs.Empty.{firm_empty}
 use Rattle.sound_laws.specs.Runs.{RunSound, ServeBatches}
 use Rattle.sound_laws.specs.Stands.{Intact}
 use Rattle.sound_laws.specs.Tied.{Tied}
@@ -45,4 +45,4 @@ module _ (asked : List Asked) (engine : Engine) (run : Run opening asked engine)
       (subst (λ (n : ℕ). Intact (State (take (place + n) engine.log))) (ap length so_many) after)
 
 pub run_sound : RunSound
-run_sound asked engine run serve place = every_state asked engine run Intact (record { firm = firm_empty; untriggered = untriggered_empty }) (kept asked engine run serve) place
+run_sound asked engine run serve place = every_state asked engine run Intact firm_empty (kept asked engine run serve) place

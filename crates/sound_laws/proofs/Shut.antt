@@ -8,7 +8,7 @@ use Rattle.step_model.specs.Exchange.{Exchange, MayCome}
 use Rattle.step_model.specs.Own.{Progress, none_open, progress_after, progress_from, progress_of, standing_at}
 use Rattle.reading_laws.proofs.Parts.{from_both}
 use Rattle.batch_meaning.specs.Doing.{Doing, over, reads, makes, defines, asks, room, never, Held, Left}
-use Rattle.batch_meaning.specs.Progress.{SessionProgress, SessionStep, begins, counts, touches, sends, tells_rows, tells_error, assigns, sets, opens, closes_one, saves, dooms, declares, fills, fetches, shuts, removes, tells_fetch, asked, is_open_after, made}
+use Rattle.batch_meaning.specs.Progress.{SessionProgress, SessionStep, begins, counts, touches, sends, tells_rows, tells_error, assigns, sets, opens, closes_one, saves, dooms, declares, fills, fetches, shuts, removes, tells_fetch, asked, is_open_after, made, stands_with, fires_from, fired_from}
 use Rattle.sound_laws.specs.Tied.{may_come}
 use Rattle.statement_paths.proofs.Apart.{held_left}
 
@@ -82,6 +82,9 @@ made_open (fetches name) p = refl
 made_open (shuts name) p = refl
 made_open (removes name) p = refl
 made_open (tells_fetch status) p = refl
+made_open (stands_with vars) p = refl
+made_open (fires_from mark) p = refl
+made_open (fired_from mark stood) p = refl
 
 -- the session is told of an exchange as its port has it
 pub asked_open : (progress : Progress) (p : SessionProgress) (op : Op) (x : Exchange) → progress.is_open ≡ p.is_open → x.op ≡ op → (progress_after progress x.op x.reply).is_open ≡ (asked op x.reply p).is_open

@@ -232,7 +232,7 @@ module _ (session : ℕ) (begin log : List Logged) (mine : List Exchange) (tied 
 
 -- ---- as trees
 
-unless_apart : (came : Result Written Refusal) (p new : SessionProgress) (part : List Exchange) (result : Result (Unit {0}) Failure) → Held (unless_broken came) p part result new → part ≡ []
+unless_apart : (came : Result Written Refusal) (p new : SessionProgress) (part : List Exchange) (result : Result ℕ Failure) → Held (unless_broken came) p part result new → part ≡ []
 unfolding Held
 unless_apart (Ok (written.Done mark)) p new part result held = held.0
 unless_apart (Ok (written.Refused number name)) p new part result held = held.0
@@ -245,12 +245,12 @@ unless_asks (Err why) = tt
 
 module _ (session : ℕ) (begin log : List Logged) (mine : List Exchange) (tied : Tied session begin log mine) (shapes : List TableTree) (planned : List Planned) where
   -- changes that may be made are asked, and checked
-  pub applies_bring : Brings log mine (StandsWith log (λ db. MayWrite db shapes planned)) (applies shapes planned) (λ (result : Result (Unit {0}) Failure). Stands log)
+  pub applies_bring : Brings log mine (StandsWith log (λ db. MayWrite db shapes planned)) (applies shapes planned) (λ (result : Result ℕ Failure). Stands log)
   unfolding applies
-  applies_bring = quiet_brings log mine (StandsWith log (λ db. MayWrite db shapes planned)) (applies shapes planned) (λ (result : Result (Unit {0}) Failure). Stands log)
+  applies_bring = quiet_brings log mine (StandsWith log (λ db. MayWrite db shapes planned)) (applies shapes planned) (λ (result : Result ℕ Failure). Stands log)
       (tt, only_gives AnyStep NoCommit (attempts shapes planned) (λ attempt. unless_broken attempt.came) (says_quiet NoCommit (attempts shapes planned) quiet_commits) (λ attempt. unless_asks attempt.came)) came
     where
-      came : (before part later : List Exchange) (p new : SessionProgress) (result : Result (Unit {0}) Failure) → mine ≡ before ++ (part ++ later) → Held (applies shapes planned) p part result new
+      came : (before part later : List Exchange) (p new : SessionProgress) (result : Result ℕ Failure) → mine ≡ before ++ (part ++ later) → Held (applies shapes planned) p part result new
           → StandsWith log (λ db. MayWrite db shapes planned) before (part ++ later) → Stands log (before ++ part) later
       came before part later p new result is held from =
           let on = holds_apart (attempts shapes planned) (λ attempt. unless_broken attempt.came) p new part result held in

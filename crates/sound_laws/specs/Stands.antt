@@ -14,16 +14,14 @@ use Rattle.step_model.specs.Own.{Progress, progress_of}
 use Rattle.constraint_check.specs.Laws.{behind}
 use Rattle.batch_meaning.specs.Doing.{Doing, Held, Left}
 use Rattle.batch_meaning.specs.Progress.{SessionProgress}
-use Rattle.integrity_laws.specs.Laws.{HasNoTrigger}
 use Rattle.integrity_laws.specs.Sound.{Firm}
 use Rattle.sound_laws.specs.Tied.{Tied}
 
 -- ---- a database
 
--- what statements keep, and no trigger is there: they make none
-pub record Intact (db : Database) : Type 0 where
-  pub firm : Firm db
-  pub untriggered : HasNoTrigger db
+-- what statements keep
+abbrev pub Intact : Database → Type 0
+Intact db = Firm db
 
 -- ---- what stands
 

@@ -1,6 +1,6 @@
-//! Laws of soundness: what a statement or a batch asks keeps what stands in its transaction, and each commit that it asks keeps a
-//! database sound in which no trigger is defined; and so each database that the commits of the log leave is sound: none of these
-//! statements defines a trigger.
+//! Laws of soundness: what a statement or a batch asks, with the procedures and triggers that it runs, keeps what stands in its
+//! transaction, and each commit that it asks keeps its database firm (`integrity_laws`), and so sound; and so is each database that
+//! the commits of the log leave.
 //!
 //! Read `specs/Tied.antt` first: what is asked of the exchanges of a session, and of its statements; then `specs/Stands.antt`:
 //! the database at a transaction's place, with the transaction's changes so far, is intact, and so it was at each of its live

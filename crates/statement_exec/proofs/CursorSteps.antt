@@ -160,7 +160,7 @@ module _ (statement : Statement) (go : SessionProgress → Doing (Result Effect 
 module _ (around : Around) (statement : Statement) (name : List ℕ) where
   -- the select of a cursor that is not open
   pub opens_on : {past after : PortPast} (select : Statement) {p new : SessionProgress} {result : Result Effect Failure} → IsKept statement name p.cursors (Ok select)
-      → Did past after (within select (opens_bound around name)) p (Ok result) new → Did past after (answered name (opens_kept around statement name p) (list.query_of name p.cursors)) p (Ok result) new
+      → Did past after (within around select (opens_bound around name)) p (Ok result) new → Did past after (answered name (opens_kept around statement name p) (list.query_of name p.cursors)) p (Ok result) new
   opens_on {past = past} {after = after} select {p = p} {new = new} {result = result} is did = by_query (list.query_of name p.cursors) (list.fill_answer name p.cursors) refl is
     where
       by_query : (query : Result Select CursorFault) (fill : Result (Unit {0}) CursorFault) → list.fill_answer name p.cursors ≡ fill → IsOfCursor name (kept_as statement query fill) (Ok select)
@@ -168,8 +168,8 @@ module _ (around : Around) (statement : Statement) (name : List ℕ) where
       by_query (Err fault) fill same kept = absurd kept
       by_query (Ok of) (Err fault) same kept = absurd kept
       by_query (Ok of) (Ok done) same kept =
-          subst (λ (f : Result (Unit {0}) CursorFault). Did past after (answered name (λ done. within (select_statement statement of) (opens_bound around name)) f) p (Ok result) new) (sym same)
-          (subst (λ (s : Statement). Did past after (within s (opens_bound around name)) p (Ok result) new) kept did)
+          subst (λ (f : Result (Unit {0}) CursorFault). Did past after (answered name (λ done. within around (select_statement statement of) (opens_bound around name)) f) p (Ok result) new) (sym same)
+          (subst (λ (s : Statement). Did past after (within around s (opens_bound around name)) p (Ok result) new) kept did)
 
   -- there is none
   opens_not : (failure : Failure) {p : SessionProgress} → IsKept statement name p.cursors (Err failure) → Stepped (with_room (answered name (opens_kept around statement name p) (list.query_of name p.cursors))) p (Ok (Err failure)) p
@@ -181,7 +181,7 @@ module _ (around : Around) (statement : Statement) (name : List ℕ) where
       by_query (Ok of) (Ok done) same kept = stepped_room false (stepped_made (ap Err kept))
       by_query (Ok of) (Err fault) same (inr none) = stepped_room false (stepped_made (ap Err none))
       by_query (Ok of) (Err fault) same (inl refused) =
-          stepped_room true (stepped_fault name (λ done. within (select_statement statement of) (opens_bound around name)) (list.fill_answer name p.cursors) fault failure same refused)
+          stepped_room true (stepped_fault name (λ done. within around (select_statement statement of) (opens_bound around name)) (list.fill_answer name p.cursors) fault failure same refused)
 
   -- or it failed
   pub opens_fails : {past : PortPast} (failure : Failure) (result : Result Effect Failure) {p : SessionProgress} → IsErr result → IsErrAnd result (λ x. x ≡ failure) → IsKept statement name p.cursors (Err failure)

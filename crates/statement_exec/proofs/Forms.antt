@@ -6,6 +6,7 @@ use Rattle.tsql_tree.specs.declared.option.SessionOption.{SessionOption}
 use Rattle.tsql_tree.specs.declared.query.Expr.{Expr}
 use Rattle.tsql_tree.specs.declared.query.Test.{Test}
 use Rattle.tsql_tree.specs.declared.query.Select.{Select}
+use Rattle.tsql_tree.specs.declared.statement.Argument.{Argument}
 use Rattle.tsql_tree.specs.declared.statement.Assignment.{Assignment}
 use Rattle.tsql_tree.specs.declared.statement.DropKind.{DropKind}
 use Rattle.tsql_tree.specs.declared.statement.InsertRows.{InsertRows}
@@ -80,6 +81,9 @@ module _ (form : TreeForm) where
   pub is_Deallocate : (name : List ℕ) → form ≡ tree.Deallocate name → out-Form form ≡ Form-F.Deallocate name
   is_Deallocate name is = ap out-Form (is ∙ sym (tree.rolls-Deallocate name)) ∙ out-roll-Form (Form-F.Deallocate name)
 
+  pub is_Execute : (status : Option (List ℕ)) (name : List ℕ) (arguments : List Argument) → form ≡ tree.Execute status name arguments → out-Form form ≡ Form-F.Execute status name arguments
+  is_Execute status name arguments is = ap out-Form (is ∙ sym (tree.rolls-Execute status name arguments)) ∙ out-roll-Form (Form-F.Execute status name arguments)
+
   pub is_Select : (select : Select) → form ≡ tree.Select select → out-Form form ≡ Form-F.Select select
   is_Select select is = ap out-Form (is ∙ sym (tree.rolls-Select select)) ∙ out-roll-Form (Form-F.Select select)
 
@@ -108,23 +112,12 @@ module _ (form : TreeForm) where
   pub rolled : (node : Layer) (made : TreeForm) → out-Form form ≡ node → roll-Form node ≡ made → form ≡ made
   rolled node made is rolls = sym (roll-out-Form form) ∙ ap roll-Form is ∙ rolls
 
--- it is done with what is made of the values of expressions: none of these forms
-abbrev pub IsComputed : TreeForm → Type 0
-IsComputed form = ((select : Select) → form ≢ tree.Select select)
-    × ((table : List ℕ) (columns : List (List ℕ)) (rows : InsertRows) → form ≢ tree.Insert table columns rows)
-    × ((table : List ℕ) (sets : List Assignment) (filter : Option Test) → form ≢ tree.Update table sets filter)
-    × ((table : List ℕ) (filter : Option Test) → form ≢ tree.Delete table filter)
-    × ((kind : DropKind) (name : List ℕ) → form ≢ tree.Drop kind name)
-
-computed_node : (form : TreeForm) (node : Layer) (around : Around) (shapes : List TableTree) (of : Bound) → IsComputed form → out-Form form ≡ node → works_bound around node shapes of ≡ computes around node shapes of
-computed_node form (Form-F.Select select) around shapes of other is = absurd (other.0 select (rolled form (Form-F.Select select) (tree.Select select) is (tree.rolls-Select select)))
-computed_node form (Form-F.Insert table columns rows) around shapes of other is = absurd (other.1 table columns rows (rolled form (Form-F.Insert table columns rows) (tree.Insert table columns rows) is (tree.rolls-Insert table columns rows)))
-computed_node form (Form-F.Update table sets filter) around shapes of other is = absurd (other.2 table sets filter (rolled form (Form-F.Update table sets filter) (tree.Update table sets filter) is (tree.rolls-Update table sets filter)))
-computed_node form (Form-F.Delete table filter) around shapes of other is = absurd (other.3 table filter (rolled form (Form-F.Delete table filter) (tree.Delete table filter) is (tree.rolls-Delete table filter)))
-computed_node form (Form-F.Drop kind name) around shapes of other is = absurd (other.4 kind name (rolled form (Form-F.Drop kind name) (tree.Drop kind name) is (tree.rolls-Drop kind name)))
+-- it is done with what is made of the values of expressions: it is no SELECT
+computed_node : (form : TreeForm) (node : Layer) (around : Around) (shapes : List TableTree) (of : Bound) → ((select : Select) → form ≢ tree.Select select) → out-Form form ≡ node → works_bound around node shapes of ≡ computes around node shapes of
+computed_node form (Form-F.Select select) around shapes of other is = absurd (other select (rolled form (Form-F.Select select) (tree.Select select) is (tree.rolls-Select select)))
 computed_node form node around shapes of other is = refl
 
-pub does_computed : {before after : PortPast} (around : Around) (form : TreeForm) (shapes : List TableTree) (of : Bound) {p new : SessionProgress} {result : Result (Result Effect Failure) Memory} → IsComputed form
+pub does_computed : {before after : PortPast} (around : Around) (form : TreeForm) (shapes : List TableTree) (of : Bound) {p new : SessionProgress} {result : Result (Result Effect Failure) Memory} → ((select : Select) → form ≢ tree.Select select)
     → Did before after (computes around (out-Form form) shapes of) p result new → Did before after (works_bound around (out-Form form) shapes of) p result new
 does_computed {before = before} {after = after} around form shapes of {p = p} {new = new} {result = result} other did =
     subst (λ (tree : Doing (Result Effect Failure)). Did before after tree p result new) (sym (computed_node form (out-Form form) around shapes of other refl)) did

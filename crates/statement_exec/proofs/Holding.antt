@@ -1,6 +1,9 @@
 -- A dialog that is held by a session whose transaction is open, and which has asked something. Where it doesn't go back to a mark it changes nothing of
 -- how far the session has come.
-use Rattle.std.proofs.Common.{◌≡◌, ℕ, zero, suc, ℤ, Bool, true, false, if◌then◌else◌, List, [], ◌∷◌, ◌++◌, Option, None, Some, Result, Ok, Err, refl, sym, ap, ◌∙◌, subst}
+use Rattle.std.proofs.Common.{arith, ◌≡◌, ◌||◌, not, nat_eq, ℕ, zero, suc, ℤ, Bool, true, false, if◌then◌else◌, List, [], ◌∷◌, ◌++◌, Option, None, Some, Result, Ok, Err, IfOk, refl, sym, ap, ◌∙◌, subst}
+use Rattle.std.proofs.lemmas.List.Folds.{list_any-append}
+use Rattle.std.specs.List.{list_any}
+use Rattle.std.specs.Prelude.{is_some}
 use Rattle.value_types.specs.declared.memory.Memory.{Memory}
 use Rattle.value_types.specs.declared.value.Value.{Value}
 use Rattle.lock_modes.specs.declared.KeyPart.TheVariants.{S}
@@ -16,8 +19,8 @@ use Rattle.step_model.specs.declared.range.KeyRange.{KeyRange}
 use Rattle.step_model.specs.declared.range.Start.{Start}
 use Rattle.step_model.specs.declared.reply.Reply.{Reply}
 use Rattle.step_model.specs.declared.reply.Reply.TheVariants as replies
-use Rattle.step_model.specs.Exchange.{Exchange, CanReply}
-use Rattle.step_model.specs.Port.{PortPast}
+use Rattle.step_model.specs.Exchange.{Exchange, CanReply, Standing}
+use Rattle.step_model.specs.Port.{PortPast, standing_after, standing_from}
 use Rattle.step_model.specs.Dialog as said
 use Rattle.step_model.specs.Dialog.{IsQuiet, Dialog, Asks}
 use Rattle.step_model.specs.Ranges.{Keeps, Rows, range_limit}
@@ -30,7 +33,7 @@ use Rattle.dml_exec.specs.declared.refusal.Level.{Level}
 use Rattle.dml_exec.specs.declared.refusal.Refusal.{Refusal}
 use Rattle.dml_exec.specs.declared.refusal.Refusal.TheVariants as refusal
 use Rattle.dml_exec.specs.Asking.{on_ok, with_room, with_room_if}
-use Rattle.dml_exec.specs.Reading.{TableRead, fetch_of, fetches, fits, from, images_from, images_of, is_short, key_width, read_by, reads_of, reads_on, reads_table, rows_from, rows_in, table_fetch}
+use Rattle.dml_exec.specs.Reading.{GivenRows, TableRead, fetches_any, is_fetched, unless_given, fetch_of, fetches, fits, from, images_from, images_of, is_short, key_width, read_by, reads_of, reads_on, reads_table, rows_from, rows_in, table_fetch}
 use Rattle.dml_exec.specs.declared.written.Attempt.{Attempt}
 use Rattle.dml_exec.specs.declared.written.Written.{Written}
 use Rattle.dml_exec.specs.declared.written.Written.TheVariants as written
@@ -40,13 +43,18 @@ use Rattle.constraint_check.specs.declared.check_read.CheckRead.{CheckRead}
 use Rattle.constraint_check.specs.Judged.{judge}
 use Rattle.constraint_check.specs.Reads.{reads_for, shape_of}
 use Rattle.batch_meaning.specs.declared.failure.Failure.{Failure}
-use Rattle.batch_meaning.specs.Progress.{SessionProgress, Ready, touches, made, asked, asked_all, touched_after, is_open_after, txn_after}
+use Rattle.batch_meaning.specs.Failures.{plain}
+use Rattle.batch_meaning.specs.Progress.{SessionProgress, Ready, touches, made, asked, asked_all, touched_after, is_open_after, txn_after, unless_ended}
 use Rattle.batch_meaning.specs.Doing.{Doing, over, Held, Left, Came, Did}
-use Rattle.batch_meaning.specs.Asking.{◌gives◌, applies, holds, unless_broken}
+use Rattle.batch_meaning.specs.Asking.{◌gives◌, applies, holds, number_of, touches_if, unless_broken}
 use Rattle.batch_meaning.proofs.Composed.{does_makes, does_over}
 use Rattle.session_state.specs.Parts.{cut_to}
-use Rattle.statement_exec.specs.Selected.{mark_back, taken_back}
+use Rattle.statement_exec.specs.Selected.{IsLive, mark_back, taken_back, touched_if}
 use Rattle.session_state.proofs.Readiness.{ready_said}
+
+-- the mark that was just set is live
+pub mark_last : (mark : ℕ) (marks : List ℕ) → list_any (λ live. nat_eq live mark) (marks ++ mark ∷ []) ≡ true
+mark_last mark marks = grind (arith, list_any-append)
 
 -- ---- operations that go on
 
@@ -80,6 +88,19 @@ txn_stays ops.Commit reply txn forward can = absurd forward
 txn_stays ops.Rollback reply txn forward can = absurd forward
 txn_stays op reply txn forward can = refl
 
+ended_stays : (op : Op) (reply : Reply) (before : Bool) → IsForward op → CanReply op reply → unless_ended before reply ≡ before
+ended_stays (ops.Fetch table start stop hold part) (replies.Ended place) before forward can = absurd can
+ended_stays (ops.Insert table key row) (replies.Ended place) before forward can = absurd can
+ended_stays (ops.Replace table key row) (replies.Ended place) before forward can = absurd can
+ended_stays (ops.Erase table key) (replies.Ended place) before forward can = absurd can
+ended_stays ops.Mark (replies.Ended place) before forward can = absurd can
+ended_stays (ops.BackTo mark) reply before forward can = absurd forward
+ended_stays ops.Begin reply before forward can = absurd forward
+ended_stays ops.Relax reply before forward can = absurd forward
+ended_stays ops.Commit reply before forward can = absurd forward
+ended_stays ops.Rollback reply before forward can = absurd forward
+ended_stays op reply before forward can = refl
+
 open_stays : (op : Op) (reply : Reply) (p : SessionProgress) → IsQuiet op → CanReply op reply → is_open_after p.is_open op reply ≡ p.is_open
 unfolding said.Held
 open_stays op reply p quiet can = held_stays p.settings.manner (said.asks op quiet said.over) (record { op = op; manner = p.settings.manner; reply = reply } ∷ []) reply (record { is_open = p.is_open; marks = [] }) (refl, refl, can, (refl, refl))
@@ -87,7 +108,9 @@ open_stays op reply p quiet can = held_stays p.settings.manner (said.asks op qui
 -- a quiet operation, behind another one
 quiet_same : (op : Op) (reply : Reply) (p : SessionProgress) → IsQuiet op → IsForward op → CanReply op reply → p.touched ≡ true → asked op reply p ≡ p
 quiet_same op reply p quiet forward can touched =
-    ap (λ (b : Bool). record p { is_open = b; touched = touched_after p.touched op; txn = txn_after p.txn op reply }) (open_stays op reply p quiet can)
+    ap (λ (b : Bool). record p { is_open = b; is_own = unless_ended p.is_own reply; stands = unless_ended p.stands reply; touched = touched_after p.touched op; txn = txn_after p.txn op reply }) (open_stays op reply p quiet can)
+    ∙ ap (λ (b : Bool). record p { is_own = b; stands = unless_ended p.stands reply; touched = touched_after p.touched op; txn = txn_after p.txn op reply }) (ended_stays op reply p.is_own forward can)
+    ∙ ap (λ (b : Bool). record p { stands = b; touched = touched_after p.touched op; txn = txn_after p.txn op reply }) (ended_stays op reply p.stands forward can)
     ∙ ap (λ (b : Bool). record p { touched = b; txn = txn_after p.txn op reply }) (touched_stays op p.touched forward touched)
     ∙ ap (λ (t : TxnState). record p { txn = t }) (txn_stays op reply p.txn forward can)
 
@@ -215,19 +238,99 @@ unfolding rows_in
 only_rows shape true op = only_then (fetches (key_width shape) (fits shape) op []) (on_ok (λ came. said.over (Ok came.0))) (only_fetch (key_width shape) (fits shape) op []) (only_on (λ came. said.over (Ok came.0)) (λ came. only_over _))
 only_rows shape false op = only_range (key_width shape) (fits shape) range_limit op []
 
-only_table : (shapes : List TableTree) (level : Level) (read : TableRead) → GoesOnly (reads_table shapes level read)
+only_given : (rows : Option Rows) (fetched : Dialog (Result Rows Refusal)) → GoesOnly fetched → GoesOnly (unless_given rows fetched)
+only_given None fetched only = only
+only_given (Some rows) fetched only = only_room refusal.Memory _ (only_over _)
+
+only_table : (given : GivenRows) (shapes : List TableTree) (level : Level) (read : TableRead) → GoesOnly (reads_table given shapes level read)
 unfolding reads_table
-only_table shapes level read = only_rows (shape_of read.0 shapes) false (table_fetch level read)
+only_table given shapes level read = only_given (given read.0) _ (only_rows (shape_of read.0 shapes) false (table_fetch level read))
 
-only_images : (shapes : List TableTree) (level : Level) (images : List Rows) (reads : List TableRead) → GoesOnly (images_from shapes level images reads)
+only_images : (given : GivenRows) (shapes : List TableTree) (level : Level) (images : List Rows) (reads : List TableRead) → GoesOnly (images_from given shapes level images reads)
 unfolding images_from
-only_images shapes level images [] = only_over _
-only_images shapes level images (read ∷ reads) = only_then (reads_table shapes level read) (on_ok (λ rows. with_room refusal.Memory (images_from shapes level (images ++ rows ∷ []) reads))) (only_table shapes level read)
-    (only_on (λ rows. with_room refusal.Memory (images_from shapes level (images ++ rows ∷ []) reads)) (λ rows. only_room refusal.Memory _ (only_images shapes level (images ++ rows ∷ []) reads)))
+only_images given shapes level images [] = only_over _
+only_images given shapes level images (read ∷ reads) = only_then (reads_table given shapes level read) (on_ok (λ rows. with_room refusal.Memory (images_from given shapes level (images ++ rows ∷ []) reads))) (only_table given shapes level read)
+    (only_on (λ rows. with_room refusal.Memory (images_from given shapes level (images ++ rows ∷ []) reads)) (λ rows. only_room refusal.Memory _ (only_images given shapes level (images ++ rows ∷ []) reads)))
 
-pub only_reads : (shapes : List TableTree) (level : Level) (of : Bound) → GoesOnly (images_of shapes level of)
+only_reads : (given : GivenRows) (shapes : List TableTree) (level : Level) (of : Bound) → GoesOnly (images_of given shapes level of)
 unfolding images_of
-only_reads shapes level of = only_room refusal.Memory _ (only_images shapes level [] (reads_of of))
+only_reads given shapes level of = only_room refusal.Memory _ (only_images given shapes level [] (reads_of of))
+
+-- ---- where all are given nothing is asked
+
+unfoldable AsksNone : {A : Type 0} → Dialog A → Type 0
+AsksNone (said.over a) = Unit {0}
+AsksNone (said.asks op quiet go) = ⊥
+AsksNone (said.room go) = (enough : Bool) → AsksNone (go enough)
+AsksNone said.never = Unit {0}
+
+unasked : {A : Type 0} (manner : Manner) (dialog : Dialog A) (exchanges : List Exchange) (a : A) → AsksNone dialog → said.Held manner dialog exchanges a → exchanges ≡ []
+unfolding said.Held AsksNone
+unasked manner (said.over c) exchanges a none held = held.0
+unasked manner (said.asks op quiet next) exchanges a none held = absurd none
+unasked manner (said.room next) exchanges a none held = unasked manner (next held.0) exchanges a (none held.0) held.1
+unasked manner said.never exchanges a none held = absurd held
+
+none_over : {A : Type 0} (a : A) → AsksNone (said.over a)
+unfolding AsksNone
+none_over a = tt
+
+none_either : {A : Type 0} (first other : Dialog A) → AsksNone first → AsksNone other → (enough : Bool) → AsksNone (if enough then first else other)
+none_either first other one two true = one
+none_either first other one two false = two
+
+none_room : {A E : Type 0} (why : E) (dialog : Dialog (Result A E)) → AsksNone dialog → AsksNone (with_room why dialog)
+unfolding AsksNone
+none_room why dialog none = none_either dialog (said.over (Err why)) none tt
+
+module _ {A B : Type 0} where
+  none_then : (dialog : Dialog A) (go : A → Dialog B) → AsksNone dialog → ((a : A) → AsksNone (go a)) → AsksNone (said.◌then◌ dialog go)
+  unfolding AsksNone said.◌then◌
+  none_then (said.over a) go none more = more a
+  none_then (said.asks op quiet next) go none more = absurd none
+  none_then (said.room next) go none more = λ enough. none_then (next enough) go (none enough) more
+  none_then said.never go none more = tt
+
+none_on : {A B E : Type 0} (go : A → Dialog (Result B E)) → ((a : A) → AsksNone (go a)) → (came : Result A E) → AsksNone (on_ok go came)
+none_on go none (Ok a) = none a
+none_on go none (Err e) = none_over (Err e)
+
+none_table : (given : GivenRows) (shapes : List TableTree) (level : Level) (read : TableRead) → is_fetched given read ≡ false → AsksNone (reads_table given shapes level read)
+unfolding reads_table
+none_table given shapes level read same = by_given (given read.0) same
+  where
+    by_given : (rows : Option Rows) → not (is_some rows) ≡ false → AsksNone (unless_given rows (rows_in (shape_of read.0 shapes) false (table_fetch level read)))
+    by_given None no_rows = absurd (let not_so : true ≡ false = no_rows in cc)
+    by_given (Some rows) has = none_room refusal.Memory _ (none_over _)
+
+either_none : (first rest : Bool) → (first || rest) ≡ false → (first ≡ false) × (rest ≡ false)
+either_none true rest same = absurd (let not_so : true ≡ false = same in cc)
+either_none false rest same = (refl, same)
+
+none_images : (given : GivenRows) (shapes : List TableTree) (level : Level) (images : List Rows) (reads : List TableRead) → list_any (is_fetched given) reads ≡ false → AsksNone (images_from given shapes level images reads)
+unfolding images_from
+none_images given shapes level images [] same = none_over _
+none_images given shapes level images (read ∷ reads) same =
+    let both = either_none (is_fetched given read) (list_any (is_fetched given) reads) same in
+    none_then (reads_table given shapes level read) (on_ok (λ rows. with_room refusal.Memory (images_from given shapes level (images ++ rows ∷ []) reads))) (none_table given shapes level read both.0)
+    (none_on (λ rows. with_room refusal.Memory (images_from given shapes level (images ++ rows ∷ []) reads)) (λ rows. none_room refusal.Memory _ (none_images given shapes level (images ++ rows ∷ []) reads both.1)))
+
+none_reads : (given : GivenRows) (shapes : List TableTree) (level : Level) (of : Bound) → fetches_any given of ≡ false → AsksNone (images_of given shapes level of)
+unfolding images_of
+none_reads given shapes level of same = none_room refusal.Memory _ (none_images given shapes level [] (reads_of of) same)
+
+-- what a statement reads is read, and behind it another thing is done
+pub does_images : {before mid after : PortPast} {B : Type 0} (given : GivenRows) (shapes : List TableTree) (level : Level) (of : Bound) (go : Result (List Rows) Refusal → Doing B) {p q new : SessionProgress} {a : Result (List Rows) Refusal} {result : Result B Memory}
+    → q ≡ touched_if (fetches_any given of) p → Asks before mid q.settings.manner (images_of given shapes level of) a → Did mid after (go a) q result new
+    → Did before after (touches_if (fetches_any given of) (images_of given shapes level of gives go)) p result new
+does_images {before = before} {mid = mid} {after = after} given shapes level of go {p = p} {q = q} {new = new} {a = a} {result = result} same asks more = by_fetch (fetches_any given of) refl same
+  where
+    by_fetch : (test : Bool) → fetches_any given of ≡ test → q ≡ touched_if test p → Did before after (touches_if test (images_of given shapes level of gives go)) p result new
+    by_fetch true fetched is = does_holds (images_of given shapes level of) go (only_reads given shapes level of) is asks more
+    by_fetch false unfetched is =
+        let none : asks.exchanges ≡ [] = unasked q.settings.manner (images_of given shapes level of) asks.exchanges a (none_reads given shapes level of unfetched) asks.held in
+        subst (λ (x : SessionProgress). Did before after (images_of given shapes level of gives go) x result new) is
+        (does_gives (images_of given shapes level of) go asks (subst (λ (f : List Exchange). Did mid after (go a) (asked_all f q) result new) (sym none) more))
 
 -- ---- and the changes of a write, with what checks them
 
@@ -351,14 +454,113 @@ writes_cut shapes changes p (x ∷ later) attempt touched held =
     ap (asked_all later) same ∙ marked_cut shapes changes p x.reply later attempt touched held.3
 
 -- changes were asked
-pub does_applies : {before after : PortPast} (shapes : List TableTree) (changes : List Planned) {p q new : SessionProgress} {attempt : Attempt} {result : Result (Unit {0}) Failure} → q ≡ made touches p
+pub does_applies : {before after : PortPast} (shapes : List TableTree) (changes : List Planned) {p q new : SessionProgress} {attempt : Attempt} {result : Result ℕ Failure} → q ≡ made touches p
     → Asks before after q.settings.manner (attempts shapes changes) attempt → unless_broken attempt.came ≡ over result → new ≡ cut_to (taken_back attempt) q → Did before after (applies shapes changes) p (Ok result) new
 unfolding applies
 does_applies {after = after} shapes changes {p = p} {q = q} {new = new} {attempt = attempt} {result = result} same asks broken cut =
     let touched : q.touched ≡ true = ap (λ (r : SessionProgress). r.touched) same in
     let is : new ≡ asked_all asks.exchanges q = cut ∙ sym (writes_cut shapes changes q asks.exchanges attempt touched asks.held) in
     does_makes same (does_gives (attempts shapes changes) (λ t. unless_broken t.came) asks
-    (subst (λ (tree : Doing (Result (Unit {0}) Failure)). Did after after tree (asked_all asks.exchanges q) (Ok result) new) (sym broken) (does_over is)))
+    (subst (λ (tree : Doing (Result ℕ Failure)). Did after after tree (asked_all asks.exchanges q) (Ok result) new) (sym broken) (does_over is)))
+
+-- ---- the mark of what was done is live
+
+live_stays : (op : Op) (reply : Reply) (mark : ℕ) (standing : Standing) → IsForward op → CanReply op reply → list_any (λ live. nat_eq live mark) standing.marks ≡ true → list_any (λ live. nat_eq live mark) (standing_after standing op reply).marks ≡ true
+live_stays (ops.Fetch table start stop hold part) (replies.Ended place) mark standing forward can live = absurd can
+live_stays (ops.Insert table key row) (replies.Ended place) mark standing forward can live = absurd can
+live_stays (ops.Replace table key row) (replies.Ended place) mark standing forward can live = absurd can
+live_stays (ops.Erase table key) (replies.Ended place) mark standing forward can live = absurd can
+live_stays ops.Mark (replies.Ended place) mark standing forward can live = absurd can
+live_stays ops.Mark (replies.Marked new) mark standing forward can live = grind (arith, list_any-append, live)
+live_stays (ops.BackTo back) reply mark standing forward can live = absurd forward
+live_stays ops.Begin reply mark standing forward can live = absurd forward
+live_stays ops.Relax reply mark standing forward can live = absurd forward
+live_stays ops.Commit reply mark standing forward can live = absurd forward
+live_stays ops.Rollback reply mark standing forward can live = absurd forward
+live_stays op reply mark standing forward can live = live
+
+only_live : {A : Type 0} (manner : Manner) (dialog : Dialog A) (exchanges : List Exchange) (a : A) (mark : ℕ) (standing : Standing) → GoesOnly dialog → said.Held manner dialog exchanges a
+    → list_any (λ live. nat_eq live mark) standing.marks ≡ true → list_any (λ live. nat_eq live mark) (standing_from standing exchanges).marks ≡ true
+unfolding said.Held GoesOnly
+only_live manner (said.over c) exchanges a mark standing only held live = rw held.0 live
+only_live manner (said.asks op quiet next) [] a mark standing only held live = absurd held
+only_live manner (said.asks op quiet next) (x ∷ later) a mark standing only held live =
+    only_live manner (next x.reply) later a mark (standing_after standing x.op x.reply) (only.1 x.reply) held.3
+    (subst (λ (o : Op). list_any (λ live. nat_eq live mark) (standing_after standing o x.reply).marks ≡ true) (sym held.0) (live_stays op x.reply mark standing only.0 held.2 live))
+only_live manner (said.room next) exchanges a mark standing only held live = only_live manner (next held.0) exchanges a mark standing (only held.0) held.1 live
+only_live manner said.never exchanges a mark standing only held live = absurd held
+
+standing_behind : (front back : List Exchange) (standing : Standing) → standing_from standing (front ++ back) ≡ standing_from (standing_from standing front) back
+standing_behind [] back standing = refl
+standing_behind (x ∷ front) back standing = standing_behind front back (standing_after standing x.op x.reply)
+
+-- where the changes are done, behind their mark
+done_same : (a b : ℕ) → ◌≡◌ {A = Result Written Refusal} (Ok (written.Done a)) (Ok (written.Done b)) → a ≡ b
+done_same a b same = cc
+
+live_ended : {H : Type 0} (manner : Manner) (mark done : ℕ) (ends_by : Result (Unit {0}) H → Dialog Attempt) (told_by : H → Result Written Refusal)
+    → ((fine : Unit {0}) → ends_by (Ok fine) ≡ said.over (told (Some mark) (Ok (written.Done mark)))) → ((why : H) → ends_by (Err why) ≡ said.asks (ops.BackTo mark) tt (where_done (said.over (told (Some mark) (told_by why)))))
+    → ((why : H) → told_by why ≡ Ok (written.Done done) → ⊥) → (came : Result (Unit {0}) H) (back : List Exchange) (attempt : Attempt) (standing : Standing) → said.Held manner (ends_by came) back attempt → attempt.came ≡ Ok (written.Done done)
+    → list_any (λ live. nat_eq live mark) standing.marks ≡ true → list_any (λ live. nat_eq live done) (standing_from standing back).marks ≡ true
+unfolding said.Held
+live_ended manner mark done ends_by told_by fine went undone (Ok well) back attempt standing held is live =
+    let over_so : said.Held manner (said.over (told (Some mark) (Ok (written.Done mark)))) back attempt = subst (λ (d : Dialog Attempt). said.Held manner d back attempt) (fine well) held in
+    let same : mark ≡ done = done_same mark done (sym (ap (λ (t : Attempt). t.came) over_so.1) ∙ is) in
+    subst (λ (m : ℕ). list_any (λ live. nat_eq live m) (standing_from standing back).marks ≡ true) same (rw over_so.0 live)
+live_ended manner mark done ends_by told_by fine went undone (Err why) back attempt standing held is live = absurd (no_asks back (subst (λ (d : Dialog Attempt). said.Held manner d back attempt) (went why) held))
+  where
+    no_done : (reply : Reply) (later : List Exchange) → said.Held manner (where_done (said.over (told (Some mark) (told_by why))) reply) later attempt → ⊥
+    no_done replies.Done later was = undone why (sym (ap (λ (t : Attempt). t.came) was.1) ∙ is)
+    no_done reply later was = absurd was
+
+    no_asks : (asked : List Exchange) → said.Held manner (said.asks (ops.BackTo mark) tt (where_done (said.over (told (Some mark) (told_by why))))) asked attempt → ⊥
+    no_asks [] was = absurd was
+    no_asks (x ∷ later) was = no_done x.reply later was.3
+
+pub writes_live : {before after : PortPast} {manner : Manner} (shapes : List TableTree) (changes : List Planned) {attempt : Attempt} (mark : ℕ) → Asks before after manner (attempts shapes changes) attempt → attempt.came ≡ Ok (written.Done mark) → IsLive mark after
+unfolding said.Held attempts
+writes_live {before = before} {manner = manner} shapes changes {attempt = attempt} mark asks is = rw asks.past.standing (by_exchanges asks.exchanges asks.held)
+  where
+    by_reply : (reply : Reply) (later : List Exchange) → said.Held manner (marked shapes changes reply) later attempt → list_any (λ live. nat_eq live mark) (standing_from (standing_after before.standing ops.Mark reply) later).marks ≡ true
+    by_reply (replies.Marked made) later held =
+        let both = parts manner (works shapes changes) (ends made) later attempt held in
+        let marked_so = standing_after before.standing ops.Mark (replies.Marked made) in
+        rw both.is (rw (standing_behind both.front both.back marked_so)
+        (live_ended manner made mark (ends made) outcome (λ done. refl) (λ why. refl) (by_outcome (λ r. r ≡ Ok (written.Done mark) → ⊥) (λ number name no_done. cc) (λ refused no_done. cc)) both.a both.back attempt (standing_from marked_so both.front) both.second is
+        (only_live manner (works shapes changes) both.front both.a made marked_so (only_works shapes changes) both.first (mark_last made before.standing.marks))))
+    by_reply replies.Memory later held = absurd (let wanting : attempt.came ≡ Err refusal.Memory = ap (λ (t : Attempt). t.came) held.1 in let no_done : ◌≡◌ {A = Result Written Refusal} (Err refusal.Memory) (Ok (written.Done mark)) = sym wanting ∙ is in cc)
+    by_reply reply later held = absurd held
+
+    by_exchanges : (exchanges : List Exchange) → said.Held manner (said.asks ops.Mark tt (marked shapes changes)) exchanges attempt → list_any (λ live. nat_eq live mark) (standing_from before.standing exchanges).marks ≡ true
+    by_exchanges [] held = absurd held
+    by_exchanges (x ∷ later) held = rw held.0 (by_reply x.reply later held.3)
+
+value_of : Doing (Result ℕ Failure) → Result ℕ Failure
+value_of (over result) = result
+value_of other = Ok 0
+
+over_value : {a b : Result ℕ Failure} → ◌≡◌ {A = Doing (Result ℕ Failure)} (over a) (over b) → a ≡ b
+unfolding value_of
+over_value is = ap value_of is
+
+ok_value : Result ℕ Failure → ℕ
+ok_value (Ok mark) = mark
+ok_value (Err failure) = 0
+
+over_same : {a b : ℕ} → ◌≡◌ {A = Doing (Result ℕ Failure)} (over (Ok a)) (over (Ok b)) → a ≡ b
+unfolding ok_value
+over_same is = ap ok_value (over_value is)
+
+-- a write that is done gives such a mark
+broken_mark : (came : Result Written Refusal) (mark : ℕ) → unless_broken came ≡ over (Ok mark) → came ≡ Ok (written.Done mark)
+broken_mark (Ok (written.Done made)) mark is = ap (λ (m : ℕ). Ok (written.Done m)) (over_same is)
+broken_mark (Ok (written.Refused number name)) mark is = absurd (let no : ◌≡◌ {A = Result ℕ Failure} (Err (record { number = number; name = Some name })) (Ok mark) = over_value is in cc)
+broken_mark (Err why) mark is = absurd (let no : ◌≡◌ {A = Result ℕ Failure} (Err (plain (number_of why))) (Ok mark) = over_value is in cc)
+
+pub applied_live : {before after : PortPast} {manner : Manner} (shapes : List TableTree) (changes : List Planned) {attempt : Attempt} (result : Result ℕ Failure) → Asks before after manner (attempts shapes changes) attempt → unless_broken attempt.came ≡ over result
+    → IfOk result (λ mark. IsLive mark after)
+applied_live shapes changes {attempt = attempt} (Ok mark) asks is = writes_live shapes changes mark asks (broken_mark attempt.came mark is)
+applied_live shapes changes (Err failure) asks is = tt
 
 -- a session that asks is ready
 pub ready_touched : {past : PortPast} {p q : SessionProgress} → q ≡ made touches p → Ready p past → Ready q past

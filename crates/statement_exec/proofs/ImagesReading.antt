@@ -23,8 +23,12 @@ use Rattle.dml_exec.specs.declared.refusal.Level.{Level}
 use Rattle.dml_exec.specs.declared.refusal.Refusal.{Refusal}
 use Rattle.dml_exec.specs.declared.refusal.Refusal.TheVariants.{Memory}
 use Rattle.dml_exec.specs.Asking.{on_ok, with_room, with_room_if}
-use Rattle.dml_exec.specs.Reading.{TableRead, behind_gone, fetches, fits, from, images_from, images_of, is_short, key_width, read_by, reads_of, reads_on, reads_table, rows_from, rows_in, table_fetch}
+use Rattle.dml_exec.specs.Reading.{GivenRows, TableRead, given_of, behind_gone, fetches, fits, from, images_from, images_of, is_short, key_width, read_by, reads_of, reads_on, reads_table, rows_from, rows_in, table_fetch}
 use Rattle.statement_exec.specs.Selected.{AreKept, ImagesFit}
+
+-- nothing is given
+abbrev none_known : GivenRows
+none_known = given_of None
 
 -- ---- dialogs, by what they come to
 
@@ -131,7 +135,7 @@ none_kept : (shape : Option TableTree) → AreKept shape []
 none_kept None = refl
 none_kept (Some shape) = All-nil (λ row. IsTrue (has_columns shape.columns row))
 
-table_kept : (manner : Manner) (shapes : List TableTree) (level : Level) (read : TableRead) (rows : Rows) → Comes manner (reads_table shapes level read) (Ok rows) → AreKept (shape_of read.0 shapes) rows
+table_kept : (manner : Manner) (shapes : List TableTree) (level : Level) (read : TableRead) (rows : Rows) → Comes manner (reads_table none_known shapes level read) (Ok rows) → AreKept (shape_of read.0 shapes) rows
 unfolding reads_table rows_in
 table_kept manner shapes level read rows came =
     let shape = shape_of read.0 shapes in
@@ -151,8 +155,8 @@ images_or_none (Err refusal) = []
 
 module _ (manner : Manner) (shapes : List TableTree) (level : Level) where
   image_added : (images all : List Rows) (read : TableRead) (reads : List TableRead) (rows : Rows) → AreKept (shape_of read.0 shapes) rows
-      → ((exchanges : List Exchange) → Held manner (images_from shapes level (images ++ rows ∷ []) reads) exchanges (Ok all) → AreMore shapes reads (images ++ rows ∷ []) all)
-      → (enough : Bool) (exchanges : List Exchange) → Held manner (if enough then images_from shapes level (images ++ rows ∷ []) reads else over (Err Memory)) exchanges (Ok all) → AreMore shapes (read ∷ reads) images all
+      → ((exchanges : List Exchange) → Held manner (images_from none_known shapes level (images ++ rows ∷ []) reads) exchanges (Ok all) → AreMore shapes reads (images ++ rows ∷ []) all)
+      → (enough : Bool) (exchanges : List Exchange) → Held manner (if enough then images_from none_known shapes level (images ++ rows ∷ []) reads else over (Err Memory)) exchanges (Ok all) → AreMore shapes (read ∷ reads) images all
   unfolding Held
   image_added images all read reads rows kept goes true exchanges held =
       let more = goes exchanges held in
@@ -160,26 +164,26 @@ module _ (manner : Manner) (shapes : List TableTree) (level : Level) where
   image_added images all read reads rows kept goes false exchanges held = no_failure held.1
 
   image_behind : (images all : List Rows) (read : TableRead) (reads : List TableRead)
-      → ((rows : Rows) (exchanges : List Exchange) → Held manner (images_from shapes level (images ++ rows ∷ []) reads) exchanges (Ok all) → AreMore shapes reads (images ++ rows ∷ []) all)
-      → (first : Result Rows Refusal) → Comes manner (reads_table shapes level read) first
-      → Comes manner (on_ok (λ rows. with_room Memory (images_from shapes level (images ++ rows ∷ []) reads)) first) (Ok all) → AreMore shapes (read ∷ reads) images all
+      → ((rows : Rows) (exchanges : List Exchange) → Held manner (images_from none_known shapes level (images ++ rows ∷ []) reads) exchanges (Ok all) → AreMore shapes reads (images ++ rows ∷ []) all)
+      → (first : Result Rows Refusal) → Comes manner (reads_table none_known shapes level read) first
+      → Comes manner (on_ok (λ rows. with_room Memory (images_from none_known shapes level (images ++ rows ∷ []) reads)) first) (Ok all) → AreMore shapes (read ∷ reads) images all
   unfolding Held
   image_behind images all read reads goes (Err refusal) came rest = no_failure rest.1.1
   image_behind images all read reads goes (Ok rows) came rest = image_added images all read reads rows (table_kept manner shapes level read rows came) (goes rows) rest.1.0 rest.0 rest.1.1
 
-  images_more : (images all : List Rows) (reads : List TableRead) (exchanges : List Exchange) → Held manner (images_from shapes level images reads) exchanges (Ok all) → AreMore shapes reads images all
+  images_more : (images all : List Rows) (reads : List TableRead) (exchanges : List Exchange) → Held manner (images_from none_known shapes level images reads) exchanges (Ok all) → AreMore shapes reads images all
   unfolding images_from Held
   images_more images all [] exchanges held = record { rest = []; is = ap images_or_none held.1 ∙ sym (append-nil images); fit = tt }
   images_more images all (read ∷ reads) exchanges held =
-      let b = behind manner (reads_table shapes level read) (on_ok (λ rows. with_room Memory (images_from shapes level (images ++ rows ∷ []) reads))) exchanges (Ok all) held in
+      let b = behind manner (reads_table none_known shapes level read) (on_ok (λ rows. with_room Memory (images_from none_known shapes level (images ++ rows ∷ []) reads))) exchanges (Ok all) held in
       image_behind images all read reads (λ rows later went. images_more (images ++ rows ∷ []) all reads later went) b.first b.came b.more
 
-  images_whole : (all : List Rows) (reads : List TableRead) (enough : Bool) (exchanges : List Exchange) → Held manner (if enough then images_from shapes level [] reads else over (Err Memory)) exchanges (Ok all) → ImagesFit shapes reads all
+  images_whole : (all : List Rows) (reads : List TableRead) (enough : Bool) (exchanges : List Exchange) → Held manner (if enough then images_from none_known shapes level [] reads else over (Err Memory)) exchanges (Ok all) → ImagesFit shapes reads all
   unfolding Held
   images_whole all reads true exchanges held = let more = images_more [] all reads exchanges held in subst (λ (images : List Rows). ImagesFit shapes reads images) (sym more.is) more.fit
   images_whole all reads false exchanges held = no_failure held.1
 
 -- what a statement has read fits its tables
-pub images_fit : {before after : PortPast} (manner : Manner) (shapes : List TableTree) (level : Level) (of : Bound) (images : List Rows) → Asks before after manner (images_of shapes level of) (Ok images) → ImagesFit shapes (reads_of of) images
+pub images_fit : {before after : PortPast} (manner : Manner) (shapes : List TableTree) (level : Level) (of : Bound) (images : List Rows) → Asks before after manner (images_of (given_of None) shapes level of) (Ok images) → ImagesFit shapes (reads_of of) images
 unfolding images_of Held
 images_fit manner shapes level of images was = images_whole manner shapes level images (reads_of of) was.held.0 was.exchanges was.held.1

@@ -1,5 +1,5 @@
 -- What a statement does in parts: some want memory, some go through lists, some stand in a transaction.
-use Rattle.std.proofs.Common.{◌≡◌, ℕ, ◌+◌, ◌<◌, ◌≤◌, inl, inr, Bool, true, false, List, ◌∷◌, drop, length, get_or, [], Option, None, Some, Result, Ok, Err, is_ok, not, refl, sym, subst, if◌then◌else◌}
+use Rattle.std.proofs.Common.{◌≡◌, ℕ, ◌+◌, ◌<◌, ◌≤◌, inl, inr, Bool, true, false, List, ◌∷◌, drop, length, get_or, [], Option, None, Some, Result, Ok, Err, is_ok, refl, sym, ap, subst, if◌then◌else◌}
 use Rattle.std.proofs.lemmas.List.{drop_all}
 use Rattle.value_types.specs.declared.value.Value.{Value}
 use Rattle.tsql_tree.specs.declared.definition.Definition.{Definition}
@@ -10,20 +10,20 @@ use Rattle.std.specs.declared.alloc.Global.{Global}
 use Rattle.std.specs.declared.vec.Vec.{Vec}
 use Rattle.dml_exec.specs.Asking.{beside, seen}
 use Rattle.dml_exec.specs.declared.refusal.Level.{Level}
-use Rattle.dml_exec.specs.Reading.{images_of}
+use Rattle.dml_exec.specs.Reading.{GivenRows, fetches_any, images_of}
 use Rattle.tsql_tree.specs.declared.definition.TableTree.{TableTree}
 use Rattle.bound_tree.specs.declared.write.Bound.{Bound}
-use Rattle.step_model.specs.Ranges.{Rows}
+use Rattle.step_model.specs.Ranges.{Rows, no_memory}
 use Rattle.value_types.specs.declared.memory.Memory.{Memory}
 use Rattle.batch_meaning.specs.declared.failure.Failure.{Failure}
+use Rattle.batch_meaning.specs.Failures.{plain}
 use Rattle.batch_meaning.specs.Progress.{SessionProgress}
 use Rattle.batch_meaning.specs.Doing.{Doing, over, reads, defines, Did, Leads}
-use Rattle.batch_meaning.specs.Asking.{on_ok, ◌>>=◌, fails_naming, with_room, look_up, looks_up, is_table, with_found, defined_by, holds, reads_at, unless_stopped}
+use Rattle.batch_meaning.specs.Asking.{KnownNames, on_ok, ◌>>=◌, ◌gives◌, fails_naming, finds_by, with_room, looks_up, is_table, with_found, defined_by, reads_at, touches_if, unless_stopped}
 use Rattle.batch_meaning.specs.declared.home.Home.{Home}
 use Rattle.batch_meaning.specs.declared.home.Home.TheVariants.{Nowhere}
-use Rattle.batch_meaning.specs.Working.{asks_any, enters, leaves, own}
-use Rattle.batch_meaning.proofs.Composed.{does_bind, does_fail, does_over, does_reads, does_room, does_then, does_yes, does_defines, leads_then, leads_to, leads_yes, leads_no}
-use Rattle.catalog_rows.specs.Definitions.{is_objects}
+use Rattle.batch_meaning.specs.Working.{enters, leaves, own}
+use Rattle.batch_meaning.proofs.Composed.{does_bind, does_fail, does_over, does_reads, does_room, does_then, does_defines, leads_then, leads_to, leads_yes, leads_no}
 use Rattle.statement_exec.specs.Fetched.{IsKeyDefined}
 use Rattle.session_state.specs.Parts.{IsOrMemory, IsNamed}
 use Rattle.statement_exec.specs.Selected.{IsDefined}
@@ -47,6 +47,19 @@ does_made {past = past} {made = made} {p = p} is = subst (λ r. Did past past (o
 pub does_on : {past after : PortPast} {A B : Type 0} (meant : Result A Failure) (go : A → Doing (Result B Failure)) {p new : SessionProgress} {a : A} {result : Result (Result B Failure) Memory}
     → IsOrMemory meant (Ok a) → Did past after (go a) p result new → Did past after (with_room (over meant) >>= go) p result new
 does_on meant go is does = does_then (with_room (over meant)) (on_ok go) (does_result meant _ is) does
+
+-- two things that are made at once, each by itself
+pub left_of : {A B : Type 0} (meant : A × B) (made : A × B) → IsOrMemory (Ok meant) (Ok made) → made.0 ≡ meant.0
+left_of {A = A} {B = B} meant made (inl same) = ap (λ (r : A × B). r.0) (let is : made ≡ meant = cc in is)
+left_of meant made (inr none) = absurd cc
+
+pub right_of : {A B : Type 0} (a : A) (b : B) (made : A × B) → IsOrMemory (Ok (a, b)) (Ok made) → IsOrMemory (Ok b) (Ok made.1)
+right_of {A = A} {B = B} a b made (inl same) = inl (let is : made ≡ (a, b) = cc in ap (λ (r : A × B). Ok r.1) is)
+right_of a b made (inr none) = absurd cc
+
+pub wanting_of : {A B : Type 0} (a : A) (b : B) (failure : Failure) → IsOrMemory {A = A × B} (Ok (a, b)) (Err failure) → IsOrMemory {A = B} (Ok b) (Err failure)
+wanting_of a b failure (inl same) = absurd cc
+wanting_of a b failure (inr none) = inr (let is : failure ≡ plain no_memory = cc in ap Err is)
 
 -- an error that names something, or memory was wanting for it
 pub does_naming : {past : PortPast} {A : Type 0} (number : ℕ) (name : List ℕ) (failure : Failure) {p : SessionProgress} → IsNamed number name failure → Did past past (fails_naming {A = A} number name) p (Ok (Err failure)) p
@@ -78,26 +91,26 @@ does_defined row (Ok found) is = does_room true (does_defines found is (does_ove
 does_defined {past = past} row (Err failure) {p = p} is = subst (λ (f : Failure). Did past past (with_room (defines row (λ found. over (Ok found)))) p (Ok (Err f)) p) (sym is) (does_room false (does_over refl))
 
 -- the next name is looked up
-pub next_name : {before now : PortPast} {whole : Doing (Result (List Definition) Failure)} {old mid : SessionProgress} (names : List (List ℕ)) (i : ℕ) (name : List ℕ) (definitions : List Definition)
-    → name ≡ get_or names i name → i < length names → Leads before now whole old (looks_up definitions (drop i names)) mid
-    → Leads before now whole old (look_up name >>= λ found. if is_table found then with_room (looks_up (with_found definitions found) (drop (i + 1) names)) else over (Ok definitions)) mid
+pub next_name : {before now : PortPast} {whole : Doing (Result (List Definition) Failure)} {old mid : SessionProgress} (known_names : KnownNames) (names : List (List ℕ)) (i : ℕ) (name : List ℕ) (definitions : List Definition)
+    → name ≡ get_or names i name → i < length names → Leads before now whole old (looks_up known_names definitions (drop i names)) mid
+    → Leads before now whole old (finds_by (known_names name) name >>= λ found. if is_table found then with_room (looks_up known_names (with_found definitions found) (drop (i + 1) names)) else over (Ok definitions)) mid
 unfolding looks_up
-next_name names i name definitions is within leads = rw (next_of names i name is within) at leads
+next_name known_names names i name definitions is within leads = rw (next_of names i name is within) at leads
 
-module _ {before now : PortPast} {whole : Doing (Result (List Definition) Failure)} {old mid : SessionProgress} (names : List (List ℕ)) (i : ℕ) (name : List ℕ) (definitions : List Definition)
-    (is : name ≡ get_or names i name) (within : i < length names) (leads : Leads before now whole old (looks_up definitions (drop i names)) mid) where
+module _ {before now : PortPast} {whole : Doing (Result (List Definition) Failure)} {old mid : SessionProgress} (known_names : KnownNames) (names : List (List ℕ)) (i : ℕ) (name : List ℕ) (definitions : List Definition)
+    (is : name ≡ get_or names i name) (within : i < length names) (leads : Leads before now whole old (looks_up known_names definitions (drop i names)) mid) where
   -- it is a table's
-  pub name_found : {after : PortPast} {q : SessionProgress} (found : Option Definition) → Did now after (look_up name) mid (Ok (Ok found)) q → is_table found ≡ true → Leads before after whole old (with_room (looks_up (with_found definitions found) (drop (i + 1) names))) q
-  name_found found does table = leads_yes (is_table found) _ _ table (leads_then (look_up name) (on_ok _) (next_name names i name definitions is within leads) does)
+  pub name_found : {after : PortPast} {q : SessionProgress} (found : Option Definition) → Did now after (finds_by (known_names name) name) mid (Ok (Ok found)) q → is_table found ≡ true → Leads before after whole old (with_room (looks_up known_names (with_found definitions found) (drop (i + 1) names))) q
+  name_found found does table = leads_yes (is_table found) _ _ table (leads_then (finds_by (known_names name) name) (on_ok _) (next_name known_names names i name definitions is within leads) does)
 
   -- it is none
-  pub name_last : {after : PortPast} {q : SessionProgress} (found : Option Definition) → Did now after (look_up name) mid (Ok (Ok found)) q → is_table found ≡ false → Did before after whole old (Ok (Ok definitions)) q
-  name_last found does table = leads_to (leads_no (is_table found) _ _ table (leads_then (look_up name) (on_ok _) (next_name names i name definitions is within leads) does)) (does_over refl)
+  pub name_last : {after : PortPast} {q : SessionProgress} (found : Option Definition) → Did now after (finds_by (known_names name) name) mid (Ok (Ok found)) q → is_table found ≡ false → Did before after whole old (Ok (Ok definitions)) q
+  name_last found does table = leads_to (leads_no (is_table found) _ _ table (leads_then (finds_by (known_names name) name) (on_ok _) (next_name known_names names i name definitions is within leads) does)) (does_over refl)
 
 -- all were
-pub names_done : {now : PortPast} (names : List (List ℕ)) (i : ℕ) (definitions : List Definition) {p : SessionProgress} → length names ≤ i → Did now now (looks_up definitions (drop i names)) p (Ok (Ok definitions)) p
+pub names_done : {now : PortPast} (known_names : KnownNames) (names : List (List ℕ)) (i : ℕ) (definitions : List Definition) {p : SessionProgress} → length names ≤ i → Did now now (looks_up known_names definitions (drop i names)) p (Ok (Ok definitions)) p
 unfolding looks_up
-names_done names i definitions past = rw (drop_all i names past) (does_over refl)
+names_done known_names names i definitions past = rw (drop_all i names past) (does_over refl)
 
 -- what a row of `objects` adds, with its key
 pub does_key : {past : PortPast} (key row : List Value) (so_far new : List Definition) (result : Result (Option (List Value)) Failure) {p : SessionProgress}
@@ -108,27 +121,17 @@ does_key {past = past} key row so_far new (Ok (Some last)) {p = p} is =
 does_key key row so_far new (Ok None) is = absurd is
 does_key {past = past} key row so_far new (Err failure) {p = p} is = subst (λ (f : Failure). Did past past (defined_by so_far (replies.Row key row 0)) p (Ok (Err f)) p) (sym is) (does_room false (does_over refl))
 
-not_so : (b : Bool) → not b ≡ false → b ≡ true
-not_so true is = refl
-not_so false is = absurd (let no : true ≡ false = is in cc)
-
--- nothing is asked where names are looked up
-pub does_unasked : {past : PortPast} (names : List (List ℕ)) {p : SessionProgress} → asks_any names ≡ false → Did past past (looks_up [] names) p (Ok (Ok [])) p
-unfolding looks_up look_up
-does_unasked [] none = does_over refl
-does_unasked (name ∷ names) none = does_bind (look_up name) (λ found. if is_table found then with_room (looks_up (with_found [] found) names) else over (Ok [])) (does_yes (is_objects name) _ _ (not_so (is_objects name) none) (does_over refl)) (does_over refl)
-
 -- the tables that are named are read
-pub does_shaped : {before after : PortPast} (level : Level) (shapes : List TableTree) (of : Bound) {p new : SessionProgress} {result : Result (Result (List Rows) Failure) Memory} → (shapes ≡ [] → ⊥)
-    → Did before after (holds (images_of shapes level of) unless_stopped) p result new → Did before after (reads_at level shapes of) p result new
+pub does_shaped : {before after : PortPast} (given : GivenRows) (level : Level) (shapes : List TableTree) (of : Bound) {p new : SessionProgress} {result : Result (Result (List Rows) Failure) Memory} → (shapes ≡ [] → ⊥)
+    → Did before after (touches_if (fetches_any given of) (images_of given shapes level of gives unless_stopped)) p result new → Did before after (reads_at given level shapes of) p result new
 unfolding reads_at
-does_shaped level [] of some did = absurd (some refl)
-does_shaped level (shape ∷ shapes) of some did = did
+does_shaped given level [] of some did = absurd (some refl)
+does_shaped given level (shape ∷ shapes) of some did = did
 
 -- where none is named, nothing is
-pub does_unshaped : {past : PortPast} (level : Level) (shapes : List TableTree) (of : Bound) {p : SessionProgress} → shapes ≡ [] → Did past past (reads_at level shapes of) p (Ok (Ok [])) p
+pub does_unshaped : {past : PortPast} (given : GivenRows) (level : Level) (shapes : List TableTree) (of : Bound) {p : SessionProgress} → shapes ≡ [] → Did past past (reads_at given level shapes of) p (Ok (Ok [])) p
 unfolding reads_at
-does_unshaped level shapes of none = rw none (does_over refl)
+does_unshaped given level shapes of none = rw none (does_over refl)
 
 -- ---- a statement's transaction
 

@@ -1,5 +1,5 @@
 -- How a statement is bound over what its names are defined as.
-use Rattle.std.proofs.Common.{◌≡◌, Bool, true, false, IfOk, inl, inr, List, [], Result, Ok, Err, refl, sym, ap, ◌∙◌}
+use Rattle.std.proofs.Common.{◌≡◌, Bool, true, false, not, IfOk, IsTrue, inl, inr, List, Result, Ok, Err, refl, sym, ap, ◌∙◌}
 use Rattle.tsql_tree.specs.declared.definition.Definition.{Definition}
 use Rattle.tsql_tree.specs.declared.definition.TableTree.{TableTree}
 use Rattle.tsql_tree.specs.declared.statement.Statement.{Statement}
@@ -9,7 +9,8 @@ use Rattle.catalog_rows.specs.Definitions.{tables_of}
 use Rattle.batch_meaning.specs.declared.failure.Failure.{Failure}
 use Rattle.batch_meaning.specs.Failures.{plain}
 use Rattle.batch_meaning.specs.Selecting.{bound_over}
-use Rattle.statement_exec.specs.Selected.{BoundSo, IsBoundOver}
+use Rattle.dml_exec.specs.Reading.{GivenRows}
+use Rattle.statement_exec.specs.Selected.{BoundSo, IsBoundOver, asks_bound}
 use Rattle.session_state.specs.Parts.{IsOrMemory}
 use Rattle.session_state.proofs.Stepping.{meant_ok}
 
@@ -19,12 +20,11 @@ shaped_as definitions of made is =
     let same : (tables_of definitions, of) ≡ made = (let whole = meant_ok (Ok (tables_of definitions, of)) made is in cc) in
     (ap (λ (m : List TableTree × Bound). m.0) same, ap (λ (m : List TableTree × Bound). m.1) same)
 
--- where a table was found something was asked, and a transaction is open
-pub shaped_begun : (asks opened : Bool) (definitions : List Definition) (of : Bound) (result : Result (List TableTree × Bound) Failure) → (asks ≡ true → opened ≡ true) → (asks ≡ false → definitions ≡ [])
-    → IsOrMemory (Ok (tables_of definitions, of)) result → IfOk result (λ made. (made.0 ≡ [] → ⊥) → opened ≡ true)
-shaped_begun true opened definitions of (Ok made) begun none is = λ some. begun refl
-shaped_begun false opened definitions of (Ok made) begun none is = λ some. absurd (some (sym (shaped_as definitions of made is).0 ∙ ap tables_of (none refl)))
-shaped_begun asks opened definitions of (Err failure) begun none is = tt
+-- a transaction is open, if what is bound asks anything
+pub shaped_begun : (given : GivenRows) (opened : Bool) (definitions : List Definition) (of : Bound) (result : Result (List TableTree × Bound) Failure) → (asks_bound given of ≡ true → opened ≡ true)
+    → IsOrMemory (Ok (tables_of definitions, of)) result → IfOk result (λ made. asks_bound given made.1 ≡ true → opened ≡ true)
+shaped_begun given opened definitions of (Ok made) begun is = λ asks. begun (ap (asks_bound given) (shaped_as definitions of made is).1 ∙ asks)
+shaped_begun given opened definitions of (Err failure) begun is = tt
 
 -- it is bound over these tables
 pub shaped_bound : (definitions : List Definition) (vars : List Variable) (statement : Statement) (of : Bound) (result : Result (List TableTree × Bound) Failure) → IsOrMemory (bound_over definitions vars statement) (Ok of)
@@ -46,3 +46,8 @@ unbound_so (Ok meant) failure (inl same) = absurd cc
 unbound_so (Ok meant) failure (inr none) = inr (let is : failure ≡ plain 701 = cc in ap Err is)
 unbound_so (Err why) failure (inl same) = inl (let is : failure ≡ why = cc in ap Err is)
 unbound_so (Err why) failure (inr none) = inr (let is : failure ≡ plain 701 = cc in ap Err is)
+
+-- ---- a statement that is bound where no transaction is open
+
+pub not_asked : (asked meant opened : Bool) → asked ≡ meant → IsTrue (not asked) → meant ≡ true → opened ≡ true
+not_asked asked meant opened same may asks = absurd (let no : false ≡ true = sym (ap not (same ∙ asks)) ∙ may in cc)

@@ -1,5 +1,5 @@
 -- The tokens of what a SELECT answers have bytes: its values are of the types of its columns.
-use Rattle.std.proofs.Common.{◌≡◌, ℕ, pos, negsuc, ◌+◌, ◌^◌, ◌<◌, ◌≤◌, ◌||◌, Bool, true, false, List, [], ◌∷◌, ◌++◌, length, map, Option, None, Some, Ok, Err, refl, sym, subst, nat_eq, ◌∙◌, arith, All, suc, ap, T, if◌then◌else◌}
+use Rattle.std.proofs.Common.{inl, inr, ◌≡◌, ℕ, pos, negsuc, ◌^◌, ◌<◌, ◌≤◌, ◌||◌, Bool, true, false, List, [], ◌∷◌, ◌++◌, length, map, Option, None, Some, Ok, Err, refl, sym, subst, nat_eq, ◌∙◌, arith, All, suc, ap, T, if◌then◌else◌}
 use Rattle.std.specs.Prelude.{nat_le}
 use Rattle.std.proofs.lemmas.Bool.{leb-true, le-leb, and_parts}
 use Rattle.std.proofs.lemmas.List.Elements.{All-cons, All-nil}
@@ -24,7 +24,10 @@ use Rattle.value_types.specs.Units.{same_units}
 use Rattle.tsql_tree.specs.declared.definition.TableTree.{TableTree}
 use Rattle.clause_binder.specs.Scope.{or_first, table_of}
 use Rattle.catalog_rows.specs.Definitions.{tables_of}
-use Rattle.catalog_rows.proofs.Fitting.{image_typed}
+use Rattle.std.specs.Cmp.Lexicographic.{pointwise}
+use Rattle.std.specs.Prelude.{IsTrue}
+use Rattle.catalog_rows.specs.Rows.{is_value_of}
+use Rattle.catalog_rows.proofs.Fitting.{image_typed, value_of_type}
 use Rattle.constraint_check.specs.Reads.{shape_of}
 use Rattle.dml_exec.specs.Reading.{query_reads, shared}
 use Rattle.typed_nodes.specs.Nodes.{is_kind}
@@ -45,13 +48,14 @@ use Rattle.value_types.specs.declared.value.Value.{Value}
 use Rattle.value_types.specs.declared.value.Value.TheVariants.{Null, Whole, Bit, Text}
 use Rattle.tds_tokens.specs.declared.columns.ColumnInfo.{ColumnInfo}
 use Rattle.tds_tokens.specs.Numbers.{command_select}
+use Rattle.tds_tokens.specs.declared.token.DoneKind.{DoneKind}
 use Rattle.tds_tokens.specs.declared.token.Token.{Token}
 use Rattle.tds_tokens.specs.Fit.{FitsType, FitsKind, FitsColumns, FitTokens}
 use Rattle.batch_meaning.specs.Progress.{SessionProgress, system_in, values_of}
 use Rattle.batch_meaning.specs.Raised.{Around}
 use Rattle.batch_meaning.specs.Selecting.{bound_as, bound_over, columns_of}
 use Rattle.session_state.specs.Sendable.{IsFit, IsResult}
-use Rattle.statement_exec.specs.Selected.{AreKept, ImagesFit, IsAnswer, IsBoundOver, IsSelect, IsSelectForm}
+use Rattle.statement_exec.specs.Selected.{AreKept, ImagesFit, IsAnswer, IsBoundOver, IsReadAnswer, IsSelect, IsSelectForm, are_typed}
 use Rattle.batch_meaning.specs.Tokens.{row_tokens, result_tokens, statement_done}
 use Rattle.session_state.proofs.Fitting.{told_fit}
 
@@ -106,10 +110,29 @@ columns_many [] = refl
 columns_many (item ∷ items) = ap suc (columns_many items)
 
 -- a result whose rows are of its items' types
-result_fits : (no_count : Bool) (items : List Item) (rows : List (List Value)) → AllOf IsNamed items → length items ≤ 64 → RowsOf (items_kinds items) rows → IsFit (result_tokens no_count (map column_of items) rows)
+result_fits : (kind : DoneKind) (no_count : Bool) (items : List Item) (rows : List (List Value)) → AllOf IsNamed items → length items ≤ 64 → RowsOf (items_kinds items) rows → IsFit (result_tokens kind no_count (map column_of items) rows)
 unfolding FitTokens
-result_fits no_count items rows fit few are = λ columns.
-    ((let same : length (map column_of items) ≡ length items = columns_many items in omega (arith, same, few), columns_fit items fit), rows_fit items rows (statement_done no_count command_select (length rows) ∷ []) fit are (told_fit no_count command_select (length rows) (map column_of items)))
+result_fits kind no_count items rows fit few are = λ columns.
+    ((let same : length (map column_of items) ≡ length items = columns_many items in omega (arith, same, few), columns_fit items fit), rows_fit items rows (statement_done kind no_count command_select (length rows) ∷ []) fit are (told_fit kind no_count command_select (length rows) (map column_of items)))
+
+-- ---- rows that were looked at
+
+no_value : {A : Type 0} → IsTrue false → A
+no_value h = absurd (let no : false ≡ true = h in cc)
+
+row_typed : (items : List Item) (row : List Value) → IsTrue (pointwise (λ item value. is_value_of item.kind value) items row) → AreExactly (items_kinds items) row
+row_typed [] [] h = tt
+row_typed [] (value ∷ row) h = no_value h
+row_typed (item ∷ items) [] h = no_value h
+row_typed (item ∷ items) (value ∷ row) h =
+    let parts = and_parts (is_value_of item.kind value) (pointwise (λ item value. is_value_of item.kind value) items row) h in
+    ((value_of_type item.kind value).0 parts.0, row_typed items row parts.1)
+
+rows_typed : (items : List Item) (rows : Rows) → IsTrue (are_typed items rows) → RowsOf (items_kinds items) rows
+rows_typed items [] h = tt
+rows_typed items (row ∷ rows) h =
+    let parts = and_parts (pointwise (λ item value. is_value_of item.kind value) items row) (are_typed items rows) h in
+    (row_typed items row parts.0, rows_typed items rows parts.1)
 
 -- ---- what a SELECT is bound to
 
@@ -202,12 +225,12 @@ query_typed definitions vars system query images rows vars_typed system_typed b 
     (subst (λ (q : BoundQuery). Ans (values_of vars) system q images ≡ Ok rows) (sym same) answers) in
     subst (λ (q : BoundQuery). RowsOf (items_kinds (items_of q)) rows) same typed
 
-query_fits : (no_count : Bool) (definitions : List Definition) (vars : List Variable) (query : BoundQuery) (rows : List (List Value)) → BoundSelect definitions vars query → RowsOf (items_kinds (items_of query)) rows → IsResult no_count (columns_of query) rows
-query_fits no_count definitions vars query rows b typed =
+query_fits : (kind : DoneKind) (no_count : Bool) (definitions : List Definition) (vars : List Variable) (query : BoundQuery) (rows : List (List Value)) → BoundSelect definitions vars query → RowsOf (items_kinds (items_of query)) rows → IsResult kind no_count (columns_of query) rows
+query_fits kind no_count definitions vars query rows b typed =
     let formed = select_formed definitions vars b.select b.selected b.is b.within in
     let same : b.selected.query ≡ query = b.same in
-    subst (λ (q : BoundQuery). IsResult no_count (columns_of q) rows) same
-    (result_fits no_count (items_of b.selected.query) rows formed.1 (formed.2 b.plain) (subst (λ (q : BoundQuery). RowsOf (items_kinds (items_of q)) rows) (sym same) typed))
+    subst (λ (q : BoundQuery). IsResult kind no_count (columns_of q) rows) same
+    (result_fits kind no_count (items_of b.selected.query) rows formed.1 (formed.2 b.plain) (subst (λ (q : BoundQuery). RowsOf (items_kinds (items_of q)) rows) (sym same) typed))
 
 module _ (around : Around) (p : SessionProgress) (vars : List Variable) (shapes : List TableTree) (statement : Statement) (of : Bound) (query : BoundQuery) (rows : Rows) where
   answer_bound : (over : IsBoundOver shapes vars statement of) → p.vars ≡ vars → IsSelect statement → of ≡ bound.Query query → BoundSelect over.0 p.vars query
@@ -215,9 +238,9 @@ module _ (around : Around) (p : SessionProgress) (vars : List Variable) (shapes 
       let bound_to : bound_over over.0 p.vars statement ≡ Ok (bound.Query query) = subst (λ (v : List Variable). bound_over over.0 v statement ≡ Ok (bound.Query query)) (sym same) (over.2 ∙ ap Ok is) in
       bound_select over.0 p.vars statement query selects bound_to
 
-  -- its rows are of its items' types
-  pub answer_typed : IsBoundOver shapes vars statement of → p.vars ≡ vars → IsSelect statement → of ≡ bound.Query query → IsAnswer around p shapes query rows → RowsOf (items_kinds (items_of query)) rows
-  answer_typed over same selects is answer = by_shapes shapes refl
+  -- its rows are of its items' types, where its images fit
+  read_typed : IsBoundOver shapes vars statement of → p.vars ≡ vars → IsSelect statement → of ≡ bound.Query query → IsReadAnswer around p shapes query rows → RowsOf (items_kinds (items_of query)) rows
+  read_typed over same selects is answer = by_shapes shapes refl
     where
       definitions : List Definition
       definitions = over.0
@@ -229,8 +252,13 @@ module _ (around : Around) (p : SessionProgress) (vars : List Variable) (shapes 
       by_shapes [] none = typed_on (subst (λ (images : List Rows). ImagesOf (tables_in definitions) (references_of query) images) (sym (answer.none none)) (no_images (tables_in definitions) (references_of query)))
       by_shapes (shape ∷ others) some = typed_on (images_typed definitions (references_of query) answer.images (subst (λ (s : List TableTree). ImagesFit s (query_reads query) answer.images) over.1 (answer.fit (λ (none : shapes ≡ []). let no : shape ∷ others ≡ [] = sym some ∙ none in absurd cc))))
 
+  -- or where they were looked at
+  pub answer_typed : IsBoundOver shapes vars statement of → p.vars ≡ vars → IsSelect statement → of ≡ bound.Query query → IsAnswer around p shapes query rows → RowsOf (items_kinds (items_of query)) rows
+  answer_typed over same selects is (inl read) = read_typed over same selects is read
+  answer_typed over same selects is (inr typed) = rows_typed (items_of query) rows typed
+
 -- so they can be sent
-pub answer_fits : (no_count : Bool) (around : Around) (p : SessionProgress) (vars : List Variable) (shapes : List TableTree) (statement : Statement) (of : Bound) (query : BoundQuery) (rows : Rows)
-    → IsBoundOver shapes vars statement of → p.vars ≡ vars → IsSelect statement → of ≡ bound.Query query → IsAnswer around p shapes query rows → IsResult no_count (columns_of query) rows
-answer_fits no_count around p vars shapes statement of query rows over same selects is answer =
-    query_fits no_count over.0 p.vars query rows (answer_bound around p vars shapes statement of query rows over same selects is) (answer_typed around p vars shapes statement of query rows over same selects is answer)
+pub answer_fits : (kind : DoneKind) (no_count : Bool) (around : Around) (p : SessionProgress) (vars : List Variable) (shapes : List TableTree) (statement : Statement) (of : Bound) (query : BoundQuery) (rows : Rows)
+    → IsBoundOver shapes vars statement of → p.vars ≡ vars → IsSelect statement → of ≡ bound.Query query → IsAnswer around p shapes query rows → IsResult kind no_count (columns_of query) rows
+answer_fits kind no_count around p vars shapes statement of query rows over same selects is answer =
+    query_fits kind no_count over.0 p.vars query rows (answer_bound around p vars shapes statement of query rows over same selects is) (answer_typed around p vars shapes statement of query rows over same selects is answer)

@@ -1,123 +1,274 @@
-//! What INSERT, UPDATE, DELETE, CREATE TABLE and DROP TABLE run.
+//! What INSERT, UPDATE and DELETE run, up to where their triggers do.
 
-ghost use Rattle.std.specs.Prelude.{◌≡◌, ◌==◌, [], true, Ok, IfOk, IfSome, IsTrue, Some};
-ghost use Rattle.constraint_check.specs.Reads.{is_shape_of, rows_table, shape_of};
-ghost use Rattle.std.specs.List.{list_any};
-ghost use Rattle.std.specs.Option.{option_map};
+ghost use Rattle.std.specs.Prelude.{◌≡◌, ◌∷◌, [], true, false, Ok, IfOk, List, is_ok};
+ghost use Rattle.binder.specs.Names.{looked_up};
 ghost use Rattle.bound_tree.specs.declared.write.Bound.TheVariants.{Write};
-ghost use Rattle.catalog_rows.specs.Definitions.{tables_of as tables_defined};
-ghost use Rattle.step_model.specs.declared.op.Op.TheVariants as ops;
-ghost use Rattle.step_model.specs.declared.reply.Reply.TheVariants.{Done};
-ghost use Rattle.dml_exec.specs.declared.refusal.Level.TheVariants.{Serializable};
-ghost use Rattle.batch_meaning.specs.Asking.{applies, marked, reads_at, unless_refused, with_room};
-ghost use Rattle.batch_meaning.specs.Changing.{created, dropped, dropped_as, is_referred, planned_in, planned_over, planned_with, refers, told_by, unless_referred, whole, with_definition, write_command};
-ghost use Rattle.batch_meaning.specs.Doing.{Did, Exchanged, asks};
+ghost use Rattle.tsql_tree.specs.declared.definition.TableTree.{TableTree as Shape};
+ghost use Rattle.tsql_tree.specs.declared.statement.Statement.{Statement as Tree};
+ghost use Rattle.batch_meaning.specs.Changing.{event_of, planned_in, planned_over, planned_with, told_by, write_command};
+ghost use Rattle.batch_meaning.specs.Doing.{Did, ◌then◌};
+ghost use Rattle.batch_meaning.specs.Raised.{Around as Stands};
+ghost use Rattle.batch_meaning.specs.Meaning.{Meaning, writes, writes_in, written_with};
 ghost use Rattle.batch_meaning.specs.Progress.{Ready};
-ghost use Rattle.batch_meaning.specs.Working.{change_bound, changes, creates, drops, drops_in, drops_kind, inserted};
-ghost use Rattle.statement_exec.specs.Selected.{IsInsertion};
+ghost use Rattle.batch_meaning.specs.Working.{asks_any, binds, enters, given_in, known_by};
+ghost use Rattle.batch_meaning.specs.Writes.{change_bound, changes};
+ghost use Rattle.statement_exec.specs.Changed.{HasWritten, MayFire, effect_in};
+ghost use Rattle.statement_exec.specs.Selected.{IsLive, asks_bound};
 ghost use Rattle.session_state.specs.Parts.{IsOrMemory};
 
 use crate::dialogs::{apply, read};
-use crate::discard::{discard, discard_write};
-use crate::look_up::objects;
+use crate::discard::discard;
+use crate::fired::fired_among;
+use crate::home::{enter, leave};
+use crate::known::asks_any;
 use crate::objects::read_definitions;
+use crate::prepare::prepare;
 use crate::query::if_it_fits;
-use batch_meaning::Failure;
-use binder::bind_checks;
+use crate::seen::seen_by_triggers;
+use batch_meaning::{Failure, Home};
+use binder::{bind_checks, names_of};
 use bound_tree::{Bound, BoundTest, BoundWrite, Image};
-use catalog_rows::{object_key, row_of, tables_of};
-use dml_exec::{Level, plan_write, rows_told, shape_of, table_written};
+use dml_exec::{plan_write, rows_told, shape_of, table_written};
 use session_state::{
-    Around, DEADLOCK, Effect, IS_PARENT, LOCK_TIMEOUT, NOT_BUILT, NOT_THERE, OBJECT_PRESENT,
-    SessionState, UNKNOWN_TABLE, naming, no_memory, system_in, unbound_by, unplanned_by,
-    written_tokens,
+    Around, Effect, Fired, OUTSIDE_LIMITS, SessionState, UNKNOWN_TABLE, no_memory, system_in,
+    unbound_by, unplanned_by, written_tokens,
 };
 use sqlite_items::Items;
 use std::alloc::Global;
-use step_model::{Deed, Op, Planned, Port, Reply};
-use tds_tokens::{COMMAND_DELETE, COMMAND_INSERT, COMMAND_UPDATE};
-use tsql_tree::{Definition, DropKind, TableTree};
-use value_types::{Memory, TableName, Units};
+use std::marker::Model;
+use step_model::{Planned, Port};
+use tds_tokens::{COMMAND_DELETE, COMMAND_INSERT, COMMAND_UPDATE, DoneKind};
+use tsql_tree::{Event, Statement, TableTree, TriggerTree};
+use value_types::Units;
 
-// ---- INSERT, UPDATE and DELETE
+/// What a write has done: what it tells, its statement's mark, the triggers that it fires, in the order of their names,
+/// and what they see.
+#[derive(Drop)]
+pub struct Written {
+    /// What it tells.
+    pub effect: Effect,
+    /// Its statement's mark.
+    pub mark: u64,
+    /// The triggers that it fires.
+    pub fires: Items<TriggerTree>,
+    /// What they see.
+    pub fired: Fired,
+}
 
-/// What a write comes to, by what it is bound to.
-pub(crate) fn change_bound<P: Port>(
+impl Model for Written {
+    ghost use Rattle.std.specs.Coded.{codes};
+    ghost use Rattle.tsql_tree.specs.contracts.query.Test as test;
+    ghost use Rattle.tsql_tree.specs.contracts.statement.Statement as tree;
+    ghost use Rattle.batch_meaning.specs.Writes.{Written as HasDone};
+
+    ghost Value = { HasDone };
+
+    ghost coded = { Prim.hlevel (codes, test.the_row.coded, tree.the_row.coded) };
+
+    ghost view = { λ written. record { effect = written.effect; mark = written.mark; fires = written.fires; fired = written.fired } };
+}
+
+/// What came of a write within its transaction.
+#[derive(Drop)]
+pub enum Change {
+    /// It is done.
+    Done(Effect),
+    /// Its locks are to end, and then its triggers to run in this transaction.
+    Fires(Home, Written),
+}
+
+/// INSERT, UPDATE or DELETE, up to where its triggers run.
+#[inline(never)]
+pub fn write<P: Port>(
     alloc: Global,
     session: &mut SessionState,
     port: &mut P,
-    around: &Around<'_>,
-    shapes: &[TableTree],
-    of: &Bound,
-) -> Result<Effect, Failure>
+    statement: &Statement,
+    around: &Around<'_, '_>,
+) -> Result<Change, Failure>
     requires ready { Ready session.old (P.past port.old) }
-    requires begun { (shapes.now ≡ [] → ⊥) → session.old.is_open ≡ true }
-    ensures does { Did (P.past port.old) (P.past port.new) (change_bound around.now shapes.now of.now) session.old (Ok result) session.new }
+    ensures does { (one : Tree → Meaning) → HasWritten (P.past port.old) (P.past port.new) (writes one around.now statement.now) one around.now session.old result session.new }
+    ensures ready { Ready session.new (P.past port.new) }
+    ensures may { IfOk result (λ change. MayFire change (P.past port.new)) }
+    ensures none { IfOk result (λ change. (effect_in change).sets ≡ []) }
+    ensures left { session.new.statements_left ≡ session.old.statements_left }
+{
+    match names_of(alloc, statement) {
+        Ok(names) => write_named(alloc, session, port, statement, names.as_slice(), around),
+        Err(_) => Err(no_memory()),
+    }
+}
+
+/// The same of one that looks these names up.
+fn write_named<P: Port>(
+    alloc: Global,
+    session: &mut SessionState,
+    port: &mut P,
+    statement: &Statement,
+    names: &[Units],
+    around: &Around<'_, '_>,
+) -> Result<Change, Failure>
+    requires ready { Ready session.old (P.past port.old) }
+    requires names { names.now ≡ looked_up statement.now }
+    ensures does { (one : Tree → Meaning) → HasWritten (P.past port.old) (P.past port.new) (enters (asks_any (known_by around.now statement.now) names.now) then writes_in one around.now statement.now) one around.now session.old result session.new }
+    ensures ready { Ready session.new (P.past port.new) }
+    ensures may { IfOk result (λ change. MayFire change (P.past port.new)) }
+    ensures none { IfOk result (λ change. (effect_in change).sets ≡ []) }
+    ensures left { session.new.statements_left ≡ session.old.statements_left }
+{
+    let home = enter(session, port, asks_any(around, &statement.form, names))?;
+    match write_in(alloc, session, port, statement, names, around) {
+        Ok(written) => Ok(done_or_fires(session, port, home, written)),
+        Err(failure) => {
+            leave(session, port, home, false);
+            Err(failure)
+        }
+    }
+}
+
+/// A write is done where it fires no triggers.
+fn done_or_fires<P: Port>(
+    session: &mut SessionState,
+    port: &mut P,
+    home: Home,
+    written: Written,
+) -> Change
+    requires ready { Ready session.old (P.past port.old) }
+    requires begun { session.old.is_open ≡ true }
+    requires live { IsLive written.mark (P.past port.old) }
+    ensures does { (one : Tree → Meaning) (around : Stands) → HasWritten (P.past port.old) (P.past port.new) (written_with one around home written written.fires) one around session.old (Ok result) session.new }
+    ensures ready { Ready session.new (P.past port.new) }
+    ensures may { MayFire result (P.past port.new) }
+    ensures effect { effect_in result ≡ written.effect }
+    ensures left { session.new.statements_left ≡ session.old.statements_left }
+{
+    if written.fires.as_slice().is_empty() {
+        leave(session, port, home, true);
+        Change::Done(effect_of(written))
+    } else {
+        Change::Fires(home, written)
+    }
+}
+
+/// What a write tells.
+fn effect_of(written: Written) -> Effect
+    ensures { result ≡ written.effect }
+{
+    written.effect
+}
+
+/// A write within its transaction.
+fn write_in<P: Port>(
+    alloc: Global,
+    session: &mut SessionState,
+    port: &mut P,
+    statement: &Statement,
+    names: &[Units],
+    around: &Around<'_, '_>,
+) -> Result<Written, Failure>
+    requires ready { Ready session.old (P.past port.old) }
+    requires begun { asks_any (known_by around.now statement.now) names.now ≡ true → session.old.is_open ≡ true }
+    requires names { names.now ≡ looked_up statement.now }
+    ensures does { Did (P.past port.old) (P.past port.new) (binds around.now statement.now (change_bound around.now)) session.old (Ok result) session.new }
     ensures ready { Ready session.new (P.past port.new) }
     ensures kept { session.new.is_open ≡ session.old.is_open }
-    ensures none { IfOk result (λ effect. effect.sets ≡ []) }
+    ensures begun { IfOk result (λ written. session.new.is_open ≡ true) }
+    ensures live { IfOk result (λ written. IsLive written.mark (P.past port.new)) }
+    ensures none { IfOk result (λ written. written.effect.sets ≡ []) }
 {
-    if shapes.is_empty() {
-        return Err(Failure::plain(NOT_BUILT));
+    let (shapes, of) = prepare(alloc, session, port, around, statement, names)?;
+    let came = change_bound(alloc, session, port, around, shapes, &of);
+    discard(of);
+    came
+}
+
+/// What a write comes to, by what it is bound to.
+fn change_bound<P: Port>(
+    alloc: Global,
+    session: &mut SessionState,
+    port: &mut P,
+    around: &Around<'_, '_>,
+    shapes: Items<TableTree>,
+    of: &Bound,
+) -> Result<Written, Failure>
+    requires ready { Ready session.old (P.past port.old) }
+    requires begun { asks_bound (given_in around.now.fired) of.now ≡ true → session.old.is_open ≡ true }
+    ensures does { Did (P.past port.old) (P.past port.new) (change_bound around.now shapes of.now) session.old (Ok result) session.new }
+    ensures ready { Ready session.new (P.past port.new) }
+    ensures kept { session.new.is_open ≡ session.old.is_open }
+    ensures begun { IfOk result (λ written. session.new.is_open ≡ true) }
+    ensures live { IfOk result (λ written. IsLive written.mark (P.past port.new)) }
+    ensures none { IfOk result (λ written. written.effect.sets ≡ []) }
+{
+    if shapes.as_slice().is_empty() {
+        return Err(Failure::plain(OUTSIDE_LIMITS));
     }
     match of {
-        Bound::Write(write) => change(alloc, session, port, around, shapes, of, write),
-        Bound::Query(_) => Err(Failure::plain(NOT_BUILT)),
-        Bound::Assign(_, _) => Err(Failure::plain(NOT_BUILT)),
-        Bound::Plain => Err(Failure::plain(NOT_BUILT)),
+        Bound::Write(write) => change_rows(alloc, session, port, around, shapes, of, write),
+        Bound::Query(_) => Err(Failure::plain(OUTSIDE_LIMITS)),
+        Bound::Assign(_, _) => Err(Failure::plain(OUTSIDE_LIMITS)),
+        Bound::Plain => Err(Failure::plain(OUTSIDE_LIMITS)),
     }
 }
 
 /// Reads the definitions and the tables of a write, plans what it changes, and asks that.
-fn change<P: Port>(
+fn change_rows<P: Port>(
     alloc: Global,
     session: &mut SessionState,
     port: &mut P,
-    around: &Around<'_>,
-    shapes: &[TableTree],
+    around: &Around<'_, '_>,
+    shapes: Items<TableTree>,
     of: &Bound,
     write: &BoundWrite,
-) -> Result<Effect, Failure>
+) -> Result<Written, Failure>
     requires ready { Ready session.old (P.past port.old) }
     requires begun { session.old.is_open ≡ true }
     requires write { of.now ≡ Write write.now }
-    ensures does { Did (P.past port.old) (P.past port.new) (changes around.now shapes.now write.now) session.old (Ok result) session.new }
+    ensures does { (shape : Shape) (others : List Shape) → shapes ≡ shape ∷ others → Did (P.past port.old) (P.past port.new) (changes around.now shape others write.now) session.old (Ok result) session.new }
     ensures ready { Ready session.new (P.past port.new) }
     ensures begun { session.new.is_open ≡ true }
-    ensures none { IfOk result (λ effect. effect.sets ≡ []) }
+    ensures live { IfOk result (λ written. IsLive written.mark (P.past port.new)) }
+    ensures none { IfOk result (λ written. written.effect.sets ≡ []) }
 {
     let definitions = read_definitions(alloc, session, port)?;
     let level = session.settings().level;
-    let images = read(alloc, session, port, level, shapes, of)?;
-    let planned = plan(alloc, session, around, shapes, write, images.as_slice())?;
+    let given = around.fired();
+    let images = read(alloc, session, port, given, level, shapes.as_slice(), of)?;
+    let planned = plan(
+        alloc,
+        session,
+        around,
+        shapes.as_slice(),
+        write,
+        images.as_slice(),
+    )?;
     let effect = told(
         alloc,
+        around.done_kind(),
         session.settings().no_count,
         write,
         planned.as_slice(),
     )?;
     let fitting = if_it_fits(session, effect)?;
-    put(alloc, session, port, definitions, planned.as_slice())?;
-    Ok(fitting)
+    let (tables, fires) = fired_among(alloc, around, definitions, write)?;
+    let fired = seen_by_triggers(alloc, shapes, images, planned.as_slice(), write)?;
+    let mark = apply(alloc, session, port, tables.as_slice(), planned.as_slice())?;
+    Ok(Written {
+        effect: fitting,
+        mark,
+        fires,
+        fired,
+    })
 }
 
-/// Asks changes, and what checks them by these definitions.
-fn put<P: Port>(
-    alloc: Global,
-    session: &mut SessionState,
-    port: &mut P,
-    definitions: Vec<Definition>,
-    planned: &[Planned],
-) -> Result<(), Failure>
-    requires ready { Ready session.old (P.past port.old) }
-    requires begun { session.old.is_open ≡ true }
-    ensures does { Did (P.past port.old) (P.past port.new) (with_room (applies (tables_defined definitions.items) planned.now)) session.old (Ok result) session.new }
-    ensures ready { Ready session.new (P.past port.new) }
-    ensures begun { session.new.is_open ≡ true }
+/// The event that a write is.
+pub(crate) fn event_of(write: &BoundWrite) -> Event
+    ensures { result ≡ event_of write.now }
 {
-    match tables_of(alloc, definitions) {
-        Ok(tables) => apply(alloc, session, port, tables.as_slice(), planned),
-        Err(_) => Err(no_memory()),
+    match write {
+        BoundWrite::Insert { .. } => Event::Insert,
+        BoundWrite::Update { .. } => Event::Update,
+        BoundWrite::Delete { .. } => Event::Delete,
     }
 }
 
@@ -125,7 +276,7 @@ fn put<P: Port>(
 fn plan(
     alloc: Global,
     session: &SessionState,
-    around: &Around<'_>,
+    around: &Around<'_, '_>,
     shapes: &[TableTree],
     write: &BoundWrite,
     images: &[Image],
@@ -142,7 +293,7 @@ fn plan(
 fn plan_in(
     alloc: Global,
     session: &SessionState,
-    around: &Around<'_>,
+    around: &Around<'_, '_>,
     shape: &TableTree,
     write: &BoundWrite,
     images: &[Image],
@@ -164,10 +315,10 @@ fn plan_in(
 }
 
 /// The changes of a write, where the CHECKs of its table are bound to these tests.
-fn plan_with(
+pub(crate) fn plan_with(
     alloc: Global,
     session: &SessionState,
-    around: &Around<'_>,
+    around: &Around<'_, '_>,
     shape: &TableTree,
     checks: &[BoundTest],
     write: &BoundWrite,
@@ -187,15 +338,16 @@ fn plan_with(
 /// What is told of a write.
 fn told(
     alloc: Global,
+    kind: DoneKind,
     no_count: bool,
     write: &BoundWrite,
     planned: &[Planned],
 ) -> Result<Effect, Failure>
-    ensures came { IsOrMemory (Ok (told_by no_count write.now planned.now)) result }
+    ensures came { IsOrMemory (Ok (told_by kind no_count write.now planned.now)) result }
     ensures none { IfOk result (λ effect. effect.sets ≡ []) }
 {
     let rows = rows_told(write, planned) as u64;
-    match written_tokens(alloc, no_count, write_command(write), rows) {
+    match written_tokens(alloc, kind, no_count, write_command(write), rows) {
         Ok(tokens) => Ok(Effect {
             sets: Vec::new(alloc),
             rows,
@@ -214,346 +366,4 @@ fn write_command(write: &BoundWrite) -> u16
         BoundWrite::Update { .. } => COMMAND_UPDATE,
         BoundWrite::Delete { .. } => COMMAND_DELETE,
     }
-}
-
-// ---- CREATE TABLE
-
-/// Puts a table's definition into `objects`.
-pub(crate) fn create<P: Port>(
-    alloc: Global,
-    session: &mut SessionState,
-    port: &mut P,
-    name: &Units,
-    text: &Units,
-) -> Result<Effect, Failure>
-    requires ready { Ready session.old (P.past port.old) }
-    requires begun { session.old.is_open ≡ true }
-    ensures does { Did (P.past port.old) (P.past port.new) (creates name.now text.now) session.old (Ok result) session.new }
-    ensures ready { Ready session.new (P.past port.new) }
-    ensures begun { session.new.is_open ≡ true }
-    ensures none { IfOk result (λ effect. effect.sets ≡ []) }
-{
-    put_definition(alloc, session, port, name, text)?;
-    Ok(Effect::none(alloc))
-}
-
-/// Puts a definition at its name; an object may be there.
-fn put_definition<P: Port>(
-    alloc: Global,
-    session: &mut SessionState,
-    port: &mut P,
-    name: &Units,
-    text: &Units,
-) -> Result<(), Failure>
-    requires ready { Ready session.old (P.past port.old) }
-    requires begun { session.old.is_open ≡ true }
-    ensures does { Did (P.past port.old) (P.past port.new) (with_room (asks ops.Mark (unless_refused (marked (λ mark. asks (created name.now text.now) (inserted mark name.now)))))) session.old (Ok result) session.new }
-    ensures ready { Ready session.new (P.past port.new) }
-    ensures begun { session.new.is_open ≡ true }
-{
-    match created(alloc, name, text) {
-        Ok(insertion) => put_marked(alloc, session, port, name, &insertion),
-        Err(_) => Err(no_memory()),
-    }
-}
-
-/// The insertion of a definition into `objects`.
-fn created(alloc: Global, name: &Units, text: &Units) -> Result<Op, Memory>
-    ensures { IfOk result (λ insertion. insertion ≡ created name.now text.now) }
-{
-    Ok(Op::Insert {
-        table: objects(alloc)?,
-        key: object_key(alloc, name)?,
-        row: row_of(alloc, name, text)?,
-    })
-}
-
-/// Asks an insertion behind a mark.
-fn put_marked<P: Port>(
-    alloc: Global,
-    session: &mut SessionState,
-    port: &mut P,
-    name: &Units,
-    insertion: &Op,
-) -> Result<(), Failure>
-    requires ready { Ready session.old (P.past port.old) }
-    requires begun { session.old.is_open ≡ true }
-    requires inserts { IsInsertion insertion.now }
-    ensures does { Did (P.past port.old) (P.past port.new) (asks ops.Mark (unless_refused (marked (λ mark. asks insertion.now (inserted mark name.now))))) session.old (Ok result) session.new }
-    ensures ready { Ready session.new (P.past port.new) }
-    ensures begun { session.new.is_open ≡ true }
-{
-    match session.ask(port, &Op::Mark) {
-        Reply::Marked(mark) => insert(alloc, session, port, name, mark, insertion),
-        Reply::Memory => Err(no_memory()),
-        _ => unreachable!(),
-    }
-}
-
-/// Asks an insertion; where it fails it is taken back to the mark.
-fn insert<P: Port>(
-    alloc: Global,
-    session: &mut SessionState,
-    port: &mut P,
-    name: &Units,
-    mark: u64,
-    insertion: &Op,
-) -> Result<(), Failure>
-    requires ready { Ready session.old (P.past port.old) }
-    requires begun { session.old.is_open ≡ true }
-    requires live { IsTrue (list_any (λ live. live == mark) (P.past port.old).standing.marks) }
-    requires inserts { IsInsertion insertion.now }
-    ensures does { Did (P.past port.old) (P.past port.new) (asks insertion.now (inserted mark name.now)) session.old (Ok result) session.new }
-    ensures ready { Ready session.new (P.past port.new) }
-    ensures begun { session.new.is_open ≡ true }
-{
-    match session.ask(port, insertion) {
-        Reply::Done => Ok(()),
-        Reply::Exists => {
-            take_back(session, port, mark);
-            Err(naming(alloc, OBJECT_PRESENT, name))
-        }
-        Reply::Memory => {
-            take_back(session, port, mark);
-            Err(no_memory())
-        }
-        Reply::TimedOut { .. } => {
-            take_back(session, port, mark);
-            Err(Failure::plain(LOCK_TIMEOUT))
-        }
-        Reply::Victim { .. } => {
-            take_back(session, port, mark);
-            Err(Failure::plain(DEADLOCK))
-        }
-        _ => unreachable!(),
-    }
-}
-
-/// Goes back to a mark.
-pub fn take_back<P: Port>(session: &mut SessionState, port: &mut P, mark: u64)
-    requires ready { Ready session.old (P.past port.old) }
-    requires begun { session.old.is_open ≡ true }
-    requires live { IsTrue (list_any (λ live. live == mark) (P.past port.old).standing.marks) }
-    ensures back { Exchanged (P.past port.old) (P.past port.new) (ops.BackTo mark) session.old Done session.new }
-    ensures ready { Ready session.new (P.past port.new) }
-    ensures begun { session.new.is_open ≡ true }
-{
-    match session.ask(port, &Op::BackTo { mark }) {
-        Reply::Done => {}
-        _ => unreachable!(),
-    }
-}
-
-// ---- DROP
-
-/// Drops what is of a kind and a name: a table among these, and else nothing is there.
-pub(crate) fn drop_kind<P: Port>(
-    alloc: Global,
-    session: &mut SessionState,
-    port: &mut P,
-    around: &Around<'_>,
-    kind: DropKind,
-    shapes: &[TableTree],
-    name: &Units,
-) -> Result<Effect, Failure>
-    requires ready { Ready session.old (P.past port.old) }
-    requires begun { (shapes.now ≡ [] → ⊥) → session.old.is_open ≡ true }
-    ensures does { Did (P.past port.old) (P.past port.new) (drops_kind around.now kind shapes.now name.now) session.old (Ok result) session.new }
-    ensures ready { Ready session.new (P.past port.new) }
-    ensures kept { session.new.is_open ≡ session.old.is_open }
-    ensures none { IfOk result (λ effect. effect.sets ≡ []) }
-{
-    match kind {
-        DropKind::Table => drop_table(alloc, session, port, around, shapes, name),
-        DropKind::Procedure => Err(naming(alloc, NOT_THERE, name)),
-        DropKind::Trigger => Err(naming(alloc, NOT_THERE, name)),
-    }
-}
-
-/// Drops the table of this name, if it is there.
-fn drop_table<P: Port>(
-    alloc: Global,
-    session: &mut SessionState,
-    port: &mut P,
-    around: &Around<'_>,
-    shapes: &[TableTree],
-    name: &Units,
-) -> Result<Effect, Failure>
-    requires ready { Ready session.old (P.past port.old) }
-    requires begun { (shapes.now ≡ [] → ⊥) → session.old.is_open ≡ true }
-    ensures does { Did (P.past port.old) (P.past port.new) (drops_in around.now (shape_of (rows_table name.now) shapes.now) shapes.now name.now) session.old (Ok result) session.new }
-    ensures ready { Ready session.new (P.past port.new) }
-    ensures kept { session.new.is_open ≡ session.old.is_open }
-    ensures none { IfOk result (λ effect. effect.sets ≡ []) }
-{
-    match shape_named(name, shapes) {
-        Some(shape) => drop_shaped(alloc, session, port, around, shape, shapes, name),
-        None => Err(naming(alloc, NOT_THERE, name)),
-    }
-}
-
-/// The first shape of the table of this name, if it is among these.
-fn shape_named<'a>(name: &Units, shapes: &'a [TableTree]) -> Option<&'a TableTree>
-    ensures shape { option_map (λ shape. shape.now) result ≡ shape_of (rows_table name.now) shapes.now }
-    ensures some { IfSome result (λ shape. shapes.now ≡ [] → ⊥) }
-{
-    for shape in shapes {
-        if is_shape_of(name, shape) {
-            return Some(shape);
-        }
-    }
-    None
-}
-
-/// Whether the table of this name has this shape.
-fn is_shape_of(name: &Units, shape: &TableTree) -> bool
-    ensures { result ≡ is_shape_of (rows_table name.now) shape.now }
-{
-    *name == shape.name
-}
-
-/// Drops a table of this shape.
-fn drop_shaped<P: Port>(
-    alloc: Global,
-    session: &mut SessionState,
-    port: &mut P,
-    around: &Around<'_>,
-    shape: &TableTree,
-    shapes: &[TableTree],
-    name: &Units,
-) -> Result<Effect, Failure>
-    requires ready { Ready session.old (P.past port.old) }
-    requires begun { session.old.is_open ≡ true }
-    ensures does { Did (P.past port.old) (P.past port.new) (drops around.now shapes.now shape.now name.now) session.old (Ok result) session.new }
-    ensures ready { Ready session.new (P.past port.new) }
-    ensures begun { session.new.is_open ≡ true }
-    ensures none { IfOk result (λ effect. effect.sets ≡ []) }
-{
-    let definitions = read_definitions(alloc, session, port)?;
-    free(alloc, definitions, name)?;
-    let images = read_whole(alloc, session, port, shapes, name)?;
-    let planned = plan_drop(alloc, session, around, shape, name, images.as_slice())?;
-    apply(alloc, session, port, &[], planned.as_slice())?;
-    Ok(Effect::none(alloc))
-}
-
-/// No other table refers to that of this name.
-fn free(alloc: Global, definitions: Vec<Definition>, name: &Units) -> Result<(), Failure>
-    ensures { IsOrMemory (unless_referred name.now (tables_defined definitions.items)) result }
-{
-    match tables_of(alloc, definitions) {
-        Ok(tables) if is_referred(name, tables.as_slice()) => Err(naming(alloc, IS_PARENT, name)),
-        Ok(_) => Ok(()),
-        Err(_) => Err(no_memory()),
-    }
-}
-
-/// Whether another table refers to that of this name.
-fn is_referred(name: &Units, tables: &[TableTree]) -> bool
-    ensures { result ≡ is_referred name.now tables.now }
-{
-    tables
-        .iter()
-        .any(|table| table.name != *name && refers(name, table))
-}
-
-/// Whether a FOREIGN KEY of a table refers to that of this name.
-fn refers(name: &Units, table: &TableTree) -> bool
-    ensures { result ≡ refers name.now table.now }
-{
-    table
-        .foreigns
-        .as_slice()
-        .iter()
-        .any(|foreign| foreign.parent == *name)
-}
-
-/// Reads all rows of a table, its range held, as they are to be erased.
-fn read_whole<P: Port>(
-    alloc: Global,
-    session: &mut SessionState,
-    port: &mut P,
-    shapes: &[TableTree],
-    name: &Units,
-) -> Result<Items<Image>, Failure>
-    requires ready { Ready session.old (P.past port.old) }
-    requires begun { session.old.is_open ≡ true }
-    ensures does { Did (P.past port.old) (P.past port.new) (with_room (reads_at Serializable shapes.now (Write (whole name.now)))) session.old (Ok result) session.new }
-    ensures ready { Ready session.new (P.past port.new) }
-    ensures begun { session.new.is_open ≡ true }
-{
-    match whole(alloc, name) {
-        Ok(write) => {
-            let of = Bound::Write(write);
-            let came = read(alloc, session, port, Level::Serializable, shapes, &of);
-            discard(of);
-            came
-        }
-        Err(_) => Err(no_memory()),
-    }
-}
-
-/// The DELETE of all rows of a table.
-fn whole(alloc: Global, name: &Units) -> Result<BoundWrite, Memory>
-    ensures { IfOk result (λ write. write ≡ whole name.now) }
-{
-    Ok(BoundWrite::Delete {
-        table: TableName {
-            object: name.copy(alloc)?,
-            part: 0,
-        },
-        filter: None,
-        inner: Items::new(alloc),
-    })
-}
-
-/// The changes by which a table of these rows is dropped.
-fn plan_drop(
-    alloc: Global,
-    session: &SessionState,
-    around: &Around<'_>,
-    shape: &TableTree,
-    name: &Units,
-    images: &[Image],
-) -> Result<Items<Planned>, Failure>
-    ensures { IsOrMemory (dropped around.now session.now shape.now name.now images.now) result }
-{
-    match whole(alloc, name) {
-        Ok(write) => {
-            let planned = plan_with(alloc, session, around, shape, &[], &write, images);
-            discard_write(write);
-            dropped_as(alloc, name, planned)
-        }
-        Err(_) => Err(no_memory()),
-    }
-}
-
-/// The changes by which a table is dropped, by those that erase its rows.
-fn dropped_as(
-    alloc: Global,
-    name: &Units,
-    planned: Result<Items<Planned>, Failure>,
-) -> Result<Items<Planned>, Failure>
-    ensures { IsOrMemory (dropped_as name.now planned) result }
-{
-    match planned {
-        Ok(mut planned) => match add_definition(alloc, name, &mut planned) {
-            Ok(()) => Ok(planned),
-            Err(_) => Err(no_memory()),
-        },
-        Err(failure) => Err(failure),
-    }
-}
-
-/// Adds the erasure of a table's definition.
-fn add_definition(alloc: Global, name: &Units, planned: &mut Items<Planned>) -> Result<(), Memory>
-    ensures { IfOk result (λ _. planned.new ≡ with_definition name.now planned.old) }
-{
-    let change = Planned {
-        table: objects(alloc)?,
-        key: object_key(alloc, name)?,
-        deed: Deed::Erase,
-    };
-    planned.push(change)?;
-    Ok(())
 }

@@ -10,14 +10,14 @@ ghost use Rattle.batch_meaning.specs.Cursors.{assigns_row, closes_cursor, declar
 ghost use Rattle.batch_meaning.specs.Doing.{Did, makes, over};
 ghost use Rattle.batch_meaning.specs.Progress.{Ready, fills};
 ghost use Rattle.batch_meaning.specs.Selecting.{no_effect};
-ghost use Rattle.batch_meaning.specs.Working.{asks_any, binds, own, within};
-ghost use Rattle.statement_exec.specs.Selected.{IsBoundOver, IsSelect};
+ghost use Rattle.batch_meaning.specs.Working.{asks_any, binds, given_in, known_by, own, within};
+ghost use Rattle.statement_exec.specs.Selected.{IsBoundOver, IsSelect, asks_bound};
 ghost use Rattle.statement_exec.specs.CursorAnswers.{IsCounted, IsKept, IsRefused};
 ghost use Rattle.session_state.specs.Parts.{SetsFit, Stepped};
 
 use crate::discard::discard;
 use crate::home::{enter, leave};
-use crate::look_up::asks_any;
+use crate::known::asks_any;
 use crate::prepare::{bind_first, prepare};
 use crate::query::answer;
 use batch_meaning::Failure;
@@ -95,7 +95,7 @@ pub fn open_cursor<P: Port>(
     port: &mut P,
     statement: &Statement,
     name: &Units,
-    around: &Around<'_>,
+    around: &Around<'_, '_>,
 ) -> Result<Effect, Failure>
     requires ready { Ready session.old (P.past port.old) }
     ensures does { Did (P.past port.old) (P.past port.new) (opens_cursor around.now statement.now name.now) session.old (Ok result) session.new }
@@ -148,11 +148,11 @@ fn fill<P: Port>(
     port: &mut P,
     select: &Statement,
     name: &Units,
-    around: &Around<'_>,
+    around: &Around<'_, '_>,
 ) -> Result<Effect, Failure>
     requires ready { Ready session.old (P.past port.old) }
     requires select { IsSelect select.now }
-    ensures does { Did (P.past port.old) (P.past port.new) (within select.now (opens_bound around.now name.now)) session.old (Ok result) session.new }
+    ensures does { Did (P.past port.old) (P.past port.new) (within around.now select.now (opens_bound around.now name.now)) session.old (Ok result) session.new }
     ensures ready { Ready session.new (P.past port.new) }
     ensures none { IfOk result (λ effect. effect.sets ≡ []) }
 {
@@ -170,16 +170,16 @@ fn fill_named<P: Port>(
     select: &Statement,
     names: &[Units],
     name: &Units,
-    around: &Around<'_>,
+    around: &Around<'_, '_>,
 ) -> Result<Effect, Failure>
     requires ready { Ready session.old (P.past port.old) }
     requires select { IsSelect select.now }
     requires names { names.now ≡ looked_up select.now }
-    ensures does { Did (P.past port.old) (P.past port.new) (own (asks_any names.now) (binds select.now (opens_bound around.now name.now))) session.old (Ok result) session.new }
+    ensures does { Did (P.past port.old) (P.past port.new) (own (asks_any (known_by around.now select.now) names.now) (binds around.now select.now (opens_bound around.now name.now))) session.old (Ok result) session.new }
     ensures ready { Ready session.new (P.past port.new) }
     ensures none { IfOk result (λ effect. effect.sets ≡ []) }
 {
-    let home = enter(session, port, asks_any(names))?;
+    let home = enter(session, port, asks_any(around, &select.form, names))?;
     let came = fill_in(alloc, session, port, select, names, name, around);
     leave(session, port, home, came.is_ok());
     came
@@ -193,18 +193,18 @@ fn fill_in<P: Port>(
     select: &Statement,
     names: &[Units],
     name: &Units,
-    around: &Around<'_>,
+    around: &Around<'_, '_>,
 ) -> Result<Effect, Failure>
     requires ready { Ready session.old (P.past port.old) }
-    requires begun { asks_any names.now ≡ true → session.old.is_open ≡ true }
+    requires begun { asks_any (known_by around.now select.now) names.now ≡ true → session.old.is_open ≡ true }
     requires select { IsSelect select.now }
     requires names { names.now ≡ looked_up select.now }
-    ensures does { Did (P.past port.old) (P.past port.new) (binds select.now (opens_bound around.now name.now)) session.old (Ok result) session.new }
+    ensures does { Did (P.past port.old) (P.past port.new) (binds around.now select.now (opens_bound around.now name.now)) session.old (Ok result) session.new }
     ensures ready { Ready session.new (P.past port.new) }
     ensures kept { session.new.is_open ≡ session.old.is_open }
     ensures none { IfOk result (λ effect. effect.sets ≡ []) }
 {
-    let (shapes, of) = prepare(alloc, session, port, select, names)?;
+    let (shapes, of) = prepare(alloc, session, port, around, select, names)?;
     let came = fill_bound(
         alloc,
         session,
@@ -228,10 +228,10 @@ fn fill_bound<P: Port>(
     shapes: &[TableTree],
     of: &Bound,
     name: &Units,
-    around: &Around<'_>,
+    around: &Around<'_, '_>,
 ) -> Result<Effect, Failure>
     requires ready { Ready session.old (P.past port.old) }
-    requires begun { (shapes.now ≡ [] → ⊥) → session.old.is_open ≡ true }
+    requires begun { asks_bound (given_in around.now.fired) of.now ≡ true → session.old.is_open ≡ true }
     requires select { IsSelect select.now }
     requires bound { IsBoundOver shapes.now session.old.vars select.now of.now }
     ensures does { Did (P.past port.old) (P.past port.new) (opens_bound around.now name.now shapes.now of.now) session.old (Ok result) session.new }
@@ -257,10 +257,10 @@ fn fill_with<P: Port>(
     of: &Bound,
     query: &BoundQuery,
     name: &Units,
-    around: &Around<'_>,
+    around: &Around<'_, '_>,
 ) -> Result<Effect, Failure>
     requires ready { Ready session.old (P.past port.old) }
-    requires begun { (shapes.now ≡ [] → ⊥) → session.old.is_open ≡ true }
+    requires begun { asks_bound (given_in around.now.fired) of.now ≡ true → session.old.is_open ≡ true }
     requires select { IsSelect select.now }
     requires bound { IsBoundOver shapes.now session.old.vars select.now of.now }
     requires query { of.now ≡ Query query.now }

@@ -1,8 +1,11 @@
 //! In which transaction a statement works, and how that ends.
 
 ghost use Rattle.std.specs.Prelude.{◌≡◌, true, false, Ok, IfOk};
+ghost use Rattle.step_model.specs.declared.op.Op.TheVariants as ops;
+ghost use Rattle.step_model.specs.declared.reply.Reply.TheVariants.{Done};
 ghost use Rattle.batch_meaning.specs.declared.home.Home.TheVariants.{Nowhere};
-ghost use Rattle.batch_meaning.specs.Doing.{Did};
+ghost use Rattle.batch_meaning.specs.Doing.{Did, Exchanged, over};
+ghost use Rattle.batch_meaning.specs.Firing.{relaxes_then};
 ghost use Rattle.batch_meaning.specs.Progress.{Ready};
 ghost use Rattle.batch_meaning.specs.Working.{closes, enters, leaves, relaxes};
 
@@ -11,7 +14,7 @@ use session_state::{SessionState, no_memory};
 use step_model::{Op, Port, Reply};
 
 /// Where a statement works that asks something, or nothing: a transaction of its own is begun where none is open.
-pub(crate) fn enter<P: Port>(
+pub fn enter<P: Port>(
     session: &mut SessionState,
     port: &mut P,
     asks_any: bool,
@@ -37,7 +40,7 @@ pub(crate) fn enter<P: Port>(
 }
 
 /// Ends the locks of the statement, and its own transaction by whether the statement succeeded.
-pub(crate) fn leave<P: Port>(session: &mut SessionState, port: &mut P, home: Home, succeeded: bool)
+pub fn leave<P: Port>(session: &mut SessionState, port: &mut P, home: Home, succeeded: bool)
     requires ready { Ready session.old (P.past port.old) }
     requires begun { (home ≡ Nowhere → ⊥) → session.old.is_open ≡ true }
     ensures does { Did (P.past port.old) (P.past port.new) (leaves home succeeded) session.old (Ok result) session.new }
@@ -55,10 +58,11 @@ pub(crate) fn leave<P: Port>(session: &mut SessionState, port: &mut P, home: Hom
 }
 
 /// Ends the locks of the statement, where something was fetched or written.
-fn relax<P: Port>(session: &mut SessionState, port: &mut P)
+pub fn relax<P: Port>(session: &mut SessionState, port: &mut P)
     requires ready { Ready session.old (P.past port.old) }
     requires begun { session.old.is_open ≡ true }
     ensures does { Did (P.past port.old) (P.past port.new) relaxes session.old (Ok result) session.new }
+    ensures standing { (P.past port.new).standing ≡ (P.past port.old).standing }
     ensures ready { Ready session.new (P.past port.new) }
     ensures begun { session.new.is_open ≡ true }
     ensures vars { session.new.vars ≡ session.old.vars }
@@ -72,7 +76,7 @@ fn relax<P: Port>(session: &mut SessionState, port: &mut P)
 }
 
 /// Ends the statement's own transaction, by whether the statement succeeded.
-fn close<P: Port>(session: &mut SessionState, port: &mut P, succeeded: bool)
+pub fn close<P: Port>(session: &mut SessionState, port: &mut P, succeeded: bool)
     requires ready { Ready session.old (P.past port.old) }
     requires begun { session.old.is_open ≡ true }
     ensures does { Did (P.past port.old) (P.past port.new) (closes succeeded) session.old (Ok result) session.new }
@@ -89,5 +93,20 @@ fn close<P: Port>(session: &mut SessionState, port: &mut P, succeeded: bool)
             Reply::Ended { .. } => {}
             _ => unreachable!(),
         }
+    }
+}
+
+/// Ends the locks of a statement whose triggers have run, whatever was asked since.
+pub fn relax_again<P: Port>(session: &mut SessionState, port: &mut P)
+    requires ready { Ready session.old (P.past port.old) }
+    requires begun { session.old.is_open ≡ true }
+    ensures does { Did (P.past port.old) (P.past port.new) (relaxes_then (over tt)) session.old (Ok result) session.new }
+    ensures asked { Exchanged (P.past port.old) (P.past port.new) ops.Relax session.old Done session.new }
+    ensures ready { Ready session.new (P.past port.new) }
+    ensures begun { session.new.is_open ≡ true }
+{
+    match session.ask(port, &Op::Relax) {
+        Reply::Done => {}
+        _ => unreachable!(),
     }
 }

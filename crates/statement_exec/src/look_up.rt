@@ -1,28 +1,30 @@
 //! How names are looked up in `objects`.
 
-ghost use Rattle.std.specs.Prelude.{◌≡◌, [], true, false, Ok, IfOk, IsTrue};
+ghost use Rattle.std.specs.Prelude.{Bool, ◌≡◌, ◌∷◌, [], true, false, Ok, IfOk, IsTrue, is_some};
 ghost use Rattle.lock_modes.specs.declared.KeyPart.TheVariants.{S};
 ghost use Rattle.step_model.specs.declared.op.Hold.TheVariants as hold;
 ghost use Rattle.step_model.specs.declared.op.Op.TheVariants as ops;
 ghost use Rattle.step_model.specs.declared.range.Start.TheVariants.{At};
 ghost use Rattle.step_model.specs.declared.range.Stop.TheVariants.{Within};
+ghost use Rattle.tsql_tree.specs.declared.statement.Form.{out-Form};
 ghost use Rattle.batch_meaning.specs.Doing.{Did, asks};
-ghost use Rattle.batch_meaning.specs.Asking.{unless_refused, is_table, known, look_up, looks_up, with_found};
-ghost use Rattle.batch_meaning.specs.Working.{asks_any};
+ghost use Rattle.batch_meaning.specs.Asking.{unless_refused, finds_by, is_table, known, look_up, looks_up, with_found};
+ghost use Rattle.batch_meaning.specs.Working.{asks_any, asks_first, known_in};
 ghost use Rattle.batch_meaning.specs.Progress.{Ready};
 ghost use Rattle.constraint_check.specs.Reads.{rows_table};
 ghost use Rattle.dml_exec.specs.Asking.{seen};
-ghost use Rattle.catalog_rows.specs.Definitions.{objects_name, object_key};
+ghost use Rattle.catalog_rows.specs.Definitions.{is_objects, objects_name, object_key};
 ghost use Rattle.statement_exec.specs.Fetched.{IsFetch};
 ghost use Rattle.statement_exec.specs.Selected.{IsDefined};
 
+use crate::known::{StandsFor, known, table_called};
 use batch_meaning::Failure;
 use catalog_rows::{definition_in, is_objects, object_key};
 use lock_modes::KeyPart;
-use session_state::{DEADLOCK, LOCK_TIMEOUT, NO_MEMORY, SessionState};
+use session_state::{Around, DEADLOCK, LOCK_TIMEOUT, NO_MEMORY, SessionState};
 use std::alloc::Global;
 use step_model::{Hold, Op, Port, Reply, Start, Stop};
-use tsql_tree::Definition;
+use tsql_tree::{Definition, Form};
 use value_types::{Key, Memory, Row, TableName, Units};
 
 /// What names are defined as, one after another, up to the first that is no table's.
@@ -30,22 +32,20 @@ pub(crate) fn look_up_all<P: Port>(
     alloc: Global,
     session: &mut SessionState,
     port: &mut P,
+    around: &Around<'_, '_>,
+    form: &Form,
     names: &[Units],
 ) -> Result<Vec<Definition>, Failure>
     requires ready { Ready session.old (P.past port.old) }
-    requires begun { asks_any names.now ≡ true → session.old.is_open ≡ true }
-    ensures does { Did (P.past port.old) (P.past port.new) (looks_up [] names.now) session.old (Ok (seen result)) session.new }
+    requires begun { asks_any (known_in around.now.fired (out-Form form.now)) names.now ≡ true → session.old.is_open ≡ true }
+    ensures does { Did (P.past port.old) (P.past port.new) (looks_up (known_in around.now.fired (out-Form form.now)) [] names.now) session.old (Ok (seen result)) session.new }
     ensures ready { Ready session.new (P.past port.new) }
     ensures kept { session.new.is_open ≡ session.old.is_open }
     ensures vars { session.new.vars ≡ session.old.vars }
-    ensures none { asks_any names.now ≡ false → IfOk result (λ definitions. definitions.items ≡ []) }
 {
     let mut definitions = Vec::new(alloc);
-    if !asks_any(names) {
-        return Ok(definitions);
-    }
     for name in names {
-        let found = look_up(alloc, session, port, name)?;
+        let found = find_name(alloc, session, port, around, form, name)?;
         if !is_table(&found) {
             return Ok(definitions);
         }
@@ -56,13 +56,30 @@ pub(crate) fn look_up_all<P: Port>(
     Ok(definitions)
 }
 
-/// Whether something is asked where these names are looked up: the first is.
-pub(crate) fn asks_any(names: &[Units]) -> bool
-    ensures { result ≡ asks_any names.now }
+/// What a name is defined as; in a trigger `inserted` and `deleted` are not looked up.
+pub fn find_name<P: Port>(
+    alloc: Global,
+    session: &mut SessionState,
+    port: &mut P,
+    around: &Around<'_, '_>,
+    form: &Form,
+    name: &Units,
+) -> Result<Option<Definition>, Failure>
+    requires ready { Ready session.old (P.past port.old) }
+    requires begun { asks_any (known_in around.now.fired (out-Form form.now)) (name.now ∷ []) ≡ true → session.old.is_open ≡ true }
+    ensures does { Did (P.past port.old) (P.past port.new) (finds_by (known_in around.now.fired (out-Form form.now) name.now) name.now) session.old (Ok result) session.new }
+    ensures ready { Ready session.new (P.past port.new) }
+    ensures kept { session.new.is_open ≡ session.old.is_open }
+    ensures vars { session.new.vars ≡ session.old.vars }
+    ensures more { IfOk result (λ found. is_some found ≡ true → (others : Bool) → (asks_first (known_in around.now.fired (out-Form form.now) name.now) name.now others ≡ true → session.old.is_open ≡ true) → others ≡ true → session.new.is_open ≡ true) }
 {
-    match names {
-        [name, ..] => !is_objects(name),
-        [] => false,
+    match known(around, form, name) {
+        StandsFor::LookedUp => look_up(alloc, session, port, name),
+        StandsFor::Nothing => Ok(None),
+        StandsFor::Given(fired) => match table_called(alloc, name, fired) {
+            Ok(table) => Ok(Some(table)),
+            Err(_) => Err(Failure::plain(NO_MEMORY)),
+        },
     }
 }
 
@@ -91,11 +108,12 @@ pub(crate) fn look_up<P: Port>(
     name: &Units,
 ) -> Result<Option<Definition>, Failure>
     requires ready { Ready session.old (P.past port.old) }
-    requires begun { session.old.is_open ≡ true }
+    requires begun { is_objects name.now ≡ false → session.old.is_open ≡ true }
     ensures does { Did (P.past port.old) (P.past port.new) (look_up name.now) session.old (Ok result) session.new }
     ensures ready { Ready session.new (P.past port.new) }
-    ensures begun { session.new.is_open ≡ true }
+    ensures kept { session.new.is_open ≡ session.old.is_open }
     ensures vars { session.new.vars ≡ session.old.vars }
+    ensures found { IfOk result (λ found. is_some found ≡ true → session.new.is_open ≡ true) }
 {
     if is_objects(name) {
         return Ok(None);

@@ -1,6 +1,6 @@
 //! What a query runs: its tables are read, and it is answered.
 
-ghost use Rattle.std.specs.Prelude.{◌≡◌, [], length, map, true, All, Ok, IfOk};
+ghost use Rattle.std.specs.Prelude.{◌≡◌, ◌⊎◌, [], IsTrue, None, length, map, true, All, Ok, IfOk};
 ghost use Rattle.bound_tree.specs.Typed.{AreOf, system_kinds};
 ghost use Rattle.session_vars.specs.Variables.{HasItsType};
 ghost use Rattle.bound_tree.specs.declared.write.Bound.TheVariants.{Assign, Query};
@@ -10,24 +10,26 @@ ghost use Rattle.batch_meaning.specs.Progress.{Ready, system_in};
 ghost use Rattle.batch_meaning.specs.Selecting.{answer_in, columns_of, result_of};
 ghost use Rattle.batch_meaning.specs.Tokens.{result_tokens};
 ghost use Rattle.batch_meaning.specs.Values.{rows_assigned};
-ghost use Rattle.batch_meaning.specs.Working.{answers, assigns_rows, if_it_fits, select_bound, selects, selects_into};
-ghost use Rattle.statement_exec.specs.Selected.{IsAnswer, IsBoundOver, IsOfQuery, IsSelect};
+ghost use Rattle.batch_meaning.specs.Working.{answers, assigns_rows, given_in, if_it_fits, select_bound, selects, selects_into};
+ghost use Rattle.clause_binder.specs.Operands.{items_of};
+ghost use Rattle.statement_exec.specs.Selected.{IsAnswer, IsBoundOver, IsOfQuery, IsSelect, are_typed, asks_bound};
 ghost use Rattle.session_state.specs.Parts.{IsOrMemory, SetsFit, Stepped};
 ghost use Rattle.session_state.specs.Sendable.{IsResult};
 ghost use Rattle.dml_exec.specs.Asking.{seen};
 
 use crate::dialogs::read;
+use crate::typed::are_typed;
 use batch_meaning::Failure;
 use bound_tree::{Bound, BoundQuery, Image, Item};
 use query_eval::answer_rows;
 use scalar_eval::EvalFault;
 use session_state::{
-    Around, Effect, NOT_BUILT, RESULT_FULL, SessionState, TokenList, no_memory, result_tokens,
+    Around, Effect, OUTSIDE_LIMITS, RESULT_FULL, SessionState, TokenList, no_memory, result_tokens,
     rows_assigned, system_in,
 };
 use std::alloc::Global;
 use step_model::Port;
-use tds_tokens::{ColumnInfo, ColumnList};
+use tds_tokens::{ColumnInfo, ColumnList, DoneKind};
 use tsql_tree::{Statement, TableTree};
 use value_types::{Memory, Row, Value};
 
@@ -40,12 +42,12 @@ pub(crate) fn select_bound<P: Port>(
     session: &mut SessionState,
     port: &mut P,
     statement: &Statement,
-    around: &Around<'_>,
+    around: &Around<'_, '_>,
     shapes: &[TableTree],
     of: &Bound,
 ) -> Result<Effect, Failure>
     requires ready { Ready session.old (P.past port.old) }
-    requires begun { (shapes.now ≡ [] → ⊥) → session.old.is_open ≡ true }
+    requires begun { asks_bound (given_in around.now.fired) of.now ≡ true → session.old.is_open ≡ true }
     requires bound { IsBoundOver shapes.now session.old.vars statement.now of.now }
     requires select { IsSelect statement.now }
     ensures does { Did (P.past port.old) (P.past port.new) (select_bound around.now shapes.now of.now) session.old (Ok result) session.new }
@@ -67,7 +69,7 @@ pub(crate) fn select_bound<P: Port>(
                 places.as_slice(),
             )
         }
-        _ => Err(Failure::plain(NOT_BUILT)),
+        _ => Err(Failure::plain(OUTSIDE_LIMITS)),
     }
 }
 
@@ -77,13 +79,13 @@ fn select<P: Port>(
     session: &mut SessionState,
     port: &mut P,
     statement: &Statement,
-    around: &Around<'_>,
+    around: &Around<'_, '_>,
     shapes: &[TableTree],
     of: &Bound,
     query: &BoundQuery,
 ) -> Result<Effect, Failure>
     requires ready { Ready session.old (P.past port.old) }
-    requires begun { (shapes.now ≡ [] → ⊥) → session.old.is_open ≡ true }
+    requires begun { asks_bound (given_in around.now.fired) of.now ≡ true → session.old.is_open ≡ true }
     requires bound { IsBoundOver shapes.now session.old.vars statement.now of.now }
     requires select { IsSelect statement.now }
     requires query { of.now ≡ Query query.now }
@@ -93,7 +95,13 @@ fn select<P: Port>(
     ensures fits { IfOk result (λ effect. SetsFit session.new.vars effect.sets) }
 {
     let rows = answer(alloc, session, port, around, shapes, of, query)?;
-    let effect = result_of(alloc, session.settings().no_count, query, rows)?;
+    let effect = result_of(
+        alloc,
+        around.done_kind(),
+        session.settings().no_count,
+        query,
+        rows,
+    )?;
     if_it_fits(session, effect)
 }
 
@@ -102,14 +110,14 @@ fn select_into<P: Port>(
     alloc: Global,
     session: &mut SessionState,
     port: &mut P,
-    around: &Around<'_>,
+    around: &Around<'_, '_>,
     shapes: &[TableTree],
     of: &Bound,
     query: &BoundQuery,
     places: &[u16],
 ) -> Result<Effect, Failure>
     requires ready { Ready session.old (P.past port.old) }
-    requires begun { (shapes.now ≡ [] → ⊥) → session.old.is_open ≡ true }
+    requires begun { asks_bound (given_in around.now.fired) of.now ≡ true → session.old.is_open ≡ true }
     requires query { of.now ≡ Assign query.now places.now }
     ensures does { Did (P.past port.old) (P.past port.new) (selects_into around.now shapes.now query.now places.now) session.old (Ok result) session.new }
     ensures ready { Ready session.new (P.past port.new) }
@@ -139,13 +147,13 @@ pub(crate) fn answer<P: Port>(
     alloc: Global,
     session: &mut SessionState,
     port: &mut P,
-    around: &Around<'_>,
+    around: &Around<'_, '_>,
     shapes: &[TableTree],
     of: &Bound,
     query: &BoundQuery,
 ) -> Result<Vec<Row>, Failure>
     requires ready { Ready session.old (P.past port.old) }
-    requires begun { (shapes.now ≡ [] → ⊥) → session.old.is_open ≡ true }
+    requires begun { asks_bound (given_in around.now.fired) of.now ≡ true → session.old.is_open ≡ true }
     requires query { IsOfQuery query.now of.now }
     ensures does { Did (P.past port.old) (P.past port.new) (answers around.now shapes.now query.now) session.old (Ok (seen result)) session.new }
     ensures ready { Ready session.new (P.past port.new) }
@@ -154,15 +162,44 @@ pub(crate) fn answer<P: Port>(
     ensures answered { IfOk result (λ rows. IsAnswer around.now session.new shapes.now query.now rows.items) }
 {
     let level = session.settings().level;
-    let images = read(alloc, session, port, level, shapes, of)?;
+    let images = read(alloc, session, port, around.fired(), level, shapes, of)?;
     answered(alloc, session, around, query, images.as_slice())
 }
 
-/// What a query answers on images.
+/// What a query answers on images. In a trigger, where they may be given, its rows are looked at.
 fn answered(
     alloc: Global,
     session: &SessionState,
-    around: &Around<'_>,
+    around: &Around<'_, '_>,
+    query: &BoundQuery,
+    images: &[Image],
+) -> Result<Vec<Row>, Failure>
+    ensures came { IsOrMemory (answer_in around.now session.now query.now images.now) (seen result) }
+    ensures typed { IfOk result (λ rows. All HasItsType session.now.vars × AreOf system_kinds (system_in around.now session.now)) }
+    ensures fit { IfOk result (λ rows. (around.now.fired ≡ None) ⊎ IsTrue (are_typed (items_of query.now) rows.items)) }
+{
+    match answer_on(alloc, session, around, query, images) {
+        Ok(rows) if is_typed(around, query, rows.as_slice()) => Ok(rows),
+        Ok(_) => Err(no_memory()),
+        Err(failure) => Err(failure),
+    }
+}
+
+/// Whether rows are of a query's types, in a trigger; elsewhere they are.
+fn is_typed(around: &Around<'_, '_>, query: &BoundQuery, rows: &[Row]) -> bool
+    ensures { IsTrue result → (around.now.fired ≡ None) ⊎ IsTrue (are_typed (items_of query.now) rows.now) }
+{
+    match around.fired() {
+        Some(_) => are_typed(query.items.as_slice(), rows),
+        None => true,
+    }
+}
+
+/// What a query answers on images.
+fn answer_on(
+    alloc: Global,
+    session: &SessionState,
+    around: &Around<'_, '_>,
     query: &BoundQuery,
     images: &[Image],
 ) -> Result<Vec<Row>, Failure>
@@ -184,19 +221,20 @@ fn answered(
 /// The tokens of rows that are not too many.
 fn result_of(
     alloc: Global,
+    kind: DoneKind,
     no_count: bool,
     query: &BoundQuery,
     rows: Vec<Row>,
 ) -> Result<Effect, Failure>
-    requires fit { IsResult no_count (columns_of query.now) rows.items }
-    ensures came { IsOrMemory (result_of no_count query.now rows.items) result }
+    requires fit { IsResult kind no_count (columns_of query.now) rows.items }
+    ensures came { IsOrMemory (result_of kind no_count query.now rows.items) result }
     ensures none { IfOk result (λ effect. effect.sets ≡ []) }
 {
     if RESULT_LIMIT < rows.len() {
         return Err(Failure::plain(RESULT_FULL));
     }
     let count = rows.len() as u64;
-    match sent_result(alloc, no_count, query, rows) {
+    match sent_result(alloc, kind, no_count, query, rows) {
         Ok(tokens) => Ok(Effect {
             sets: Vec::new(alloc),
             rows: count,
@@ -208,15 +246,16 @@ fn result_of(
 
 fn sent_result(
     alloc: Global,
+    kind: DoneKind,
     no_count: bool,
     query: &BoundQuery,
     rows: Vec<Row>,
 ) -> Result<TokenList, Memory>
-    requires fit { IsResult no_count (columns_of query.now) rows.items }
-    ensures { IfOk result (λ tokens. tokens ≡ result_tokens no_count (columns_of query.now) rows.items) }
+    requires fit { IsResult kind no_count (columns_of query.now) rows.items }
+    ensures { IfOk result (λ tokens. tokens ≡ result_tokens kind no_count (columns_of query.now) rows.items) }
 {
     let columns = columns_of(alloc, query.items.as_slice())?;
-    result_tokens(alloc, no_count, columns, rows)
+    result_tokens(alloc, kind, no_count, columns, rows)
 }
 
 /// The columns of items.

@@ -1,6 +1,6 @@
 //! What a statement does within a transaction, and how it comes to one.
 
-ghost use Rattle.std.specs.Prelude.{◌≡◌, [], true, false, Ok, IfOk};
+ghost use Rattle.std.specs.Prelude.{◌≡◌, true, Ok, IfOk};
 ghost use Rattle.binder.specs.Names.{form_of, looked_up};
 ghost use Rattle.tsql_tree.specs.declared.statement.Form.{out-Form};
 ghost use Rattle.batch_meaning.specs.Asking.{if_bytes_left, with_room};
@@ -9,25 +9,24 @@ ghost use Rattle.batch_meaning.specs.Progress.{Ready};
 ghost use Rattle.batch_meaning.specs.Selecting.{messages, raised_by};
 ghost use Rattle.batch_meaning.specs.Values.{first_row};
 ghost use Rattle.batch_meaning.specs.Meaning.{line_of};
-ghost use Rattle.batch_meaning.specs.Working.{asks_any, binds, composes, composes_bound, computes, creates, creates_table, own, tests, tests_bound, unless_objects, values_bound, works, works_bound};
-ghost use Rattle.statement_exec.specs.Selected.{IsBoundOver};
+ghost use Rattle.batch_meaning.specs.Working.{asks_any, binds, composes, composes_bound, computes, given_in, known_by, own, status_bound, statuses, tests, tests_bound, values_bound, works, works_bound};
+ghost use Rattle.statement_exec.specs.Selected.{IsBoundOver, asks_bound};
 ghost use Rattle.session_state.specs.Parts.{IsOrMemory, SetsFit, Stepped};
 ghost use Rattle.dml_exec.specs.Asking.{seen};
 
-use crate::changing::{change_bound, create, drop_kind};
 use crate::discard::discard;
 use crate::home::{enter, leave};
-use crate::look_up::asks_any;
+use crate::known::asks_any;
 use crate::prepare::prepare;
 use crate::query::{answer, select_bound};
 use batch_meaning::{Failure, Raised};
 use binder::names_of;
 use bound_tree::Bound;
-use catalog_rows::is_objects;
 use session_state::{
-    Around, Effect, NOT_BUILT, OBJECT_PRESENT, RESULT_FULL, SessionState, first_row, is_true,
-    made_of, messages, naming, no_memory, raised_by,
+    Around, Effect, OUTSIDE_LIMITS, RESULT_FULL, SessionState, first_row, is_true, made_of,
+    messages, no_memory, raised_by, status_of,
 };
+use sqlite_items::Boxed;
 use std::alloc::Global;
 use step_model::Port;
 use tsql_tree::{Form, Statement, TableTree};
@@ -42,7 +41,7 @@ pub fn work<P: Port>(
     session: &mut SessionState,
     port: &mut P,
     statement: &Statement,
-    around: &Around<'_>,
+    around: &Around<'_, '_>,
 ) -> Result<Effect, Failure>
     requires ready { Ready session.old (P.past port.old) }
     ensures does { Did (P.past port.old) (P.past port.new) (works around.now statement.now) session.old (Ok result) session.new }
@@ -62,15 +61,15 @@ fn work_named<P: Port>(
     port: &mut P,
     statement: &Statement,
     names: &[Units],
-    around: &Around<'_>,
+    around: &Around<'_, '_>,
 ) -> Result<Effect, Failure>
     requires ready { Ready session.old (P.past port.old) }
     requires names { names.now ≡ looked_up statement.now }
-    ensures does { Did (P.past port.old) (P.past port.new) (own (asks_any names.now) (binds statement.now (works_bound around.now (form_of statement.now)))) session.old (Ok result) session.new }
+    ensures does { Did (P.past port.old) (P.past port.new) (own (asks_any (known_by around.now statement.now) names.now) (binds around.now statement.now (works_bound around.now (form_of statement.now)))) session.old (Ok result) session.new }
     ensures ready { Ready session.new (P.past port.new) }
     ensures fits { IfOk result (λ effect. SetsFit session.new.vars effect.sets) }
 {
-    let home = enter(session, port, asks_any(names))?;
+    let home = enter(session, port, asks_any(around, &statement.form, names))?;
     let came = work_in(alloc, session, port, statement, names, around);
     leave(session, port, home, came.is_ok());
     came
@@ -83,17 +82,17 @@ fn work_in<P: Port>(
     port: &mut P,
     statement: &Statement,
     names: &[Units],
-    around: &Around<'_>,
+    around: &Around<'_, '_>,
 ) -> Result<Effect, Failure>
     requires ready { Ready session.old (P.past port.old) }
-    requires begun { asks_any names.now ≡ true → session.old.is_open ≡ true }
+    requires begun { asks_any (known_by around.now statement.now) names.now ≡ true → session.old.is_open ≡ true }
     requires names { names.now ≡ looked_up statement.now }
-    ensures does { Did (P.past port.old) (P.past port.new) (binds statement.now (works_bound around.now (form_of statement.now))) session.old (Ok result) session.new }
+    ensures does { Did (P.past port.old) (P.past port.new) (binds around.now statement.now (works_bound around.now (form_of statement.now))) session.old (Ok result) session.new }
     ensures ready { Ready session.new (P.past port.new) }
     ensures kept { session.new.is_open ≡ session.old.is_open }
     ensures fits { IfOk result (λ effect. SetsFit session.new.vars effect.sets) }
 {
-    let (shapes, of) = prepare(alloc, session, port, statement, names)?;
+    let (shapes, of) = prepare(alloc, session, port, around, statement, names)?;
     let came = work_bound(
         alloc,
         session,
@@ -113,12 +112,12 @@ fn work_bound<P: Port>(
     session: &mut SessionState,
     port: &mut P,
     statement: &Statement,
-    around: &Around<'_>,
+    around: &Around<'_, '_>,
     shapes: &[TableTree],
     of: &Bound,
 ) -> Result<Effect, Failure>
     requires ready { Ready session.old (P.past port.old) }
-    requires begun { (shapes.now ≡ [] → ⊥) → session.old.is_open ≡ true }
+    requires begun { asks_bound (given_in around.now.fired) of.now ≡ true → session.old.is_open ≡ true }
     requires bound { IsBoundOver shapes.now session.old.vars statement.now of.now }
     ensures does { Did (P.past port.old) (P.past port.new) (works_bound around.now (form_of statement.now) shapes.now of.now) session.old (Ok result) session.new }
     ensures ready { Ready session.new (P.past port.new) }
@@ -127,10 +126,6 @@ fn work_bound<P: Port>(
 {
     match &statement.form {
         Form::Select(_) => select_bound(alloc, session, port, statement, around, shapes, of),
-        Form::Insert(_, _, _) => change_bound(alloc, session, port, around, shapes, of),
-        Form::Update(_, _, _) => change_bound(alloc, session, port, around, shapes, of),
-        Form::Delete(_, _) => change_bound(alloc, session, port, around, shapes, of),
-        Form::Drop(kind, name) => drop_kind(alloc, session, port, around, *kind, shapes, name),
         form => compute(alloc, session, port, form, around, shapes, of),
     }
 }
@@ -141,12 +136,12 @@ fn compute<P: Port>(
     session: &mut SessionState,
     port: &mut P,
     form: &Form,
-    around: &Around<'_>,
+    around: &Around<'_, '_>,
     shapes: &[TableTree],
     of: &Bound,
 ) -> Result<Effect, Failure>
     requires ready { Ready session.old (P.past port.old) }
-    requires begun { (shapes.now ≡ [] → ⊥) → session.old.is_open ≡ true }
+    requires begun { asks_bound (given_in around.now.fired) of.now ≡ true → session.old.is_open ≡ true }
     ensures does { Did (P.past port.old) (P.past port.new) (computes around.now (out-Form form.now) shapes.now of.now) session.old (Ok result) session.new }
     ensures ready { Ready session.new (P.past port.new) }
     ensures kept { session.new.is_open ≡ session.old.is_open }
@@ -161,12 +156,12 @@ fn values<P: Port>(
     alloc: Global,
     session: &mut SessionState,
     port: &mut P,
-    around: &Around<'_>,
+    around: &Around<'_, '_>,
     shapes: &[TableTree],
     of: &Bound,
 ) -> Result<Vec<Row>, Failure>
     requires ready { Ready session.old (P.past port.old) }
-    requires begun { (shapes.now ≡ [] → ⊥) → session.old.is_open ≡ true }
+    requires begun { asks_bound (given_in around.now.fired) of.now ≡ true → session.old.is_open ≡ true }
     ensures does { Did (P.past port.old) (P.past port.new) (values_bound around.now shapes.now of.now) session.old (Ok (seen result)) session.new }
     ensures ready { Ready session.new (P.past port.new) }
     ensures kept { session.new.is_open ≡ session.old.is_open }
@@ -174,8 +169,8 @@ fn values<P: Port>(
     match of {
         Bound::Query(query) => answer(alloc, session, port, around, shapes, of, query),
         Bound::Plain => Ok(Vec::new(alloc)),
-        Bound::Write(_) => Err(Failure::plain(NOT_BUILT)),
-        Bound::Assign(_, _) => Err(Failure::plain(NOT_BUILT)),
+        Bound::Write(_) => Err(Failure::plain(OUTSIDE_LIMITS)),
+        Bound::Assign(_, _) => Err(Failure::plain(OUTSIDE_LIMITS)),
     }
 }
 
@@ -188,7 +183,7 @@ pub fn test<P: Port>(
     session: &mut SessionState,
     port: &mut P,
     statement: &Statement,
-    around: &Around<'_>,
+    around: &Around<'_, '_>,
 ) -> Result<bool, Failure>
     requires ready { Ready session.old (P.past port.old) }
     ensures does { Did (P.past port.old) (P.past port.new) (tests around.now statement.now) session.old (Ok result) session.new }
@@ -208,14 +203,14 @@ fn test_named<P: Port>(
     port: &mut P,
     statement: &Statement,
     names: &[Units],
-    around: &Around<'_>,
+    around: &Around<'_, '_>,
 ) -> Result<bool, Failure>
     requires ready { Ready session.old (P.past port.old) }
     requires names { names.now ≡ looked_up statement.now }
-    ensures does { Did (P.past port.old) (P.past port.new) (own (asks_any names.now) (binds statement.now (tests_bound around.now))) session.old (Ok result) session.new }
+    ensures does { Did (P.past port.old) (P.past port.new) (own (asks_any (known_by around.now statement.now) names.now) (binds around.now statement.now (tests_bound around.now))) session.old (Ok result) session.new }
     ensures ready { Ready session.new (P.past port.new) }
 {
-    let home = enter(session, port, asks_any(names))?;
+    let home = enter(session, port, asks_any(around, &statement.form, names))?;
     let came = test_in(alloc, session, port, statement, names, around);
     leave(session, port, home, came.is_ok());
     came
@@ -228,16 +223,16 @@ fn test_in<P: Port>(
     port: &mut P,
     statement: &Statement,
     names: &[Units],
-    around: &Around<'_>,
+    around: &Around<'_, '_>,
 ) -> Result<bool, Failure>
     requires ready { Ready session.old (P.past port.old) }
-    requires begun { asks_any names.now ≡ true → session.old.is_open ≡ true }
+    requires begun { asks_any (known_by around.now statement.now) names.now ≡ true → session.old.is_open ≡ true }
     requires names { names.now ≡ looked_up statement.now }
-    ensures does { Did (P.past port.old) (P.past port.new) (binds statement.now (tests_bound around.now)) session.old (Ok result) session.new }
+    ensures does { Did (P.past port.old) (P.past port.new) (binds around.now statement.now (tests_bound around.now)) session.old (Ok result) session.new }
     ensures ready { Ready session.new (P.past port.new) }
     ensures kept { session.new.is_open ≡ session.old.is_open }
 {
-    let (shapes, of) = prepare(alloc, session, port, statement, names)?;
+    let (shapes, of) = prepare(alloc, session, port, around, statement, names)?;
     let came = test_bound(alloc, session, port, around, shapes.as_slice(), &of);
     discard(of);
     came
@@ -248,12 +243,12 @@ fn test_bound<P: Port>(
     alloc: Global,
     session: &mut SessionState,
     port: &mut P,
-    around: &Around<'_>,
+    around: &Around<'_, '_>,
     shapes: &[TableTree],
     of: &Bound,
 ) -> Result<bool, Failure>
     requires ready { Ready session.old (P.past port.old) }
-    requires begun { (shapes.now ≡ [] → ⊥) → session.old.is_open ≡ true }
+    requires begun { asks_bound (given_in around.now.fired) of.now ≡ true → session.old.is_open ≡ true }
     ensures does { Did (P.past port.old) (P.past port.new) (tests_bound around.now shapes.now of.now) session.old (Ok result) session.new }
     ensures ready { Ready session.new (P.past port.new) }
     ensures kept { session.new.is_open ≡ session.old.is_open }
@@ -271,8 +266,8 @@ pub fn compose<P: Port>(
     session: &mut SessionState,
     port: &mut P,
     statement: &Statement,
-    around: &Around<'_>,
-) -> Result<Raised, Failure>
+    around: &Around<'_, '_>,
+) -> Result<Boxed<Raised>, Failure>
     requires ready { Ready session.old (P.past port.old) }
     ensures does { Did (P.past port.old) (P.past port.new) (composes around.now statement.now) session.old (Ok result) session.new }
     ensures ready { Ready session.new (P.past port.new) }
@@ -290,14 +285,14 @@ fn compose_named<P: Port>(
     port: &mut P,
     statement: &Statement,
     names: &[Units],
-    around: &Around<'_>,
-) -> Result<Raised, Failure>
+    around: &Around<'_, '_>,
+) -> Result<Boxed<Raised>, Failure>
     requires ready { Ready session.old (P.past port.old) }
     requires names { names.now ≡ looked_up statement.now }
-    ensures does { Did (P.past port.old) (P.past port.new) (own (asks_any names.now) (binds statement.now (composes_bound around.now statement.now))) session.old (Ok result) session.new }
+    ensures does { Did (P.past port.old) (P.past port.new) (own (asks_any (known_by around.now statement.now) names.now) (binds around.now statement.now (composes_bound around.now statement.now))) session.old (Ok result) session.new }
     ensures ready { Ready session.new (P.past port.new) }
 {
-    let home = enter(session, port, asks_any(names))?;
+    let home = enter(session, port, asks_any(around, &statement.form, names))?;
     let came = compose_in(alloc, session, port, statement, names, around);
     leave(session, port, home, came.is_ok());
     came
@@ -310,16 +305,16 @@ fn compose_in<P: Port>(
     port: &mut P,
     statement: &Statement,
     names: &[Units],
-    around: &Around<'_>,
-) -> Result<Raised, Failure>
+    around: &Around<'_, '_>,
+) -> Result<Boxed<Raised>, Failure>
     requires ready { Ready session.old (P.past port.old) }
-    requires begun { asks_any names.now ≡ true → session.old.is_open ≡ true }
+    requires begun { asks_any (known_by around.now statement.now) names.now ≡ true → session.old.is_open ≡ true }
     requires names { names.now ≡ looked_up statement.now }
-    ensures does { Did (P.past port.old) (P.past port.new) (binds statement.now (composes_bound around.now statement.now)) session.old (Ok result) session.new }
+    ensures does { Did (P.past port.old) (P.past port.new) (binds around.now statement.now (composes_bound around.now statement.now)) session.old (Ok result) session.new }
     ensures ready { Ready session.new (P.past port.new) }
     ensures kept { session.new.is_open ≡ session.old.is_open }
 {
-    let (shapes, of) = prepare(alloc, session, port, statement, names)?;
+    let (shapes, of) = prepare(alloc, session, port, around, statement, names)?;
     let came = compose_bound(
         alloc,
         session,
@@ -339,36 +334,48 @@ fn compose_bound<P: Port>(
     session: &mut SessionState,
     port: &mut P,
     statement: &Statement,
-    around: &Around<'_>,
+    around: &Around<'_, '_>,
     shapes: &[TableTree],
     of: &Bound,
-) -> Result<Raised, Failure>
+) -> Result<Boxed<Raised>, Failure>
     requires ready { Ready session.old (P.past port.old) }
-    requires begun { (shapes.now ≡ [] → ⊥) → session.old.is_open ≡ true }
+    requires begun { asks_bound (given_in around.now.fired) of.now ≡ true → session.old.is_open ≡ true }
     ensures does { Did (P.past port.old) (P.past port.new) (composes_bound around.now statement.now shapes.now of.now) session.old (Ok result) session.new }
     ensures ready { Ready session.new (P.past port.new) }
     ensures kept { session.new.is_open ≡ session.old.is_open }
 {
     let rows = values(alloc, session, port, around, shapes, of)?;
-    let raised = raised_from(alloc, statement, rows.as_slice())?;
+    let raised = raised_from(alloc, around, statement, rows.as_slice())?;
     if_heard(alloc, session, raised)
 }
 
 /// What a statement raises or tells, by the rows of its values.
-fn raised_from(alloc: Global, statement: &Statement, rows: &[Row]) -> Result<Raised, Failure>
-    ensures { IsOrMemory (raised_by (form_of statement.now) (line_of statement.now) (first_row rows.now)) result }
+fn raised_from(
+    alloc: Global,
+    around: &Around<'_, '_>,
+    statement: &Statement,
+    rows: &[Row],
+) -> Result<Boxed<Raised>, Failure>
+    ensures { IsOrMemory (raised_by (form_of statement.now) around.now.procedure (line_of statement.now) (first_row rows.now)) result }
 {
-    match line_of(statement) {
-        Ok(line) => raised_by(alloc, &statement.form, line, first_row(rows)),
+    let Ok(line) = line_of(statement) else {
+        return Err(no_memory());
+    };
+    match around.procedure(alloc) {
+        Ok(procedure) => raised_by(alloc, &statement.form, procedure, line, first_row(rows)),
         Err(_) => Err(no_memory()),
     }
 }
 
 /// A message for which the batch has bytes left, or what is an error.
-fn if_heard(alloc: Global, session: &SessionState, raised: Raised) -> Result<Raised, Failure>
+fn if_heard(
+    alloc: Global,
+    session: &SessionState,
+    raised: Boxed<Raised>,
+) -> Result<Boxed<Raised>, Failure>
     ensures { Stepped (with_room (if_bytes_left (messages raised) (over (Ok raised)))) session.now (Ok result) session.now }
 {
-    match messages(alloc, &raised) {
+    match messages(alloc, raised.get()) {
         Ok(tokens) if session.is_full(&tokens) => Err(Failure::plain(RESULT_FULL)),
         Ok(_) => Ok(raised),
         Err(_) => Err(no_memory()),
@@ -385,136 +392,84 @@ pub fn line_of(statement: &Statement) -> Result<i32, Memory>
     }
 }
 
-// ---- CREATE TABLE
+// ---- RETURN
 
-/// Creates a table: it is bound first, with the parents that it names.
+/// The status that a RETURN gives.
 #[inline(never)]
-pub fn create_table<P: Port>(
+pub fn status<P: Port>(
     alloc: Global,
     session: &mut SessionState,
     port: &mut P,
     statement: &Statement,
-    name: &Units,
-    text: &Units,
-) -> Result<Effect, Failure>
+    around: &Around<'_, '_>,
+) -> Result<i32, Failure>
     requires ready { Ready session.old (P.past port.old) }
-    ensures does { Did (P.past port.old) (P.past port.new) (creates_table statement.now name.now text.now) session.old (Ok result) session.new }
+    ensures does { Did (P.past port.old) (P.past port.new) (statuses around.now statement.now) session.old (Ok result) session.new }
     ensures ready { Ready session.new (P.past port.new) }
-    ensures none { IfOk result (λ effect. effect.sets ≡ []) }
 {
     match names_of(alloc, statement) {
-        Ok(names) if asks_any(names.as_slice()) => {
-            create_named(
-                alloc,
-                session,
-                port,
-                statement,
-                names.as_slice(),
-                name,
-                text,
-            )
-        }
-        Ok(names) => create_alone(
-            alloc,
-            session,
-            port,
-            statement,
-            names.as_slice(),
-            name,
-            text,
-        ),
+        Ok(names) => status_named(alloc, session, port, statement, names.as_slice(), around),
         Err(_) => Err(no_memory()),
     }
 }
 
-/// One whose parents are looked up.
-fn create_named<P: Port>(
+/// The same of one that looks these names up.
+fn status_named<P: Port>(
     alloc: Global,
     session: &mut SessionState,
     port: &mut P,
     statement: &Statement,
     names: &[Units],
-    name: &Units,
-    text: &Units,
-) -> Result<Effect, Failure>
+    around: &Around<'_, '_>,
+) -> Result<i32, Failure>
     requires ready { Ready session.old (P.past port.old) }
     requires names { names.now ≡ looked_up statement.now }
-    ensures does { Did (P.past port.old) (P.past port.new) (own true (binds statement.now (λ shapes of. unless_objects name.now (creates name.now text.now)))) session.old (Ok result) session.new }
+    ensures does { Did (P.past port.old) (P.past port.new) (own (asks_any (known_by around.now statement.now) names.now) (binds around.now statement.now (status_bound around.now))) session.old (Ok result) session.new }
     ensures ready { Ready session.new (P.past port.new) }
-    ensures none { IfOk result (λ effect. effect.sets ≡ []) }
 {
-    let home = enter(session, port, true)?;
-    let came = create_in(alloc, session, port, statement, names, name, text);
+    let home = enter(session, port, asks_any(around, &statement.form, names))?;
+    let came = status_in(alloc, session, port, statement, names, around);
     leave(session, port, home, came.is_ok());
     came
 }
 
-/// One whose parents are looked up, within its transaction.
-fn create_in<P: Port>(
+/// The same within its transaction.
+fn status_in<P: Port>(
     alloc: Global,
     session: &mut SessionState,
     port: &mut P,
     statement: &Statement,
     names: &[Units],
-    name: &Units,
-    text: &Units,
-) -> Result<Effect, Failure>
+    around: &Around<'_, '_>,
+) -> Result<i32, Failure>
     requires ready { Ready session.old (P.past port.old) }
-    requires begun { session.old.is_open ≡ true }
+    requires begun { asks_any (known_by around.now statement.now) names.now ≡ true → session.old.is_open ≡ true }
     requires names { names.now ≡ looked_up statement.now }
-    ensures does { Did (P.past port.old) (P.past port.new) (binds statement.now (λ shapes of. unless_objects name.now (creates name.now text.now))) session.old (Ok result) session.new }
+    ensures does { Did (P.past port.old) (P.past port.new) (binds around.now statement.now (status_bound around.now)) session.old (Ok result) session.new }
     ensures ready { Ready session.new (P.past port.new) }
-    ensures begun { session.new.is_open ≡ true }
-    ensures none { IfOk result (λ effect. effect.sets ≡ []) }
+    ensures kept { session.new.is_open ≡ session.old.is_open }
 {
-    let (_shapes, of) = prepare(alloc, session, port, statement, names)?;
+    let (shapes, of) = prepare(alloc, session, port, around, statement, names)?;
+    let came = status_bound(alloc, session, port, around, shapes.as_slice(), &of);
     discard(of);
-    if is_objects(name) {
-        return Err(naming(alloc, OBJECT_PRESENT, name));
-    }
-    create(alloc, session, port, name, text)
-}
-
-/// One without parents, whose transaction is begun behind the binding.
-fn create_alone<P: Port>(
-    alloc: Global,
-    session: &mut SessionState,
-    port: &mut P,
-    statement: &Statement,
-    names: &[Units],
-    name: &Units,
-    text: &Units,
-) -> Result<Effect, Failure>
-    requires ready { Ready session.old (P.past port.old) }
-    requires alone { asks_any names.now ≡ false }
-    requires names { names.now ≡ looked_up statement.now }
-    ensures does { Did (P.past port.old) (P.past port.new) (binds statement.now (λ shapes of. unless_objects name.now (own true (creates name.now text.now)))) session.old (Ok result) session.new }
-    ensures ready { Ready session.new (P.past port.new) }
-    ensures none { IfOk result (λ effect. effect.sets ≡ []) }
-{
-    let (_shapes, of) = prepare(alloc, session, port, statement, names)?;
-    discard(of);
-    if is_objects(name) {
-        return Err(naming(alloc, OBJECT_PRESENT, name));
-    }
-    create_own(alloc, session, port, name, text)
-}
-
-/// A table's definition is put into `objects`, within the open transaction or one of its own.
-fn create_own<P: Port>(
-    alloc: Global,
-    session: &mut SessionState,
-    port: &mut P,
-    name: &Units,
-    text: &Units,
-) -> Result<Effect, Failure>
-    requires ready { Ready session.old (P.past port.old) }
-    ensures does { Did (P.past port.old) (P.past port.new) (own true (creates name.now text.now)) session.old (Ok result) session.new }
-    ensures ready { Ready session.new (P.past port.new) }
-    ensures none { IfOk result (λ effect. effect.sets ≡ []) }
-{
-    let home = enter(session, port, true)?;
-    let came = create(alloc, session, port, name, text);
-    leave(session, port, home, came.is_ok());
     came
+}
+
+/// The same by what the statement is bound to.
+fn status_bound<P: Port>(
+    alloc: Global,
+    session: &mut SessionState,
+    port: &mut P,
+    around: &Around<'_, '_>,
+    shapes: &[TableTree],
+    of: &Bound,
+) -> Result<i32, Failure>
+    requires ready { Ready session.old (P.past port.old) }
+    requires begun { asks_bound (given_in around.now.fired) of.now ≡ true → session.old.is_open ≡ true }
+    ensures does { Did (P.past port.old) (P.past port.new) (status_bound around.now shapes.now of.now) session.old (Ok result) session.new }
+    ensures ready { Ready session.new (P.past port.new) }
+    ensures kept { session.new.is_open ≡ session.old.is_open }
+{
+    let rows = values(alloc, session, port, around, shapes, of)?;
+    status_of(alloc, first_row(rows.as_slice()))
 }

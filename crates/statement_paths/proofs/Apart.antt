@@ -42,6 +42,62 @@ held_apart (room next) go p new exchanges b held =
     let on = held_apart (next held.0) go p new exchanges b held.1 in record { front = on.front; back = on.back; came = on.came; mid = on.mid; parts = on.parts; held = (held.0, on.held); rest = on.rest }
 held_apart never go p new exchanges b held = absurd held
 
+-- and both are held together
+pub held_then : {A B : Type 0} (tree : Doing A) (go : A → Doing B) (p mid new : SessionProgress) (front back : List Exchange) (a : A) (b : B)
+    → Held tree p front a mid → Held (go a) mid back b new → Held (tree then go) p (front ++ back) b new
+unfolding Held ◌then◌
+held_then {B = B} (over c) go p mid new front back a b held more =
+    subst (λ (l : List Exchange). Held (go c) p l b new) (sym (ap (λ (l : List Exchange). l ++ back) held.0))
+    (subst (λ (q : SessionProgress). Held (go c) q back b new) held.2 (subst (λ x. Held (go x) mid back b new) held.1 more))
+held_then (reads look) go p mid new front back a b held more = held_then (look p) go p mid new front back a b held more
+held_then (makes step next) go p mid new front back a b held more = held_then next go (made step p) mid new front back a b held more
+held_then (defines row next) go p mid new front back a b held more = (held.0, held.1, held_then (next held.0) go p mid new front back a b held.2 more)
+held_then (asks op next) go p mid new [] back a b held more = absurd held
+held_then (asks op next) go p mid new (x ∷ front) back a b held more = (held.0, held.1, held.2, held_then (next x.reply) go (asked op x.reply p) mid new front back a b held.3 more)
+held_then (room next) go p mid new front back a b held more = (held.0, held_then (next held.0) go p mid new front back a b held.1 more)
+held_then never go p mid new front back a b held more = absurd held
+
+-- so is the first, with what the rest was left with
+pub left_then : {A B : Type 0} (tree : Doing A) (go : A → Doing B) (p mid new : SessionProgress) (front back : List Exchange) (a : A)
+    → Held tree p front a mid → Left (go a) mid back new → Left (tree then go) p (front ++ back) new
+unfolding Held Left ◌then◌
+left_then {B = B} (over c) go p mid new front back a held more =
+    subst (λ (l : List Exchange). Left (go c) p l new) (sym (ap (λ (l : List Exchange). l ++ back) held.0))
+    (subst (λ (q : SessionProgress). Left (go c) q back new) held.2 (subst (λ x. Left (go x) mid back new) held.1 more))
+left_then (reads look) go p mid new front back a held more = left_then (look p) go p mid new front back a held more
+left_then (makes step next) go p mid new front back a held more = inr (left_then next go (made step p) mid new front back a held more)
+left_then (defines row next) go p mid new front back a held more = inr (held.0, held.1, left_then (next held.0) go p mid new front back a held.2 more)
+left_then (asks op next) go p mid new [] back a held more = absurd held
+left_then (asks op next) go p mid new (x ∷ front) back a held more = (held.0, held.1, held.2, left_then (next x.reply) go (asked op x.reply p) mid new front back a held.3 more)
+left_then (room next) go p mid new front back a held more = (held.0, left_then (next held.0) go p mid new front back a held.1 more)
+left_then never go p mid new front back a held more = absurd held
+
+-- each tree may be left where it begins
+pub left_start : {A : Type 0} (tree : Doing A) (p : SessionProgress) → Left tree p [] p
+unfolding Left
+left_start (over c) p = (refl, refl)
+left_start (reads look) p = left_start (look p) p
+left_start (makes step next) p = inl (refl, refl)
+left_start (defines row next) p = inl (refl, refl)
+left_start (asks op next) p = refl
+left_start (room next) p = (true, left_start (next true) p)
+left_start never p = (refl, refl)
+
+-- so both may be left in the first
+pub left_front : {A B : Type 0} (tree : Doing A) (go : A → Doing B) (p new : SessionProgress) (exchanges : List Exchange) → Left tree p exchanges new → Left (tree then go) p exchanges new
+unfolding Left ◌then◌
+left_front {B = B} (over c) go p new exchanges left =
+    subst (λ (l : List Exchange). Left (go c) p l new) (sym left.0) (subst (λ (q : SessionProgress). Left (go c) p [] q) (sym left.1) (left_start (go c) p))
+left_front (reads look) go p new exchanges left = left_front (look p) go p new exchanges left
+left_front (makes step next) go p new exchanges (inl here) = inl here
+left_front (makes step next) go p new exchanges (inr later) = inr (left_front next go (made step p) new exchanges later)
+left_front (defines row next) go p new exchanges (inl here) = inl here
+left_front (defines row next) go p new exchanges (inr later) = inr (later.0, later.1, left_front (next later.0) go p new exchanges later.2)
+left_front (asks op next) go p new [] left = left
+left_front (asks op next) go p new (x ∷ later) left = (left.0, left.1, left.2, left_front (next x.reply) go (asked op x.reply p) new later left.3)
+left_front (room next) go p new exchanges left = (left.0, left_front (next left.0) go p new exchanges left.1)
+left_front never go p new exchanges left = left
+
 -- what was left was left in the first tree, or in the rest
 pub left_apart : {A B : Type 0} (tree : Doing A) (go : A → Doing B) (p new : SessionProgress) (exchanges : List Exchange)
     → Left (tree then go) p exchanges new → Left tree p exchanges new ⊎ Apart tree p exchanges (λ a mid back. Left (go a) mid back new)

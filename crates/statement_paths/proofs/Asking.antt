@@ -25,7 +25,7 @@ use Rattle.dml_exec.specs.declared.refusal.Level.{Level}
 use Rattle.dml_exec.specs.declared.refusal.Refusal.{Refusal}
 use Rattle.dml_exec.specs.declared.refusal.Refusal.TheVariants as refusal
 use Rattle.dml_exec.specs.Asking.{on_ok, with_room, with_room_if}
-use Rattle.dml_exec.specs.Reading.{TableRead, fetch_of, fetches, fits, from, images_from, images_of, is_short, key_width, read_by, reads_of, reads_on, reads_table, rows_from, rows_in, table_fetch}
+use Rattle.dml_exec.specs.Reading.{GivenRows, TableRead, fetch_of, fetches, fits, from, images_from, images_of, is_short, key_width, read_by, reads_of, reads_on, reads_table, rows_from, rows_in, table_fetch, unless_given}
 use Rattle.dml_exec.specs.Writing.{asks_deed, broken_by, checks_all, checks_one, done_by, halted, is_one_key, no_room, rows_checked, works, writes_all, writes_one}
 use Rattle.reading_laws.specs.Reads.{IsFetch}
 use Rattle.statement_paths.specs.Paths.{IsForward}
@@ -80,16 +80,25 @@ module _ (Ops : Op → Type 0) where
     says_rows shape true op = says_then Ops (fetches (key_width shape) (fits shape) op []) (on_ok (λ came. said.over (Ok came.0))) (says_fetch (key_width shape) (fits shape) op []) (says_on (λ came. said.over (Ok came.0)) (λ came. tt))
     says_rows shape false op = says_range (key_width shape) (fits shape) range_limit op []
 
-    says_images : (shapes : List TableTree) (level : Level) (images : List Rows) (reads : List TableRead) → Says Ops (images_from shapes level images reads)
-    unfolding images_from reads_table
-    says_images shapes level images [] = tt
-    says_images shapes level images (read ∷ reads) =
-        says_then Ops (reads_table shapes level read) (on_ok (λ rows. with_room refusal.Memory (images_from shapes level (images ++ rows ∷ []) reads))) (says_rows (shape_of read.0 shapes) false (table_fetch level read))
-        (says_on (λ rows. with_room refusal.Memory (images_from shapes level (images ++ rows ∷ []) reads)) (λ rows. says_room refusal.Memory _ (says_images shapes level (images ++ rows ∷ []) reads)))
+    -- what is given is not fetched
+    says_given : (rows : Option Rows) (fetched : Dialog (Result Rows Refusal)) → Says Ops fetched → Says Ops (unless_given rows fetched)
+    says_given None fetched says = says
+    says_given (Some rows) fetched says = says_room refusal.Memory _ tt
 
-    pub images_say : (shapes : List TableTree) (level : Level) (of : Bound) → Says Ops (images_of shapes level of)
+    says_table : (given : GivenRows) (shapes : List TableTree) (level : Level) (read : TableRead) → Says Ops (reads_table given shapes level read)
+    unfolding reads_table
+    says_table given shapes level read = says_given (given read.0) (rows_in (shape_of read.0 shapes) false (table_fetch level read)) (says_rows (shape_of read.0 shapes) false (table_fetch level read))
+
+    says_images : (given : GivenRows) (shapes : List TableTree) (level : Level) (images : List Rows) (reads : List TableRead) → Says Ops (images_from given shapes level images reads)
+    unfolding images_from
+    says_images given shapes level images [] = tt
+    says_images given shapes level images (read ∷ reads) =
+        says_then Ops (reads_table given shapes level read) (on_ok (λ rows. with_room refusal.Memory (images_from given shapes level (images ++ rows ∷ []) reads))) (says_table given shapes level read)
+        (says_on (λ rows. with_room refusal.Memory (images_from given shapes level (images ++ rows ∷ []) reads)) (λ rows. says_room refusal.Memory _ (says_images given shapes level (images ++ rows ∷ []) reads)))
+
+    pub images_say : (given : GivenRows) (shapes : List TableTree) (level : Level) (of : Bound) → Says Ops (images_of given shapes level of)
     unfolding images_of
-    images_say shapes level of = says_room refusal.Memory _ (says_images shapes level [] (reads_of of))
+    images_say given shapes level of = says_room refusal.Memory _ (says_images given shapes level [] (reads_of of))
 
 -- ---- the changes of a write, and what checks them
 
@@ -111,7 +120,7 @@ write_says : (shapes : List TableTree) (change : Planned) → Says IsForward (wr
 unfolding writes_one
 write_says shapes change = says_then IsForward (asks_deed change.table change.key change.deed) (done_by shapes change) (deed_says change.table change.key change.deed) (done_says shapes change)
 
-writes_say : (shapes : List TableTree) (changes : List Planned) → Says IsForward (writes_all shapes changes)
+pub writes_say : (shapes : List TableTree) (changes : List Planned) → Says IsForward (writes_all shapes changes)
 unfolding writes_all
 writes_say shapes [] = tt
 writes_say shapes (change ∷ changes) = says_then IsForward (writes_one shapes change) (on_ok (λ done. writes_all shapes changes)) (write_says shapes change) (says_on IsForward (λ done. writes_all shapes changes) (λ done. writes_say shapes changes))
@@ -133,7 +142,7 @@ check_says : (shapes : List TableTree) (read : CheckRead) → Says IsForward (ch
 unfolding checks_one
 check_says shapes read = says_then IsForward (rows_checked shapes read.range) (on_ok (λ found. broken_by read (judge read found))) (checked_says shapes read.range) (says_on IsForward (λ found. broken_by read (judge read found)) (λ found. broken_says read (judge read found)))
 
-checks_say : (shapes : List TableTree) (reads : List CheckRead) → Says IsForward (checks_all shapes reads)
+pub checks_say : (shapes : List TableTree) (reads : List CheckRead) → Says IsForward (checks_all shapes reads)
 unfolding checks_all
 checks_say shapes [] = tt
 checks_say shapes (read ∷ reads) = says_then IsForward (checks_one shapes read) (on_ok (λ done. checks_all shapes reads)) (check_says shapes read) (says_on IsForward (λ done. checks_all shapes reads) (λ done. checks_say shapes reads))

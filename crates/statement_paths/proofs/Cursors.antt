@@ -61,11 +61,11 @@ module _ (Steps : SessionStep → Type 0) (Ops : Op → Type 0) where
   only_answered {B = B} name go (Err fault) only = only_fault B name fault
 
   -- OPEN asks what its select asks
-  pub only_opens : (around : Around) (statement : Statement) (name : List ℕ) → ((select : Select) → Only Steps Ops (within (select_statement statement select) (opens_bound around name))) → Only Steps Ops (opens_cursor around statement name)
+  pub only_opens : (around : Around) (statement : Statement) (name : List ℕ) → ((select : Select) → Only Steps Ops (within around (select_statement statement select) (opens_bound around name))) → Only Steps Ops (opens_cursor around statement name)
   unfolding opens_cursor
   only_opens around statement name only = only_first statement (λ p. answered name (opens_kept around statement name p) (list.query_of name p.cursors)) (λ p.
       only_answered name (opens_kept around statement name p) (list.query_of name p.cursors) (λ select.
-      only_answered name (λ done. within (select_statement statement select) (opens_bound around name)) (list.fill_answer name p.cursors) (λ done. only select)))
+      only_answered name (λ done. within around (select_statement statement select) (opens_bound around name)) (list.fill_answer name p.cursors) (λ done. only select)))
 
   -- one step of its own
   only_step : (statement : Statement) (name : List ℕ) (step : SessionStep) (answer : SessionProgress → Result (Unit {0}) CursorFault) → Steps step → Only Steps Ops (bound_first statement λ p. answered name (λ done. makes step (over (Ok no_effect))) (answer p))

@@ -129,20 +129,22 @@ module _ (manner : Manner) (shapes : List TableTree) (planned : List Planned) wh
       by_reply reply was_told can was = absurd can
 
   -- where an attempt came to Done, this is its mark
-  pub applied_apart : (mark : ℕ) (exchanges : List Exchange) (attempt : Attempt) → Held manner (attempts shapes planned) exchanges attempt → attempt.came ≡ Ok (written.Done mark) → AreApplied manner shapes planned exchanges
+  pub applied_apart : (mark : ℕ) (exchanges : List Exchange) (attempt : Attempt) → Held manner (attempts shapes planned) exchanges attempt → attempt.came ≡ Ok (written.Done mark) → (applied : AreApplied manner shapes planned exchanges) × (mark ≡ applied.mark)
   unfolding Held writes
   applied_apart mark exchanges attempt held is =
-      let parts = attempts_apart mark exchanges attempt held is in
-      record {
-        mark = mark;
-        put = parts.put;
-        checked = parts.checked;
-        parts = parts.parts;
-        puts = parts.puts;
-        checks = parts.checks;
-        whole = subst (λ (l : List Exchange). Held manner (writes shapes planned) l (Ok (written.Done mark))) (append-nil exchanges)
-            (said_then (attempts shapes planned) (λ one. over one.came) manner exchanges [] attempt (Ok (written.Done mark)) held (refl, sym is));
-      }
+      let parts = attempts_apart mark exchanges attempt held is in (
+        record {
+          mark = mark;
+          put = parts.put;
+          checked = parts.checked;
+          parts = parts.parts;
+          puts = parts.puts;
+          checks = parts.checks;
+          whole = subst (λ (l : List Exchange). Held manner (writes shapes planned) l (Ok (written.Done mark))) (append-nil exchanges)
+              (said_then (attempts shapes planned) (λ one. over one.came) manner exchanges [] attempt (Ok (written.Done mark)) held (refl, sym is));
+        },
+        refl,
+      )
 
   -- ---- where it did not come to Done
 

@@ -16,8 +16,8 @@ use Rattle.reading_laws.specs.Reads.{IsFetch}
 use Rattle.batch_meaning.specs.declared.failure.Failure.{Failure}
 use Rattle.batch_meaning.specs.Progress.{SessionProgress, asked}
 use Rattle.batch_meaning.specs.Doing.{over, asks, defines, Held}
-use Rattle.batch_meaning.specs.Asking.{unless_refused, with_room, known, definition_fetch, look_up, is_table, with_found, looks_up, objects_fetch, defined_by, defined_on, defined_from, reads_definitions}
-use Rattle.statement_paths.specs.Paths.{IsAsked, IsFound, IsLookedUp, AreLookedUp, AddsBy, AreDefined}
+use Rattle.batch_meaning.specs.Asking.{KnownNames, finds_by, unless_refused, with_room, known, definition_fetch, look_up, is_table, with_found, looks_up, objects_fetch, defined_by, defined_on, defined_from, reads_definitions}
+use Rattle.statement_paths.specs.Paths.{IsAsked, IsFound, IsFoundBy, IsLookedUp, AreLookedUp, AddsBy, AreDefined}
 use Rattle.statement_paths.proofs.Only.{IsTouch, only_bind, only_room, only_if}
 use Rattle.statement_paths.proofs.Still.{Reads, reads_still, still_manner}
 use Rattle.statement_paths.proofs.Apart.{asks_apart, bind_apart, room_apart}
@@ -34,15 +34,21 @@ known_reads name (replies.TimedOut holder held wanted on) can = tt
 known_reads name (replies.Victim cycle) can = tt
 known_reads name reply can = tt
 
-look_reads : (name : List ℕ) → Reads (look_up name)
+pub look_reads : (name : List ℕ) → Reads (look_up name)
 unfolding look_up
 look_reads name = only_if IsTouch IsFetch (is_objects name) (over (Ok None)) _ tt (only_room IsTouch IsFetch (asks (definition_fetch name) (unless_refused known)) (tt, known_reads name))
 
-pub looks_read : (names : List (List ℕ)) (so_far : List Definition) → Reads (looks_up so_far names)
+-- one that is known is not looked up
+pub finds_read : (known : Option (Option Definition)) (name : List ℕ) → Reads (finds_by known name)
+finds_read None name = look_reads name
+finds_read (Some found) name = only_room IsTouch IsFetch (over (Ok found)) tt
+
+pub looks_read : (known_names : KnownNames) (names : List (List ℕ)) (so_far : List Definition) → Reads (looks_up known_names so_far names)
 unfolding looks_up
-looks_read [] so_far = tt
-looks_read (name ∷ names) so_far = only_bind IsTouch IsFetch (look_up name) (λ found. if is_table found then with_room (looks_up (with_found so_far found) names) else over (Ok so_far)) (look_reads name)
-    (λ found. only_if IsTouch IsFetch (is_table found) _ (over (Ok so_far)) (only_room IsTouch IsFetch (looks_up (with_found so_far found) names) (looks_read names (with_found so_far found))) tt)
+looks_read known_names [] so_far = tt
+looks_read known_names (name ∷ names) so_far =
+    only_bind IsTouch IsFetch (finds_by (known_names name) name) (λ found. if is_table found then with_room (looks_up known_names (with_found so_far found) names) else over (Ok so_far)) (finds_read (known_names name) name)
+    (λ found. only_if IsTouch IsFetch (is_table found) _ (over (Ok so_far)) (only_room IsTouch IsFetch (looks_up known_names (with_found so_far found) names) (looks_read known_names names (with_found so_far found))) tt)
 
 by_reads : (start : Start) (so_far : List Definition) (reply : Reply) → CanReply (objects_fetch start) reply → Reads (unless_refused (defined_by so_far) reply)
 by_reads start so_far (replies.Row key row at) can = λ enough. only_if IsTouch IsFetch enough _ (over (Err _)) (λ found. only_room IsTouch IsFetch (over (Ok _)) tt) tt
@@ -84,7 +90,7 @@ module _ (manner : Manner) where
   found_by name (replies.Victim cycle) p new later found can held = absurd (let no : Ok found ≡ Err _ = held.1 in cc)
   found_by name reply p new later found can held = absurd can
 
-  look_apart : (name : List ℕ) (p new : SessionProgress) (exchanges : List Exchange) (found : Option Definition) → p.settings.manner ≡ manner → Held (look_up name) p exchanges (Ok found) new → IsLookedUp manner (is_objects name) name exchanges found
+  pub look_apart : (name : List ℕ) (p new : SessionProgress) (exchanges : List Exchange) (found : Option Definition) → p.settings.manner ≡ manner → Held (look_up name) p exchanges (Ok found) new → IsLookedUp manner (is_objects name) name exchanges found
   unfolding look_up Held
   look_apart name p new exchanges found is held = by_test (is_objects name) held
     where
@@ -95,29 +101,36 @@ module _ (manner : Manner) where
           let by = found_by name on.0.reply (asked (definition_fetch name) on.0.reply p) new on.1 found on.3.2 on.4 in
           (on.0, on.2 ∙ ap (λ (l : List Exchange). on.0 ∷ l) by.0, in_manner (definition_fetch name) on.0 p is on.3, by.1)
 
-  -- behind what was found
-  on_found : (so_far : List Definition) (found : Option Definition) (names : List (List ℕ)) (p new : SessionProgress) (later : List Exchange) (definitions : List Definition)
-      → (Held (looks_up (with_found so_far found) names) p later (Ok definitions) new → AreLookedUp manner (with_found so_far found) names later definitions)
-      → (test : Bool) → is_table found ≡ test → Held (if test then with_room (looks_up (with_found so_far found) names) else over (Ok so_far)) p later (Ok definitions) new
-      → ((is_table found ≡ true) × AreLookedUp manner (with_found so_far found) names later definitions) ⊎ ((is_table found ≡ false) × (later ≡ []) × (definitions ≡ so_far))
+  pub finds_apart : (known : Option (Option Definition)) (name : List ℕ) (p new : SessionProgress) (exchanges : List Exchange) (found : Option Definition) → p.settings.manner ≡ manner → Held (finds_by known name) p exchanges (Ok found) new
+      → IsFoundBy manner known name exchanges found
   unfolding Held
-  on_found so_far found names p new later definitions on true so held = inl (so, on (room_apart (looks_up (with_found so_far found) names) p new later definitions held))
-  on_found so_far found names p new later definitions on false so held = inr (so, held.0, ok_same {E = Failure} definitions so_far held.1)
+  finds_apart None name p new exchanges found is held = look_apart name p new exchanges found is held
+  finds_apart (Some other) name p new exchanges found is held = let was = room_apart (over (Ok other)) p new exchanges found held in (was.0, ok_same {E = Failure} found other was.1)
 
-  pub looks_apart : (names : List (List ℕ)) (so_far : List Definition) (p new : SessionProgress) (exchanges : List Exchange) (definitions : List Definition)
-      → p.settings.manner ≡ manner → Held (looks_up so_far names) p exchanges (Ok definitions) new → AreLookedUp manner so_far names exchanges definitions
-  unfolding looks_up Held
-  looks_apart [] so_far p new exchanges definitions is held = (held.0, ok_same {E = Failure} definitions so_far held.1)
-  looks_apart (name ∷ names) so_far p new exchanges definitions is held =
-      let on = bind_apart (look_up name) (λ found. if is_table found then with_room (looks_up (with_found so_far found) names) else over (Ok so_far)) p new exchanges definitions held in (
-        on.2,
-        on.0,
-        on.1,
-        on.4,
-        look_apart name p on.3 on.0 on.2 is on.5,
-        on_found so_far on.2 names on.3 new on.1 definitions
-            (λ more. looks_apart names (with_found so_far on.2) on.3 new on.1 definitions (still_manner p on.3 (reads_still p (look_up name) on.3 on.0 (Ok on.2) (look_reads name) on.5) ∙ is) more) (is_table on.2) refl on.6,
-      )
+  module _ (known_names : KnownNames) where
+    -- behind what was found
+    on_found : (so_far : List Definition) (found : Option Definition) (names : List (List ℕ)) (p new : SessionProgress) (later : List Exchange) (definitions : List Definition)
+        → (Held (looks_up known_names (with_found so_far found) names) p later (Ok definitions) new → AreLookedUp manner known_names (with_found so_far found) names later definitions)
+        → (test : Bool) → is_table found ≡ test → Held (if test then with_room (looks_up known_names (with_found so_far found) names) else over (Ok so_far)) p later (Ok definitions) new
+        → ((is_table found ≡ true) × AreLookedUp manner known_names (with_found so_far found) names later definitions) ⊎ ((is_table found ≡ false) × (later ≡ []) × (definitions ≡ so_far))
+    unfolding Held
+    on_found so_far found names p new later definitions on true so held = inl (so, on (room_apart (looks_up known_names (with_found so_far found) names) p new later definitions held))
+    on_found so_far found names p new later definitions on false so held = inr (so, held.0, ok_same {E = Failure} definitions so_far held.1)
+
+    pub looks_apart : (names : List (List ℕ)) (so_far : List Definition) (p new : SessionProgress) (exchanges : List Exchange) (definitions : List Definition)
+        → p.settings.manner ≡ manner → Held (looks_up known_names so_far names) p exchanges (Ok definitions) new → AreLookedUp manner known_names so_far names exchanges definitions
+    unfolding looks_up Held
+    looks_apart [] so_far p new exchanges definitions is held = (held.0, ok_same {E = Failure} definitions so_far held.1)
+    looks_apart (name ∷ names) so_far p new exchanges definitions is held =
+        let on = bind_apart (finds_by (known_names name) name) (λ found. if is_table found then with_room (looks_up known_names (with_found so_far found) names) else over (Ok so_far)) p new exchanges definitions held in (
+          on.2,
+          on.0,
+          on.1,
+          on.4,
+          finds_apart (known_names name) name p on.3 on.0 on.2 is on.5,
+          on_found so_far on.2 names on.3 new on.1 definitions
+              (λ more. looks_apart names (with_found so_far on.2) on.3 new on.1 definitions (still_manner p on.3 (reads_still p (finds_by (known_names name) name) on.3 on.0 (Ok on.2) (finds_read (known_names name) name) on.5) ∙ is) more) (is_table on.2) refl on.6,
+        )
 
   -- ---- all definitions
 

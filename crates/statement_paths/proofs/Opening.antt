@@ -23,7 +23,7 @@ use Rattle.batch_meaning.specs.Progress.{SessionProgress, fills}
 use Rattle.batch_meaning.specs.Selecting.{Effect, bound_over, no_effect}
 use Rattle.batch_meaning.specs.Transactions.{bound_first}
 use Rattle.batch_meaning.specs.Values.{outside_limits}
-use Rattle.batch_meaning.specs.Working.{answers, asks_any, binds, own, within}
+use Rattle.batch_meaning.specs.Working.{answers, asks_any, binds, known_by, own, within}
 use Rattle.statement_paths.specs.Cursors.{IsFilled, OpenDone}
 use Rattle.statement_paths.specs.Paths.{IsAnswered}
 use Rattle.statement_paths.proofs.Only.{only_bind}
@@ -87,11 +87,11 @@ module _ (around : Around) (p0 : SessionProgress) (name : List ℕ) where
 
 module _ (around : Around) (p : SessionProgress) (name : List ℕ) (select : Statement) where
   abbrev opened_work : Doing (Result Effect Failure)
-  opened_work = binds select (opens_bound around name)
+  opened_work = binds around select (opens_bound around name)
 
   opened_looks : Looks opened_work
   unfolding binds
-  opened_looks = only_bind IsLookStep IsFetch _ (λ made. opens_bound around name made.0 made.1) (reads_look _ (prepares_reads select)) (λ made. opens_look around p name made.0 made.1)
+  opened_looks = only_bind IsLookStep IsFetch _ (λ made. opens_bound around name made.0 made.1) (reads_look _ (prepares_reads around select)) (λ made. opens_look around p name made.0 made.1)
 
   filled_by : (q new : SessionProgress) (worked : List Exchange) (effect : Effect) → Still p q → Held opened_work q worked (Ok effect) new → IsFilled around p name select worked new × (effect ≡ no_effect)
   filled_by q new worked effect still held =
@@ -112,15 +112,15 @@ module _ (around : Around) (p : SessionProgress) (name : List ℕ) (select : Sta
         is.2.2,
       )
 
-  within_apart : (new : SessionProgress) (exchanges : List Exchange) (effect : Effect) → Held (within select (opens_bound around name)) p exchanges (Ok effect) new → (owned : Owned (asks_any (looked_up select)) p.is_open opened_work p (Ok effect) exchanges new) × IsFilled around p name select owned.worked new × (effect ≡ no_effect)
+  within_apart : (new : SessionProgress) (exchanges : List Exchange) (effect : Effect) → Held (within around select (opens_bound around name)) p exchanges (Ok effect) new → (owned : Owned (asks_any (known_by around select) (looked_up select)) p.is_open opened_work p (Ok effect) exchanges new) × IsFilled around p name select owned.worked new × (effect ≡ no_effect)
   unfolding within
-  within_apart new exchanges effect held = by_ways (own_held opened_work (looks_own opened_work opened_looks) p new exchanges (Ok effect) (asks_any (looked_up select)) (room_apart (own (asks_any (looked_up select)) opened_work) p new exchanges effect held))
+  within_apart new exchanges effect held = by_ways (own_held opened_work (looks_own opened_work opened_looks) p new exchanges (Ok effect) (asks_any (known_by around select) (looked_up select)) (room_apart (own (asks_any (known_by around select) (looked_up select)) opened_work) p new exchanges effect held))
     where
-      by_ways : Refused {A = Effect} p (Ok effect) exchanges new ⊎ Owned (asks_any (looked_up select)) p.is_open opened_work p (Ok effect) exchanges new
-          → (owned : Owned (asks_any (looked_up select)) p.is_open opened_work p (Ok effect) exchanges new) × IsFilled around p name select owned.worked new × (effect ≡ no_effect)
+      by_ways : Refused {A = Effect} p (Ok effect) exchanges new ⊎ Owned (asks_any (known_by around select) (looked_up select)) p.is_open opened_work p (Ok effect) exchanges new
+          → (owned : Owned (asks_any (known_by around select) (looked_up select)) p.is_open opened_work p (Ok effect) exchanges new) × IsFilled around p name select owned.worked new × (effect ≡ no_effect)
       by_ways (inl refused) = absurd (let no : Ok effect ≡ Err (plain no_memory) = refused.failed in cc)
       by_ways (inr owned) =
-          let is = filled_by (entered (asks_any (looked_up select)) p.is_open p) owned.mid owned.worked effect (begun_still (asks_any (looked_up select)) p.is_open p) owned.held in (
+          let is = filled_by (entered (asks_any (known_by around select) (looked_up select)) p.is_open p) owned.mid owned.worked effect (begun_still (asks_any (known_by around select) (looked_up select)) p.is_open p) owned.held in (
             owned,
             record {
               definitions = is.0.definitions;
@@ -141,7 +141,7 @@ pub open_done : OpenDone
 unfolding opens_cursor
 open_done around statement name old new exchanges effect held =
     let on = answered_apart name (opens_kept around statement name old) (list.query_of name old.cursors) old new exchanges effect (first_apart statement (λ p. answered name (opens_kept around statement name p) (list.query_of name p.cursors)) old new exchanges effect held) in
-    let shut = answered_apart name (λ done. within (select_statement statement on.0) (opens_bound around name)) (list.fill_answer name old.cursors) old new exchanges effect on.2 in
+    let shut = answered_apart name (λ done. within around (select_statement statement on.0) (opens_bound around name)) (list.fill_answer name old.cursors) old new exchanges effect on.2 in
     let is = within_apart around old name (select_statement statement on.0) new exchanges effect shut.2 in
     record {
       select = on.0;

@@ -84,7 +84,7 @@ relax_held p new exchanges done held = by_test p.touched exchanges held
 
 -- the transaction of its own ended
 abbrev IsEnd : SessionProgress → Bool → List Exchange → SessionProgress → Type 0
-IsEnd p succeeded exchanges new = (place : ℕ) × (exchanges ≡ replied p.settings.manner (end_of succeeded) (replies.Ended place) ∷ []) × (new ≡ record p { is_open = false; touched = new.touched; txn = new.txn })
+IsEnd p succeeded exchanges new = (place : ℕ) × (exchanges ≡ replied p.settings.manner (end_of succeeded) (replies.Ended place) ∷ []) × (new ≡ record p { is_open = false; is_own = false; stands = false; touched = new.touched; txn = new.txn })
 
 close_held : (succeeded : Bool) (p new : SessionProgress) (exchanges : List Exchange) (done : Unit {0}) → Held (closes succeeded) p exchanges done new → IsEnd p succeeded exchanges new
 unfolding closes Held
@@ -95,7 +95,7 @@ close_held true p new (x ∷ later) done held = by_reply x.reply refl held.2 hel
     by_reply (replies.Ended place) told can so = (
       place,
       ap (λ (y : Exchange). y ∷ later) (is_replied x p.settings.manner ops.Commit (replies.Ended place) held.0 held.1 told) ∙ ap (λ (l : List Exchange). replied p.settings.manner ops.Commit (replies.Ended place) ∷ l) so.0,
-      so.2 ∙ ap (λ (q : SessionProgress). record p { is_open = false; touched = q.touched; txn = q.txn }) (sym so.2),
+      so.2 ∙ ap (λ (q : SessionProgress). record p { is_open = false; is_own = false; stands = false; touched = q.touched; txn = q.txn }) (sym so.2),
     )
     by_reply reply told can so = absurd can
 close_held false p new [] done held = absurd held
@@ -105,7 +105,7 @@ close_held false p new (x ∷ later) done held = by_reply x.reply refl held.2 he
     by_reply (replies.Ended place) told can so = (
       place,
       ap (λ (y : Exchange). y ∷ later) (is_replied x p.settings.manner ops.Rollback (replies.Ended place) held.0 held.1 told) ∙ ap (λ (l : List Exchange). replied p.settings.manner ops.Rollback (replies.Ended place) ∷ l) so.0,
-      so.2 ∙ ap (λ (q : SessionProgress). record p { is_open = false; touched = q.touched; txn = q.txn }) (sym so.2),
+      so.2 ∙ ap (λ (q : SessionProgress). record p { is_open = false; is_own = false; stands = false; touched = q.touched; txn = q.txn }) (sym so.2),
     )
     by_reply reply told can so = absurd can
 
@@ -136,10 +136,28 @@ behind home came = leaves home (is_ok came) then λ done. over came
 
 -- behind it all else is as the work has left it
 abbrev pub IsEnded : SessionProgress → SessionProgress → Type 0
-IsEnded mid new = new ≡ record mid { is_open = new.is_open; touched = new.touched; txn = new.txn }
+IsEnded mid new = new ≡ record mid { is_open = new.is_open; is_own = new.is_own; stands = new.stands; touched = new.touched; txn = new.txn }
 
 ended_as : (mid new r : SessionProgress) → new ≡ r → IsEnded mid r → IsEnded mid new
-ended_as mid new r is so = is ∙ so ∙ ap (λ (q : SessionProgress). record mid { is_open = q.is_open; touched = q.touched; txn = q.txn }) (sym is)
+ended_as mid new r is so = is ∙ so ∙ ap (λ (q : SessionProgress). record mid { is_open = q.is_open; is_own = q.is_own; stands = q.stands; touched = q.touched; txn = q.txn }) (sym is)
+
+-- All but variables, cursors, savepoints and locks is as it was before; where no transaction was open, none is a statement's own, whose
+-- triggers run.
+abbrev pub Behind : SessionProgress → SessionProgress → Type 0
+Behind p new = (new ≡ record p { is_own = new.is_own; stands = new.stands; vars = new.vars; cursors = new.cursors; touched = new.touched; txn = new.txn })
+    × (p.is_open ≡ true → (new.is_own ≡ p.is_own) × (new.stands ≡ p.stands))
+
+pub worked_behind : (p new : SessionProgress) → Worked p new → Behind p new
+worked_behind p new worked = (
+  worked ∙ ap (λ (q : SessionProgress). record p { is_own = q.is_own; stands = q.stands; vars = new.vars; cursors = new.cursors; touched = new.touched; txn = new.txn }) (sym worked),
+  λ is_open. (ap (λ (q : SessionProgress). q.is_own) worked, ap (λ (q : SessionProgress). q.stands) worked),
+)
+
+pub behind_worked : (p q r : SessionProgress) → Worked p q → Behind q r → Behind p r
+behind_worked p q r first second = (
+  second.0 ∙ ap (λ (s : SessionProgress). record s { is_own = r.is_own; stands = r.stands; vars = r.vars; cursors = r.cursors; touched = r.touched; txn = r.txn }) first,
+  λ is_open. let own = second.1 (ap (λ (s : SessionProgress). s.is_open) first ∙ is_open) in (own.0 ∙ ap (λ (s : SessionProgress). s.is_own) first, own.1 ∙ ap (λ (s : SessionProgress). s.stands) first),
+)
 
 -- the work was done there
 pub record Owned {A : Type 0} (asks_some is_open : Bool) (work : Doing (Result A Failure)) (p : SessionProgress) (came : Result A Failure) (exchanges : List Exchange) (new : SessionProgress) : Type 0 where
@@ -147,14 +165,14 @@ pub record Owned {A : Type 0} (asks_some is_open : Bool) (work : Doing (Result A
   pub mid : SessionProgress
   pub held : Held work (entered asks_some is_open p) worked came mid
   pub around : IsAround asks_some is_open (is_ok came) p.settings.manner worked exchanges
-  pub leaves : Worked p new
+  pub leaves : Behind p new
   pub ended : IsEnded mid new
 
 -- or no transaction could be begun for it
 pub record Refused {A : Type 0} (p : SessionProgress) (came : Result A Failure) (exchanges : List Exchange) (new : SessionProgress) : Type 0 where
   pub asks : exchanges ≡ replied p.settings.manner ops.Begin replies.Memory ∷ []
   pub failed : came ≡ Err (plain no_memory)
-  pub leaves : Worked p new
+  pub leaves : Behind p new
 
 module _ {A : Type 0} (work : Doing (Result A Failure)) (owns : Owns work) (p new : SessionProgress) (exchanges : List Exchange) (came : Result A Failure) where
   abbrev Ways : Bool → Bool → Type 0
@@ -173,7 +191,7 @@ module _ {A : Type 0} (work : Doing (Result A Failure)) (owns : Owns work) (p ne
         mid = on.mid;
         held = subst (λ (c : Result A Failure). Held work p on.front c on.mid) (sym on.rest.1) on.held;
         around = on.parts ∙ ap (λ (l : List Exchange). on.front ++ l) on.rest.0 ∙ append-nil on.front;
-        leaves = subst (Worked p) (sym on.rest.2) (left_as p on.mid on.front on.came on.held);
+        leaves = subst (Behind p) (sym on.rest.2) (worked_behind p on.mid (left_as p on.mid on.front on.came on.held));
         ended = ended_as on.mid new on.mid on.rest.2 refl;
       })
 
@@ -191,7 +209,7 @@ module _ {A : Type 0} (work : Doing (Result A Failure)) (owns : Owns work) (p ne
         mid = on.mid;
         held = subst (λ (c : Result A Failure). Held work p on.front c on.mid) (sym end.rest.1) on.held;
         around = (end.front, on.parts ∙ ap (λ (l : List Exchange). on.front ++ l) (end.parts ∙ ap (λ (l : List Exchange). end.front ++ l) end.rest.0 ∙ append-nil end.front), subst (λ (m : Manner). IsRelaxed m end.front) manner relaxed.0);
-        leaves = subst (Worked p) (sym end.rest.2) (relaxed.1 ∙ ap (λ (q : SessionProgress). record q { touched = end.mid.touched }) worked ∙ spread end.mid on.mid relaxed.1);
+        leaves = subst (Behind p) (sym end.rest.2) (worked_behind p end.mid (relaxed.1 ∙ ap (λ (q : SessionProgress). record q { touched = end.mid.touched }) worked ∙ spread end.mid on.mid relaxed.1));
         ended = ended_as on.mid new end.mid end.rest.2 (ended_as on.mid end.mid (record on.mid { touched = end.mid.touched }) relaxed.1 refl);
       })
     where
@@ -225,17 +243,19 @@ module _ {A : Type 0} (work : Doing (Result A Failure)) (owns : Owns work) (p ne
         mid = on.mid;
         held = subst (λ (c : Result A Failure). Held work q on.front c on.mid) (sym end.rest.1) on.held;
         around = subst (λ (c : Result A Failure). IsAround true false (is_ok c) p.settings.manner on.front exchanges) (sym end.rest.1) around;
-        leaves = subst (Worked p) (sym end.rest.2) (ends q on.mid parts.mid end.mid shut refl worked relaxed.1 close.2);
-        ended = ended_as on.mid new end.mid end.rest.2 (ended_as on.mid end.mid (record on.mid { is_open = false; touched = end.mid.touched; txn = end.mid.txn }) (close.2 ∙ ap (λ (t : SessionProgress). record t { is_open = false; touched = end.mid.touched; txn = end.mid.txn }) relaxed.1) refl);
+        leaves = subst (Behind p) (sym end.rest.2) (ends q on.mid parts.mid end.mid shut refl worked relaxed.1 close.2);
+        ended = ended_as on.mid new end.mid end.rest.2 (ended_as on.mid end.mid (record on.mid { is_open = false; is_own = false; stands = false; touched = end.mid.touched; txn = end.mid.txn }) (close.2 ∙ ap (λ (t : SessionProgress). record t { is_open = false; is_own = false; stands = false; touched = end.mid.touched; txn = end.mid.txn }) relaxed.1) refl);
       })
     where
-      ends : (q mid r s : SessionProgress) → p.is_open ≡ false → q ≡ asked ops.Begin replies.Began p → Worked q mid → r ≡ record mid { touched = r.touched } → s ≡ record r { is_open = false; touched = s.touched; txn = s.txn } → Worked p s
+      ends : (q mid r s : SessionProgress) → p.is_open ≡ false → q ≡ asked ops.Begin replies.Began p → Worked q mid → r ≡ record mid { touched = r.touched } → s ≡ record r { is_open = false; is_own = false; stands = false; touched = s.touched; txn = s.txn } → Behind p s
       ends q mid r s shut begun worked relaxed close =
-          let close_to : s ≡ record mid { is_open = false; touched = s.touched; txn = s.txn } = close ∙ ap (λ (t : SessionProgress). record t { is_open = false; touched = s.touched; txn = s.txn }) relaxed in
-          close_to ∙ ap (λ (t : SessionProgress). record t { is_open = false; touched = s.touched; txn = s.txn }) worked
-          ∙ ap (λ (t : SessionProgress). record t { is_open = false; vars = mid.vars; cursors = mid.cursors; touched = s.touched; txn = s.txn }) begun
-          ∙ ap (λ (b : Bool). record p { is_open = b; vars = mid.vars; cursors = mid.cursors; touched = s.touched; txn = s.txn }) (sym shut)
-          ∙ ap (λ (t : SessionProgress). record p { vars = t.vars; cursors = t.cursors; touched = s.touched; txn = s.txn }) (sym close_to)
+          let close_to : s ≡ record mid { is_open = false; is_own = false; stands = false; touched = s.touched; txn = s.txn } = close ∙ ap (λ (t : SessionProgress). record t { is_open = false; is_own = false; stands = false; touched = s.touched; txn = s.txn }) relaxed in (
+            close_to ∙ ap (λ (t : SessionProgress). record t { is_open = false; is_own = false; stands = false; touched = s.touched; txn = s.txn }) worked
+                ∙ ap (λ (t : SessionProgress). record t { is_open = false; is_own = false; stands = false; vars = mid.vars; cursors = mid.cursors; touched = s.touched; txn = s.txn }) begun
+                ∙ ap (λ (b : Bool). record p { is_open = b; is_own = false; stands = false; vars = mid.vars; cursors = mid.cursors; touched = s.touched; txn = s.txn }) (sym shut)
+                ∙ ap (λ (t : SessionProgress). record p { is_own = t.is_own; stands = t.stands; vars = t.vars; cursors = t.cursors; touched = s.touched; txn = s.txn }) (sym close_to),
+            λ is_open. absurd (let no : false ≡ true = sym shut ∙ is_open in cc),
+          )
 
   pub own_held : (asks_some : Bool) → Held (own asks_some work) p exchanges came new → Ways asks_some p.is_open
   unfolding own enters ◌then◌ Held
@@ -251,7 +271,7 @@ module _ {A : Type 0} (work : Doing (Result A Failure)) (owns : Owns work) (p ne
           by_reply replies.Memory told can so = inl (record {
             asks = is ∙ ap (λ (y : Exchange). y ∷ later) (is_replied x p.settings.manner ops.Begin replies.Memory was.0 was.1 told) ∙ ap (λ (l : List Exchange). replied p.settings.manner ops.Begin replies.Memory ∷ l) so.0;
             failed = so.1;
-            leaves = so.2 ∙ ap (λ (q : SessionProgress). record p { vars = q.vars; cursors = q.cursors; touched = q.touched; txn = q.txn }) (sym so.2);
+            leaves = worked_behind p new (so.2 ∙ ap (λ (q : SessionProgress). record p { vars = q.vars; cursors = q.cursors; touched = q.touched; txn = q.txn }) (sym so.2));
           })
           by_reply reply told can so = absurd can
 

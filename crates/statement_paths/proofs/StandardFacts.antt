@@ -1,5 +1,5 @@
 -- Worked parts: what is asked where nothing is there to be found, and CREATE TABLE in the open transaction and in one of its own.
-use Rattle.std.proofs.Common.{◌≡◌, ℕ, true, false, inr, List, [], ◌∷◌, ◌++◌, None, Ok, refl, sym, subst}
+use Rattle.std.proofs.Common.{◌≡◌, ℕ, true, false, inr, List, [], ◌∷◌, ◌++◌, None, Some, Ok, refl, sym, subst}
 use Rattle.std.specs.Prelude.{codes}
 use Rattle.tsql_tree.specs.declared.definition.TableTree.{TableTree}
 use Rattle.tsql_tree.specs.declared.statement.Form.{Form-F}
@@ -17,19 +17,24 @@ use Rattle.batch_meaning.specs.Changing.{created}
 use Rattle.batch_meaning.specs.Progress.{SessionProgress}
 use Rattle.batch_meaning.specs.Raised.{Around}
 use Rattle.batch_meaning.specs.Selecting.{bound_over, no_effect}
-use Rattle.statement_paths.specs.Paths.{definition_put, replied, AreDefined, AreLookedUp, IsAround, IsDone, IsFailed, IsWorked, NoneCommits}
+use Rattle.batch_meaning.specs.Working.{known_by}
+use Rattle.statement_paths.specs.Paths.{definition_put, replied, AreDefined, AreLookedUp, IsAround, IsDone, IsDoneAs, IsFailed, NoneCommits}
 
 -- where no name is looked up nothing is asked
-no_names : (manner : Manner) → AreLookedUp manner [] [] [] []
+no_names : (manner : Manner) → AreLookedUp manner (λ name. None) [] [] [] []
 no_names manner = (refl, refl)
 
 -- of `objects` nothing is asked, and the names behind it are not looked up
-objects_last : (manner : Manner) (name : List ℕ) → AreLookedUp manner [] (objects_name ∷ name ∷ []) [] []
+objects_last : (manner : Manner) (name : List ℕ) → AreLookedUp manner (λ name. None) [] (objects_name ∷ name ∷ []) [] []
 objects_last manner name = (None, [], [], refl, (refl, refl), inr (refl, refl, refl))
 
 -- a name that is not there is one fetch
-no_table : (manner : Manner) (at : ℕ) → AreLookedUp manner [] (codes "t" ∷ []) (replied manner (definition_fetch (codes "t")) (End at) ∷ []) []
+no_table : (manner : Manner) (at : ℕ) → AreLookedUp manner (λ name. None) [] (codes "t" ∷ []) (replied manner (definition_fetch (codes "t")) (End at) ∷ []) []
 no_table manner at = (None, replied manner (definition_fetch (codes "t")) (End at) ∷ [], [], refl, (replied manner (definition_fetch (codes "t")) (End at), refl, (refl, refl, tt), refl), inr (refl, refl, refl))
+
+-- a name that is known is not looked up, and stands for no table here
+known_none : (manner : Manner) (name other : List ℕ) → AreLookedUp manner (λ name. Some None) [] (name ∷ other ∷ []) [] []
+known_none manner name other = (None, [], [], refl, (refl, refl), inr (refl, refl, refl))
 
 -- where nothing is defined `objects` is one fetch, and no fewer
 no_definitions : (manner : Manner) (at : ℕ) → AreDefined manner First [] (replied manner (objects_fetch First) (End at) ∷ []) []
@@ -55,17 +60,20 @@ module _ (around : Around) (p : SessionProgress) (statement : Statement) (table 
   abbrev worked : List Exchange
   worked = replied p.settings.manner Mark (Marked mark) ∷ replied p.settings.manner (created table.name text) Done ∷ []
 
-  created_done : IsDone around p statement (definition_put table.name text ∷ []) no_effect worked
-  created_done = record {
+  created_as : IsDoneAs around p (Form-F.CreateTable table text) statement (definition_put table.name text ∷ []) no_effect worked
+  created_as = record {
     definitions = [];
     of = bound.Plain;
     looked = [];
     worked = worked;
     parts = refl;
-    looks = subst (λ (l : List (List ℕ)). AreLookedUp p.settings.manner [] l [] []) (sym names) (refl, refl);
+    looks = subst (λ (l : List (List ℕ)). AreLookedUp p.settings.manner (known_by around statement) [] l [] []) (sym names) (refl, refl);
     binds = binds;
-    works = subst (λ (form : Layer). IsWorked around p form [] bound.Plain (definition_put table.name text ∷ []) no_effect worked) (sym is) (record { mark = mark; parts = refl; another = another; plans = refl; tells = refl });
+    works = record { mark = mark; parts = refl; another = another; plans = refl; tells = refl };
   }
+
+  created_done : IsDone around p statement (definition_put table.name text ∷ []) no_effect worked
+  created_done = subst (λ (form : Layer). IsDoneAs around p form statement (definition_put table.name text ∷ []) no_effect worked) (sym is) created_as
 
   -- in the open transaction it ends with its locks
   created_open : IsAround true true true p.settings.manner worked (worked ++ replied p.settings.manner Relax Done ∷ [])

@@ -1,6 +1,9 @@
 -- What reads alone changes nothing of the session but that its locks are to be relaxed; where a statement begins a transaction for its work, that
 -- is open.
-use Rattle.std.proofs.Common.{◌≡◌, true, List, [], ◌∷◌, refl, sym, ap, ◌∙◌, subst}
+use Rattle.std.proofs.Common.{◌≡◌, true, List, [], ◌∷◌, ◌++◌, Ok, refl, sym, ap, ◌∙◌, subst}
+use Rattle.tsql_tree.specs.declared.definition.TableTree.{TableTree}
+use Rattle.step_model.specs.declared.change.Planned.{Planned}
+use Rattle.step_model.specs.declared.manner.Manner.{Manner}
 use Rattle.step_model.specs.declared.op.Op.{Op}
 use Rattle.step_model.specs.declared.op.Op.TheVariants as ops
 use Rattle.step_model.specs.declared.reply.Reply.{Reply}
@@ -9,7 +12,11 @@ use Rattle.step_model.specs.Exchange.{Exchange, CanReply}
 use Rattle.reading_laws.specs.Reads.{AskOnly, IsFetch}
 use Rattle.batch_meaning.specs.Progress.{SessionProgress, SessionStep, touches, made, asked, asked_all}
 use Rattle.batch_meaning.specs.Doing.{Doing, Held}
-use Rattle.statement_paths.proofs.Only.{IsTouch, Only, held_keeps}
+use Rattle.constraint_check.specs.Reads.{reads_for}
+use Rattle.dml_exec.specs.Writing.{checks_all, writes_all}
+use Rattle.statement_paths.specs.Paths.{AreApplied, IsForward}
+use Rattle.statement_paths.proofs.Only.{IsTouch, Only, held_keeps, says_held}
+use Rattle.statement_paths.proofs.Asking.{checks_say, writes_say}
 
 -- a tree that fetches alone
 abbrev pub Reads : {A : Type 0} → Doing A → Type 0
@@ -18,7 +25,7 @@ Reads tree = Only IsTouch IsFetch tree
 abbrev pub Still : SessionProgress → SessionProgress → Type 0
 Still p q = q ≡ record p { is_open = q.is_open; touched = q.touched }
 
-touched_still : (p q : SessionProgress) → Still p q → Still p (record q { touched = true })
+pub touched_still : (p q : SessionProgress) → Still p q → Still p (record q { touched = true })
 touched_still p q still = ap (λ (s : SessionProgress). record s { touched = true }) still
 
 fetch_same : (op : Op) (reply : Reply) (q : SessionProgress) → IsFetch op → CanReply op reply → asked op reply q ≡ record q { touched = true }
@@ -47,3 +54,32 @@ still_then p q r first second = second ∙ ap (λ (s : SessionProgress). record 
 
 pub still_manner : (p q : SessionProgress) → Still p q → q.settings.manner ≡ p.settings.manner
 still_manner p q still = ap (λ (s : SessionProgress). s.settings.manner) still
+
+-- ---- changes
+
+forward_same : (op : Op) (reply : Reply) (q : SessionProgress) → IsForward op → CanReply op reply → asked op reply q ≡ record q { touched = true }
+forward_same (ops.Fetch table start stop hold part) (replies.Ended place) q forward can = absurd can
+forward_same (ops.Insert table key row) (replies.Ended place) q forward can = absurd can
+forward_same (ops.Replace table key row) (replies.Ended place) q forward can = absurd can
+forward_same (ops.Erase table key) (replies.Ended place) q forward can = absurd can
+forward_same (ops.Fetch table start stop hold part) reply q forward can = refl
+forward_same (ops.Insert table key row) reply q forward can = refl
+forward_same (ops.Replace table key row) reply q forward can = refl
+forward_same (ops.Erase table key) reply q forward can = refl
+forward_same op reply q forward can = absurd forward
+
+forwards_still : (p : SessionProgress) (exchanges : List Exchange) (q : SessionProgress) → AskOnly IsForward exchanges → Still p q → Still p (asked_all exchanges q)
+forwards_still p [] q forward still = still
+forwards_still p (x ∷ later) q forward still = forwards_still p later (asked x.op x.reply q) forward.1 (subst (Still p) (sym (forward_same x.op x.reply q forward.0.0 forward.0.1)) (touched_still p q still))
+
+ask_both : (front back : List Exchange) → AskOnly IsForward front → AskOnly IsForward back → AskOnly IsForward (front ++ back)
+ask_both [] back one two = two
+ask_both (x ∷ front) back one two = (one.0, ask_both front back one.1 two)
+
+-- so do changes that stand, behind their mark
+pub applied_still : (p : SessionProgress) (manner : Manner) (shapes : List TableTree) (planned : List Planned) (exchanges : List Exchange) (q : SessionProgress) → AreApplied manner shapes planned exchanges → Still p q → Still p (asked_all exchanges q)
+applied_still p manner shapes planned exchanges q applied still =
+    subst (λ (l : List Exchange). Still p (asked_all l q)) (sym applied.parts)
+    (forwards_still p (applied.put ++ applied.checked) q
+    (ask_both applied.put applied.checked (says_held IsForward manner (writes_all shapes planned) applied.put (Ok tt) (writes_say shapes planned) applied.puts)
+    (says_held IsForward manner (checks_all shapes (reads_for planned shapes)) applied.checked (Ok tt) (checks_say shapes (reads_for planned shapes)) applied.checks)) still)

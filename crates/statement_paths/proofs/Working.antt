@@ -1,18 +1,16 @@
 -- What each statement has asked within its transaction, where it succeeded. The session stands as it did where the work began, but that its
 -- locks are to be relaxed.
-use Rattle.std.proofs.Common.{◌≡◌, ℕ, Bool, true, false, if◌then◌else◌, List, [], ◌∷◌, ◌++◌, length, Option, None, Some, Result, Ok, Err, refl, sym, ap, ◌∙◌, subst, append-nil}
+use Rattle.std.proofs.Common.{◌≡◌, ℕ, ℤ, Bool, true, false, if◌then◌else◌, List, [], ◌∷◌, ◌++◌, length, Option, None, Some, Result, Ok, Err, refl, sym, ap, ◌∙◌, subst, append-nil}
 use Rattle.std.specs.Prelude.{nat_lt}
-use Rattle.tsql_tree.specs.declared.definition.Definition.{Definition}
+use Rattle.std.specs.Cmp.Lexicographic.{bytes_decides}
+use Rattle.value_types.specs.Units.{same_units}
 use Rattle.tsql_tree.specs.declared.definition.TableTree.{TableTree}
-use Rattle.tsql_tree.specs.declared.statement.DropKind.{DropKind}
-use Rattle.tsql_tree.specs.declared.statement.DropKind.TheVariants as drop
 use Rattle.tsql_tree.specs.declared.statement.Form.{Form-F}
 use Rattle.bound_tree.specs.declared.query.BoundQuery.{BoundQuery}
 use Rattle.bound_tree.specs.declared.write.Bound.{Bound}
 use Rattle.bound_tree.specs.declared.write.Bound.TheVariants as bound
-use Rattle.bound_tree.specs.declared.write.BoundWrite.{BoundWrite}
 use Rattle.binder.specs.Names.{Layer}
-use Rattle.catalog_rows.specs.Definitions.{is_objects, tables_of}
+use Rattle.catalog_rows.specs.Definitions.{is_objects}
 use Rattle.step_model.specs.declared.change.Planned.{Planned}
 use Rattle.step_model.specs.declared.manner.Manner.{Manner}
 use Rattle.step_model.specs.declared.op.Op.TheVariants as ops
@@ -21,33 +19,33 @@ use Rattle.step_model.specs.declared.reply.Reply.TheVariants as replies
 use Rattle.step_model.specs.Dialog as said
 use Rattle.step_model.specs.Exchange.{Exchange, CanReply}
 use Rattle.step_model.specs.Ranges.{Rows, no_memory}
-use Rattle.constraint_check.specs.Reads.{rows_table, shape_of}
 use Rattle.dml_exec.specs.declared.refusal.Level.{Level}
-use Rattle.dml_exec.specs.declared.refusal.Level.TheVariants.{Serializable}
 use Rattle.dml_exec.specs.declared.refusal.Refusal.{Refusal}
 use Rattle.dml_exec.specs.declared.written.Attempt.{Attempt}
-use Rattle.dml_exec.specs.declared.written.Written.{Written}
+use Rattle.dml_exec.specs.declared.written.Written.{Written as WriteEnd}
 use Rattle.dml_exec.specs.declared.written.Written.TheVariants as written
-use Rattle.dml_exec.specs.Reading.{images_of}
+use Rattle.dml_exec.specs.Reading.{GivenRows, fetches_any, images_of}
 use Rattle.dml_exec.specs.Writing.{attempts}
 use Rattle.reading_laws.specs.Reads.{IsFetch}
 use Rattle.batch_meaning.specs.declared.failure.Failure.{Failure}
 use Rattle.batch_meaning.specs.Raised.{Around}
-use Rattle.batch_meaning.specs.Changing.{object_present, not_there, planned_over, told_by, created, dropped, unless_referred, whole}
+use Rattle.batch_meaning.specs.Changing.{created, object_present}
 use Rattle.batch_meaning.specs.Failures.{plain, naming}
-use Rattle.batch_meaning.specs.Selecting.{Effect, answer_in, made_of, no_effect, not_built, result_full, result_of}
+use Rattle.batch_meaning.specs.Selecting.{Effect, answer_in, made_of, no_effect, not_bound_so, result_full, result_of}
+use Rattle.batch_meaning.specs.Tokens.{done_kind}
 use Rattle.batch_meaning.specs.Progress.{SessionProgress, touches, made, asked, asked_all, size_of}
-use Rattle.batch_meaning.specs.Values.{Assigned, first_row, rows_assigned}
+use Rattle.batch_meaning.specs.Values.{Assigned, first_row, rows_assigned, status_of}
 use Rattle.batch_meaning.specs.Doing.{Doing, over, asks, ◌then◌, Held}
-use Rattle.batch_meaning.specs.Asking.{fails, fails_naming, ◌>>=◌, with_room, comes_to, unless_refused, reads_at, reads_definitions, reads_images, unless_stopped, unless_broken, applies, assigns_all, takes_back, where_done, marked}
-use Rattle.batch_meaning.specs.Working.{answers, assigns_rows, change_bound, changes, computes, creates, drops, drops_in, drops_kind, if_it_fits, inserted, select_bound, selects, selects_into, values_bound, works_bound}
-use Rattle.statement_paths.specs.Paths.{definition_put, replied, AreApplied, AreAssigned, AreRead, AreValues, IsAnswered, IsChange, IsComputed, IsCreated, IsDrop, IsDropped, IsSelect, IsSelected, IsWorked, IsWritten}
-use Rattle.statement_paths.proofs.Only.{IsTouch, only_bind, only_comes, only_gives, only_room}
-use Rattle.statement_paths.proofs.Still.{Reads, Still, reads_still, still_then, still_manner}
-use Rattle.statement_paths.proofs.Apart.{bind_apart, room_apart, comes_apart, holds_apart}
+use Rattle.batch_meaning.specs.Asking.{fails, fails_naming, ◌>>=◌, with_room, comes_to, unless_refused, reads_at, reads_images, unless_stopped, unless_broken, applies, touches_if, ◌gives◌, assigns_all, takes_back, where_done, marked}
+use Rattle.batch_meaning.specs.Working.{answers, assigns_rows, computes, given_in, if_it_fits, select_bound, selects, selects_into, status_bound, values_bound, works_bound}
+use Rattle.batch_meaning.specs.Writes.{creates, inserted}
+use Rattle.statement_paths.specs.Paths.{definition_put, replied, AreApplied, AreAssigned, AreRead, AreValues, IsAnswered, IsComputed, IsCreated, IsSelect, IsSelected, IsStatus, IsWorked}
+use Rattle.statement_paths.proofs.Only.{IsTouch, only_bind, only_comes, only_gives}
+use Rattle.statement_paths.proofs.Still.{Reads, Still, applied_still, reads_still, still_then, still_manner, touched_still}
+use Rattle.statement_paths.proofs.Apart.{bind_apart, room_apart, comes_apart, gives_apart, holds_apart}
 use Rattle.statement_paths.proofs.Asking.{images_say}
 use Rattle.statement_paths.proofs.Dialogs.{applied_apart, is_replied}
-use Rattle.statement_paths.proofs.Looking.{ok_same, definitions_apart, definitions_read}
+use Rattle.statement_paths.proofs.Looking.{ok_same}
 
 -- ---- errors
 
@@ -63,45 +61,53 @@ naming_never {A = A} number name p new exchanges a held = by_enough held.0 held.
     by_enough true was = error_never (naming number name) p new exchanges a was
     by_enough false was = error_never (plain _) p new exchanges a was
 
+-- what was found has this name
+pub named_held : (number : ℕ) (own name : List ℕ) (tree : Doing (Result Effect Failure)) (p new : SessionProgress) (exchanges : List Exchange) (effect : Effect) → Held (if same_units own name then tree else fails_naming number name) p exchanges (Ok effect) new
+    → (own ≡ name) × Held tree p exchanges (Ok effect) new
+named_held number own name tree p new exchanges effect held = by_test (same_units own name) refl held
+  where
+    by_test : (test : Bool) → same_units own name ≡ test → Held (if test then tree else fails_naming number name) p exchanges (Ok effect) new → (own ≡ name) × Held tree p exchanges (Ok effect) new
+    by_test true is was = ((bytes_decides own name).0 is, was)
+    by_test false is was = absurd (naming_never number name p new exchanges effect was)
+
 -- ---- reads
 
-pub at_level_reads : (level : Level) (shapes : List TableTree) (of : Bound) → Reads (reads_at level shapes of)
+touch_reads : {A : Type 0} (any : Bool) (tree : Doing A) → Reads tree → Reads (touches_if any tree)
+touch_reads true tree fetches = (tt, fetches)
+touch_reads false tree fetches = fetches
+
+pub at_level_reads : (given : GivenRows) (level : Level) (shapes : List TableTree) (of : Bound) → Reads (reads_at given level shapes of)
 unfolding reads_at
-at_level_reads level [] of = tt
-at_level_reads level (shape ∷ shapes) of = (tt, only_gives IsTouch IsFetch (images_of (shape ∷ shapes) level of) unless_stopped (images_say IsFetch (λ op is. is) (shape ∷ shapes) level of) by_came)
+at_level_reads given level [] of = tt
+at_level_reads given level (shape ∷ shapes) of = touch_reads (fetches_any given of) (images_of given (shape ∷ shapes) level of gives unless_stopped)
+    (only_gives IsTouch IsFetch (images_of given (shape ∷ shapes) level of) unless_stopped (images_say IsFetch (λ op is. is) given (shape ∷ shapes) level of) by_came)
   where
     by_came : (came : Result (List Rows) Refusal) → Reads (unless_stopped came)
     by_came (Ok rows) = tt
     by_came (Err why) = tt
 
-pub images_read : (shapes : List TableTree) (of : Bound) → Reads (reads_images shapes of)
+pub images_read : (given : GivenRows) (shapes : List TableTree) (of : Bound) → Reads (reads_images given shapes of)
 unfolding reads_images
-images_read shapes of = λ p. at_level_reads p.settings.level shapes of
+images_read given shapes of = λ p. at_level_reads given p.settings.level shapes of
 
-pub at_level_apart : (level : Level) (shapes : List TableTree) (of : Bound) (p new : SessionProgress) (exchanges : List Exchange) (images : List Rows)
-    → Held (reads_at level shapes of) p exchanges (Ok images) new → AreRead p.settings.manner level shapes of exchanges images
+pub at_level_apart : (given : GivenRows) (level : Level) (shapes : List TableTree) (of : Bound) (p new : SessionProgress) (exchanges : List Exchange) (images : List Rows)
+    → Held (reads_at given level shapes of) p exchanges (Ok images) new → AreRead p.settings.manner given level shapes of exchanges images
 unfolding reads_at Held
-at_level_apart level [] of p new exchanges images held = (held.0, ok_same {E = Failure} images [] held.1)
-at_level_apart level (shape ∷ shapes) of p new exchanges images held =
-    let on = holds_apart (images_of (shape ∷ shapes) level of) unless_stopped p new exchanges (Ok images) held in by_came on.front on.back on.came (asked_all on.front (made touches p)) on.parts on.held on.rest
+at_level_apart given level [] of p new exchanges images held = (held.0, ok_same {E = Failure} images [] held.1)
+at_level_apart given level (shape ∷ shapes) of p new exchanges images held = by_touch (fetches_any given of) held
   where
-    by_came : (front back : List Exchange) (came : Result (List Rows) Refusal) (mid : SessionProgress) → exchanges ≡ front ++ back → said.Held p.settings.manner (images_of (shape ∷ shapes) level of) front came → Held (unless_stopped came) mid back (Ok images) new
-        → said.Held p.settings.manner (images_of (shape ∷ shapes) level of) exchanges (Ok images)
+    by_came : (front back : List Exchange) (came : Result (List Rows) Refusal) (mid : SessionProgress) → exchanges ≡ front ++ back → said.Held p.settings.manner (images_of given (shape ∷ shapes) level of) front came → Held (unless_stopped came) mid back (Ok images) new
+        → said.Held p.settings.manner (images_of given (shape ∷ shapes) level of) exchanges (Ok images)
     by_came front back (Ok rows) mid parts was rest =
-        subst (λ (l : List Exchange). said.Held p.settings.manner (images_of (shape ∷ shapes) level of) l (Ok images)) (sym (parts ∙ ap (λ (l : List Exchange). front ++ l) rest.0 ∙ append-nil front))
-        (subst (λ (r : List Rows). said.Held p.settings.manner (images_of (shape ∷ shapes) level of) front (Ok r)) (sym (ok_same {E = Failure} images rows rest.1)) was)
+        subst (λ (l : List Exchange). said.Held p.settings.manner (images_of given (shape ∷ shapes) level of) l (Ok images)) (sym (parts ∙ ap (λ (l : List Exchange). front ++ l) rest.0 ∙ append-nil front))
+        (subst (λ (r : List Rows). said.Held p.settings.manner (images_of given (shape ∷ shapes) level of) front (Ok r)) (sym (ok_same {E = Failure} images rows rest.1)) was)
     by_came front back (Err why) mid parts was rest = absurd (let no : Ok images ≡ Err _ = rest.1 in cc)
 
--- where there are tables they were read
-read_there : (manner : Manner) (level : Level) (shapes : List TableTree) (of : Bound) (exchanges : List Exchange) (images : List Rows) → (shapes ≡ [] → ⊥) → AreRead manner level shapes of exchanges images → said.Held manner (images_of shapes level of) exchanges (Ok images)
-read_there manner level [] of exchanges images some is = absurd (some refl)
-read_there manner level (shape ∷ shapes) of exchanges images some is = is
-
-some_shape : (name : List ℕ) (shapes : List TableTree) (shape : TableTree) → shape_of (rows_table name) shapes ≡ Some shape → shapes ≡ [] → ⊥
-some_shape name shapes shape is none = let no : None ≡ Some shape = sym (ap (λ (l : List TableTree). shape_of (rows_table name) l) none) ∙ is in absurd (cc)
-
-pub some_cons : (shape : TableTree) (shapes : List TableTree) → shape ∷ shapes ≡ [] → ⊥
-some_cons shape shapes is = let no : shape ∷ shapes ≡ [] = is in absurd (cc)
+    by_touch : (any : Bool) → Held (touches_if any (images_of given (shape ∷ shapes) level of gives unless_stopped)) p exchanges (Ok images) new → said.Held p.settings.manner (images_of given (shape ∷ shapes) level of) exchanges (Ok images)
+    by_touch true was =
+        let on = gives_apart (images_of given (shape ∷ shapes) level of) unless_stopped (made touches p) new exchanges (Ok images) was in by_came on.front on.back on.came (asked_all on.front (made touches p)) on.parts on.held on.rest
+    by_touch false was =
+        let on = gives_apart (images_of given (shape ∷ shapes) level of) unless_stopped p new exchanges (Ok images) was in by_came on.front on.back on.came (asked_all on.front p) on.parts on.held on.rest
 
 module _ (around : Around) (p0 : SessionProgress) where
   -- ---- one part behind another
@@ -113,39 +119,39 @@ module _ (around : Around) (p0 : SessionProgress) where
       let was = bind_apart tree go p new exchanges b held in on was.0 was.1 was.2 was.3 was.4 was.5 (still_then p0 p was.3 still (reads_still p tree was.3 was.0 (Ok was.2) fetches was.5)) was.6
 
   -- behind a result that is there at once
-  comes_on : {A B Goal : Type 0} (result : Result A Failure) (go : A → Doing (Result B Failure)) (p new : SessionProgress) (exchanges : List Exchange) (b : B) → Held (comes_to result >>= go) p exchanges (Ok b) new
+  pub comes_on : {A B Goal : Type 0} (result : Result A Failure) (go : A → Doing (Result B Failure)) (p new : SessionProgress) (exchanges : List Exchange) (b : B) → Held (comes_to result >>= go) p exchanges (Ok b) new
       → ((a : A) → result ≡ Ok a → Held (go a) p exchanges (Ok b) new → Goal) → Goal
   comes_on {A = A} {B = B} result go p new exchanges b held on =
       let was = bind_apart (comes_to result) go p new exchanges b held in
       let came = comes_apart result p was.3 was.0 was.2 was.5 in
       on was.2 came.1 (subst (λ (q : SessionProgress). Held (go was.2) q exchanges (Ok b) new) came.2 (subst (λ (l : List Exchange). Held (go was.2) was.3 l (Ok b) new) (sym (was.4 ∙ ap (λ (l : List Exchange). l ++ was.1) came.0)) was.6))
 
-  in_manner : (p : SessionProgress) → Still p0 p → p.settings.manner ≡ p0.settings.manner
+  pub in_manner : (p : SessionProgress) → Still p0 p → p.settings.manner ≡ p0.settings.manner
   in_manner p still = still_manner p0 p still
 
-  images_apart : (shapes : List TableTree) (of : Bound) (p new : SessionProgress) (exchanges : List Exchange) (images : List Rows)
-      → Still p0 p → Held (reads_images shapes of) p exchanges (Ok images) new → AreRead p0.settings.manner p0.settings.level shapes of exchanges images
+  pub images_apart : (given : GivenRows) (shapes : List TableTree) (of : Bound) (p new : SessionProgress) (exchanges : List Exchange) (images : List Rows)
+      → Still p0 p → Held (reads_images given shapes of) p exchanges (Ok images) new → AreRead p0.settings.manner given p0.settings.level shapes of exchanges images
   unfolding reads_images Held
-  images_apart shapes of p new exchanges images still held =
-      let read : AreRead p.settings.manner p.settings.level shapes of exchanges images = at_level_apart p.settings.level shapes of p new exchanges images held in
-      subst (λ (s : SessionProgress). AreRead s.settings.manner s.settings.level shapes of exchanges images) still read
+  images_apart given shapes of p new exchanges images still held =
+      let read : AreRead p.settings.manner given p.settings.level shapes of exchanges images = at_level_apart given p.settings.level shapes of p new exchanges images held in
+      subst (λ (s : SessionProgress). AreRead s.settings.manner given s.settings.level shapes of exchanges images) still read
 
   -- ---- queries
 
   pub answers_apart : (shapes : List TableTree) (query : BoundQuery) (p new : SessionProgress) (exchanges : List Exchange) (rows : Rows) → Still p0 p → Held (answers around shapes query) p exchanges (Ok rows) new → IsAnswered around p0 shapes query rows exchanges
   unfolding answers Held
   answers_apart shapes query p new exchanges rows still held =
-      bind_reads (reads_images shapes (bound.Query query)) _ p new exchanges rows (images_read shapes (bound.Query query)) still held (λ front back images mid parts read same rest.
+      bind_reads (reads_images (given_in around.fired) shapes (bound.Query query)) _ p new exchanges rows (images_read (given_in around.fired) shapes (bound.Query query)) still held (λ front back images mid parts read same rest.
       let last = comes_apart (answer_in around mid query images) mid new back rows rest in
       record {
         images = images;
-        reads = subst (λ (l : List Exchange). AreRead p0.settings.manner p0.settings.level shapes (bound.Query query) l images) (sym (parts ∙ ap (λ (l : List Exchange). front ++ l) last.0 ∙ append-nil front)) (images_apart shapes (bound.Query query) p mid front images still read);
+        reads = subst (λ (l : List Exchange). AreRead p0.settings.manner (given_in around.fired) p0.settings.level shapes (bound.Query query) l images) (sym (parts ∙ ap (λ (l : List Exchange). front ++ l) last.0 ∙ append-nil front)) (images_apart (given_in around.fired) shapes (bound.Query query) p mid front images still read);
         answers = subst (λ (s : SessionProgress). answer_in around s query images ≡ Ok rows) same last.1;
       })
 
   pub answers_read : (shapes : List TableTree) (query : BoundQuery) → Reads (answers around shapes query)
   unfolding answers
-  answers_read shapes query = only_bind IsTouch IsFetch (reads_images shapes (bound.Query query)) _ (images_read shapes (bound.Query query)) (λ images p. only_comes IsTouch IsFetch (answer_in around p query images))
+  answers_read shapes query = only_bind IsTouch IsFetch (reads_images (given_in around.fired) shapes (bound.Query query)) _ (images_read (given_in around.fired) shapes (bound.Query query)) (λ images p. only_comes IsTouch IsFetch (answer_in around p query images))
 
   -- tokens that fit
   pub bytes_apart : (effect came : Effect) (p new : SessionProgress) (exchanges : List Exchange) → Held (if_it_fits effect) p exchanges (Ok came) new → (exchanges ≡ []) × (effect ≡ came) × (new ≡ p)
@@ -160,12 +166,12 @@ module _ (around : Around) (p0 : SessionProgress) where
   unfolding selects Held ◌then◌
   selects_apart shapes query p new exchanges effect still held =
       bind_reads (answers around shapes query) _ p new exchanges effect (answers_read shapes query) still held (λ front back rows mid parts answered same rest.
-      comes_on (result_of mid.settings.no_count query rows) if_it_fits mid new back effect rest (λ made results last.
+      comes_on (result_of (done_kind around) mid.settings.no_count query rows) if_it_fits mid new back effect rest (λ made results last.
       let end = bytes_apart made effect mid new back last in
       record {
         rows = rows;
         answered = subst (λ (l : List Exchange). IsAnswered around p0 shapes query rows l) (sym (parts ∙ ap (λ (l : List Exchange). front ++ l) end.0 ∙ append-nil front)) (answers_apart shapes query p mid front rows still answered);
-        results = subst (λ (s : SessionProgress). result_of s.settings.no_count query rows ≡ Ok effect) same (results ∙ ap Ok end.1);
+        results = subst (λ (s : SessionProgress). result_of (done_kind around) s.settings.no_count query rows ≡ Ok effect) same (results ∙ ap Ok end.1);
         plans = refl;
       }))
 
@@ -205,8 +211,8 @@ module _ (around : Around) (p0 : SessionProgress) where
   select_apart : (shapes : List TableTree) (of : Bound) (p new : SessionProgress) (exchanges : List Exchange) (effect : Effect) → Still p0 p → Held (select_bound around shapes of) p exchanges (Ok effect) new → IsSelect around p0 shapes of [] effect exchanges
   select_apart shapes (bound.Query query) p new exchanges effect still held = selects_apart shapes query p new exchanges effect still held
   select_apart shapes (bound.Assign query places) p new exchanges effect still held = into_apart shapes query places p new exchanges effect still held
-  select_apart shapes bound.Plain p new exchanges effect still held = absurd (error_never (plain not_built) p new exchanges effect held)
-  select_apart shapes (bound.Write write) p new exchanges effect still held = absurd (error_never (plain not_built) p new exchanges effect held)
+  select_apart shapes bound.Plain p new exchanges effect still held = absurd (error_never (plain not_bound_so) p new exchanges effect held)
+  select_apart shapes (bound.Write write) p new exchanges effect still held = absurd (error_never (plain not_bound_so) p new exchanges effect held)
 
   -- ---- values
 
@@ -214,8 +220,8 @@ module _ (around : Around) (p0 : SessionProgress) where
   unfolding Held
   values_apart shapes (bound.Query query) p new exchanges rows still held = answers_apart shapes query p new exchanges rows still held
   values_apart shapes bound.Plain p new exchanges rows still held = (ok_same {E = Failure} rows [] held.1, held.0)
-  values_apart shapes (bound.Write write) p new exchanges rows still held = absurd (error_never (plain not_built) p new exchanges rows held)
-  values_apart shapes (bound.Assign query places) p new exchanges rows still held = absurd (error_never (plain not_built) p new exchanges rows held)
+  values_apart shapes (bound.Write write) p new exchanges rows still held = absurd (error_never (plain not_bound_so) p new exchanges rows held)
+  values_apart shapes (bound.Assign query places) p new exchanges rows still held = absurd (error_never (plain not_bound_so) p new exchanges rows held)
 
   pub values_read : (shapes : List TableTree) (of : Bound) → Reads (values_bound around shapes of)
   values_read shapes (bound.Query query) = answers_read shapes query
@@ -236,125 +242,67 @@ module _ (around : Around) (p0 : SessionProgress) where
         plans = refl;
       })
 
+  pub statuses_apart : (shapes : List TableTree) (of : Bound) (p new : SessionProgress) (exchanges : List Exchange) (status : ℤ) → Still p0 p → Held (status_bound around shapes of) p exchanges (Ok status) new → IsStatus around p0 shapes of status exchanges
+  unfolding status_bound Held
+  statuses_apart shapes of p new exchanges status still held =
+      bind_reads (values_bound around shapes of) _ p new exchanges status (values_read shapes of) still held (λ front back rows mid parts values same rest.
+      let last = comes_apart (status_of (first_row rows)) mid new back status rest in
+      record {
+        rows = rows;
+        values = subst (λ (l : List Exchange). AreValues around p0 shapes of rows l) (sym (parts ∙ ap (λ (l : List Exchange). front ++ l) last.0 ∙ append-nil front)) (values_apart shapes of p mid front rows still values);
+        makes = last.1;
+      })
+
+  pub status_read : (shapes : List TableTree) (of : Bound) → Reads (status_bound around shapes of)
+  unfolding status_bound
+  status_read shapes of = only_bind IsTouch IsFetch (values_bound around shapes of) _ (values_read shapes of) (λ rows. only_comes IsTouch IsFetch (status_of (first_row rows)))
+
   -- ---- writes
 
-  applies_apart : (shapes : List TableTree) (planned : List Planned) (p new : SessionProgress) (exchanges : List Exchange) (put : Unit {0}) → Still p0 p → Held (applies shapes planned) p exchanges (Ok put) new → AreApplied p0.settings.manner shapes planned exchanges
+  pub applies_apart : (shapes : List TableTree) (planned : List Planned) (p new : SessionProgress) (exchanges : List Exchange) (mark : ℕ) → Still p0 p → Held (applies shapes planned) p exchanges (Ok mark) new
+      → (applied : AreApplied p0.settings.manner shapes planned exchanges) × (mark ≡ applied.mark)
   unfolding applies Held
-  applies_apart shapes planned p new exchanges put still held =
-      let on = holds_apart (attempts shapes planned) (λ attempt. unless_broken attempt.came) p new exchanges (Ok put) held in
-      subst (λ (m : Manner). AreApplied m shapes planned exchanges) (in_manner p still) (by_came on.front on.back on.came on.came.came refl (asked_all on.front (made touches p)) on.parts on.held on.rest)
+  applies_apart shapes planned p new exchanges mark still held =
+      let on = holds_apart (attempts shapes planned) (λ attempt. unless_broken attempt.came) p new exchanges (Ok mark) held in
+      subst (λ (m : Manner). (applied : AreApplied m shapes planned exchanges) × (mark ≡ applied.mark)) (in_manner p still) (by_came on.front on.back on.came on.came.came refl (asked_all on.front (made touches p)) on.parts on.held on.rest)
     where
-      by_came : (front back : List Exchange) (attempt : Attempt) (came : Result Written Refusal) → attempt.came ≡ came → (mid : SessionProgress) → exchanges ≡ front ++ back → said.Held p.settings.manner (attempts shapes planned) front attempt → Held (unless_broken attempt.came) mid back (Ok put) new
-          → AreApplied p.settings.manner shapes planned exchanges
-      by_came front back attempt (Ok (written.Done mark)) is mid parts was rest =
-          let none : back ≡ [] = (subst (λ (c : Result Written Refusal). Held (unless_broken c) mid back (Ok put) new) is rest).0 in
-          subst (λ (l : List Exchange). AreApplied p.settings.manner shapes planned l) (sym (parts ∙ ap (λ (l : List Exchange). front ++ l) none ∙ append-nil front)) (applied_apart p.settings.manner shapes planned mark front attempt was is)
-      by_came front back attempt (Ok (written.Refused number name)) is mid parts was rest = absurd (let no : Ok put ≡ Err _ = (subst (λ (c : Result Written Refusal). Held (unless_broken c) mid back (Ok put) new) is rest).1 in cc)
-      by_came front back attempt (Err why) is mid parts was rest = absurd (let no : Ok put ≡ Err _ = (subst (λ (c : Result Written Refusal). Held (unless_broken c) mid back (Ok put) new) is rest).1 in cc)
+      by_came : (front back : List Exchange) (attempt : Attempt) (came : Result WriteEnd Refusal) → attempt.came ≡ came → (mid : SessionProgress) → exchanges ≡ front ++ back → said.Held p.settings.manner (attempts shapes planned) front attempt → Held (unless_broken attempt.came) mid back (Ok mark) new
+          → (applied : AreApplied p.settings.manner shapes planned exchanges) × (mark ≡ applied.mark)
+      by_came front back attempt (Ok (written.Done number)) is mid parts was rest =
+          let end = subst (λ (c : Result WriteEnd Refusal). Held (unless_broken c) mid back (Ok mark) new) is rest in
+          let on = applied_apart p.settings.manner shapes planned number front attempt was is in
+          subst (λ (l : List Exchange). (applied : AreApplied p.settings.manner shapes planned l) × (mark ≡ applied.mark)) (sym (parts ∙ ap (λ (l : List Exchange). front ++ l) end.0 ∙ append-nil front)) (on.0, ok_same {E = Failure} mark number end.1 ∙ on.1)
+      by_came front back attempt (Ok (written.Refused number name)) is mid parts was rest = absurd (let no : Ok mark ≡ Err _ = (subst (λ (c : Result WriteEnd Refusal). Held (unless_broken c) mid back (Ok mark) new) is rest).1 in cc)
+      by_came front back attempt (Err why) is mid parts was rest = absurd (let no : Ok mark ≡ Err _ = (subst (λ (c : Result WriteEnd Refusal). Held (unless_broken c) mid back (Ok mark) new) is rest).1 in cc)
 
-  -- all of a write but its end, where nothing is asked
-  pub written_of : (shapes : List TableTree) (write : BoundWrite) (definitions : List Definition) (images : List Rows) (planned : List Planned) (defined read applied : List Exchange) (p q r t : SessionProgress) (exchanges behind later none : List Exchange) (put : Unit {0})
-      → (shapes ≡ [] → ⊥) → Still p0 p → exchanges ≡ defined ++ behind → Held reads_definitions p defined (Ok definitions) q → Still p0 q → behind ≡ read ++ later → Held (reads_images shapes (bound.Write write)) q read (Ok images) r → Still p0 r
-      → planned_over around r shapes write images ≡ Ok planned → later ≡ applied ++ none → Held (with_room (applies (tables_of definitions) planned)) r applied (Ok put) t → none ≡ []
-      → IsWritten around p0 shapes write planned (told_by r.settings.no_count write planned) exchanges
-  written_of shapes write definitions images planned defined read applied p q r t exchanges behind later none put some still parts defines same more fetched so plans all did end = record {
-    definitions = definitions;
-    images = images;
-    defined = defined;
-    read = read;
-    applied = applied;
-    parts = parts ∙ ap (λ (l : List Exchange). defined ++ l) (more ∙ ap (λ (l : List Exchange). read ++ l) (all ∙ ap (λ (l : List Exchange). applied ++ l) end ∙ append-nil applied));
-    defines = definitions_apart p0.settings.manner p q defined definitions (in_manner p still) defines;
-    reads = read_there p0.settings.manner p0.settings.level shapes (bound.Write write) read images some (images_apart shapes (bound.Write write) q r read images same fetched);
-    plans = subst (λ (s : SessionProgress). planned_over around s shapes write images ≡ Ok planned) so plans;
-    applies = applies_apart (tables_of definitions) planned r t applied put so (room_apart (applies (tables_of definitions) planned) r t applied put did);
-    tells = ap (λ (s : SessionProgress). told_by s.settings.no_count write planned) so;
-  }
-
-  changes_apart : (shapes : List TableTree) (write : BoundWrite) (p new : SessionProgress) (exchanges : List Exchange) (effect : Effect) → (shapes ≡ [] → ⊥) → Still p0 p → Held (changes around shapes write) p exchanges (Ok effect) new
-      → (planned : List Planned) × IsWritten around p0 shapes write planned effect exchanges
-  unfolding changes Held ◌then◌
-  changes_apart shapes write p new exchanges effect some still held =
-      bind_reads reads_definitions _ p new exchanges effect definitions_read still held (λ defined behind definitions q parts defines same rest.
-      bind_reads (reads_images shapes (bound.Write write)) _ q new behind effect (images_read shapes (bound.Write write)) same rest (λ read later images r more reads so others.
-      comes_on (planned_over around r shapes write images) _ r new later effect others (λ planned plans last.
-      comes_on (Ok (told_by r.settings.no_count write planned)) _ r new later effect last (λ told tells work.
-      let fits = bind_apart (if_it_fits told) (λ fitting. with_room (applies (tables_of definitions) planned) >>= λ put. over (Ok fitting)) r new later effect work in
-      let fit = bytes_apart told fits.2 r fits.3 fits.0 fits.5 in
-      let rest : Held (with_room (applies (tables_of definitions) planned) >>= λ put. over (Ok fits.2)) r later (Ok effect) new =
-      subst (λ (s : SessionProgress). Held (with_room (applies (tables_of definitions) planned) >>= λ put. over (Ok fits.2)) s later (Ok effect) new) fit.2
-      (subst (λ (l : List Exchange). Held (with_room (applies (tables_of definitions) planned) >>= λ put. over (Ok fits.2)) fits.3 l (Ok effect) new) (sym (fits.4 ∙ ap (λ (l : List Exchange). l ++ fits.1) fit.0)) fits.6) in
-      let on = bind_apart (with_room (applies (tables_of definitions) planned)) (λ put. over (Ok fits.2)) r new later effect rest in (
-        planned,
-        subst (λ (e : Effect). IsWritten around p0 shapes write planned e exchanges) (ok_same {E = Failure} (told_by r.settings.no_count write planned) told tells ∙ fit.1 ∙ sym (ok_same {E = Failure} effect fits.2 on.6.1))
-            (written_of shapes write definitions images planned defined read on.0 p q r on.3 exchanges behind later on.1 on.2 some still parts defines same more reads so plans on.4 on.5 on.6.0),
-      )))))
-
-  change_apart : (shapes : List TableTree) (of : Bound) (p new : SessionProgress) (exchanges : List Exchange) (effect : Effect) → Still p0 p → Held (change_bound around shapes of) p exchanges (Ok effect) new → (planned : List Planned) × IsChange around p0 shapes of planned effect exchanges
-  change_apart [] of p new exchanges effect still held = absurd (error_never (plain not_built) p new exchanges effect held)
-  change_apart (shape ∷ shapes) (bound.Write write) p new exchanges effect still held = changes_apart (shape ∷ shapes) write p new exchanges effect (some_cons shape shapes) still held
-  change_apart (shape ∷ shapes) (bound.Query query) p new exchanges effect still held = absurd (error_never (plain not_built) p new exchanges effect held)
-  change_apart (shape ∷ shapes) (bound.Assign query places) p new exchanges effect still held = absurd (error_never (plain not_built) p new exchanges effect held)
-  change_apart (shape ∷ shapes) bound.Plain p new exchanges effect still held = absurd (error_never (plain not_built) p new exchanges effect held)
-
-  -- ---- DROP
-
-  drops_apart : (shapes : List TableTree) (shape : TableTree) (name : List ℕ) (p new : SessionProgress) (exchanges : List Exchange) (effect : Effect) → shape_of (rows_table name) shapes ≡ Some shape → Still p0 p → Held (drops around shapes shape name) p exchanges (Ok effect) new
-      → (planned : List Planned) × IsDropped around p0 shapes name planned effect exchanges
-  unfolding drops Held ◌then◌
-  drops_apart shapes shape name p new exchanges effect known still held =
-      bind_reads reads_definitions _ p new exchanges effect definitions_read still held (λ defined behind definitions q parts defines same rest.
-      comes_on (unless_referred name (tables_of definitions)) _ q new behind effect rest (λ alone free others.
-      bind_reads (with_room (reads_at Serializable shapes (bound.Write (whole name)))) _ q new behind effect (only_room IsTouch IsFetch (reads_at Serializable shapes (bound.Write (whole name))) (at_level_reads Serializable shapes (bound.Write (whole name)))) same others
-      (λ read later images r more reads so last.
-      comes_on (dropped around r shape name images) _ r new later effect last (λ planned plans work.
-      let on = bind_apart (applies [] planned) (λ put. over (Ok no_effect)) r new later effect work in (
-        planned,
-        record {
-          shape = shape;
-          definitions = definitions;
-          images = images;
-          defined = defined;
-          read = read;
-          applied = on.0;
-          parts = parts ∙ ap (λ (l : List Exchange). defined ++ l) (more ∙ ap (λ (l : List Exchange). read ++ l) (on.4 ∙ ap (λ (l : List Exchange). on.0 ++ l) on.6.0 ∙ append-nil on.0));
-          known = known;
-          defines = definitions_apart p0.settings.manner p q defined definitions (in_manner p still) defines;
-          free = free;
-          reads = subst (λ (m : Manner). said.Held m (images_of shapes Serializable (bound.Write (whole name))) read (Ok images)) (in_manner q same)
-              (read_there q.settings.manner Serializable shapes (bound.Write (whole name)) read images (some_shape name shapes shape known)
-              (at_level_apart Serializable shapes (bound.Write (whole name)) q r read images (room_apart (reads_at Serializable shapes (bound.Write (whole name))) q r read images reads)));
-          plans = subst (λ (s : SessionProgress). dropped around s shape name images ≡ Ok planned) so plans;
-          applies = applies_apart [] planned r on.3 on.0 on.2 so on.5;
-          tells = ok_same {E = Failure} effect no_effect on.6.1;
-        },
-      )))))
-
-  drops_in_apart : (found : Option TableTree) (shapes : List TableTree) (name : List ℕ) (p new : SessionProgress) (exchanges : List Exchange) (effect : Effect) → shape_of (rows_table name) shapes ≡ found → Still p0 p → Held (drops_in around found shapes name) p exchanges (Ok effect) new
-      → (planned : List Planned) × IsDropped around p0 shapes name planned effect exchanges
-  drops_in_apart None shapes name p new exchanges effect known still held = absurd (naming_never not_there name p new exchanges effect held)
-  drops_in_apart (Some shape) shapes name p new exchanges effect known still held = drops_apart shapes shape name p new exchanges effect known still held
-
-  drop_apart : (kind : DropKind) (shapes : List TableTree) (name : List ℕ) (p new : SessionProgress) (exchanges : List Exchange) (effect : Effect) → Still p0 p → Held (drops_kind around kind shapes name) p exchanges (Ok effect) new
-      → (planned : List Planned) × IsDrop around p0 kind shapes name planned effect exchanges
-  drop_apart drop.Table shapes name p new exchanges effect still held = drops_in_apart (shape_of (rows_table name) shapes) shapes name p new exchanges effect refl still held
-  drop_apart other shapes name p new exchanges effect still held = absurd (naming_never not_there name p new exchanges effect held)
+  -- behind them all is as it was, but for its locks
+  pub applies_still : (shapes : List TableTree) (planned : List Planned) (p new : SessionProgress) (exchanges : List Exchange) (mark : ℕ) → Still p0 p → Held (applies shapes planned) p exchanges (Ok mark) new → Still p0 new
+  unfolding applies Held
+  applies_still shapes planned p new exchanges mark still held =
+      let on = holds_apart (attempts shapes planned) (λ attempt. unless_broken attempt.came) p new exchanges (Ok mark) held in
+      by_came on.front on.came on.came.came refl on.back on.held on.rest
+    where
+      by_came : (front : List Exchange) (attempt : Attempt) (came : Result WriteEnd Refusal) → attempt.came ≡ came → (back : List Exchange) → said.Held p.settings.manner (attempts shapes planned) front attempt → Held (unless_broken attempt.came) (asked_all front (made touches p)) back (Ok mark) new → Still p0 new
+      by_came front attempt (Ok (written.Done number)) is back was rest =
+          let end = subst (λ (c : Result WriteEnd Refusal). Held (unless_broken c) (asked_all front (made touches p)) back (Ok mark) new) is rest in
+          subst (Still p0) (sym end.2) (applied_still p0 p.settings.manner shapes planned front (made touches p) (applied_apart p.settings.manner shapes planned number front attempt was is).0 (touched_still p0 p still))
+      by_came front attempt (Ok (written.Refused number name)) is back was rest = absurd (let no : Ok mark ≡ Err _ = (subst (λ (c : Result WriteEnd Refusal). Held (unless_broken c) (asked_all front (made touches p)) back (Ok mark) new) is rest).1 in cc)
+      by_came front attempt (Err why) is back was rest = absurd (let no : Ok mark ≡ Err _ = (subst (λ (c : Result WriteEnd Refusal). Held (unless_broken c) (asked_all front (made touches p)) back (Ok mark) new) is rest).1 in cc)
 
   -- ---- by its form
 
   -- what makes values of another form succeeds at none
-  not_made : (form : Layer) (shapes : List TableTree) (of : Bound) (p new : SessionProgress) (exchanges : List Exchange) (effect : Effect) → ((vars : _) (values : _) → made_of form vars values ≡ Err (plain not_built)) → Still p0 p → Held (computes around form shapes of) p exchanges (Ok effect) new → ⊥
+  not_made : (form : Layer) (shapes : List TableTree) (of : Bound) (p new : SessionProgress) (exchanges : List Exchange) (effect : Effect) → ((vars : _) (values : _) → made_of form vars values ≡ Err (plain not_bound_so)) → Still p0 p → Held (computes around form shapes of) p exchanges (Ok effect) new → ⊥
   not_made form shapes of p new exchanges effect not still held =
       let made = computes_apart form shapes of p new exchanges effect still held in
-      let no : Err (plain not_built) ≡ Ok effect = sym (not p0.vars (first_row made.rows)) ∙ made.makes in absurd (cc)
+      let no : Err (plain not_bound_so) ≡ Ok effect = sym (not p0.vars (first_row made.rows)) ∙ made.makes in absurd (cc)
 
   pub worked_apart : (form : Layer) (shapes : List TableTree) (of : Bound) (p new : SessionProgress) (exchanges : List Exchange) (effect : Effect) → Still p0 p → Held (works_bound around form shapes of) p exchanges (Ok effect) new
       → (planned : List Planned) × IsWorked around p0 form shapes of planned effect exchanges
   worked_apart (Form-F.Select select) shapes of p new exchanges effect still held = ([], select_apart shapes of p new exchanges effect still held)
-  worked_apart (Form-F.Insert table columns rows) shapes of p new exchanges effect still held = change_apart shapes of p new exchanges effect still held
-  worked_apart (Form-F.Update table sets filter) shapes of p new exchanges effect still held = change_apart shapes of p new exchanges effect still held
-  worked_apart (Form-F.Delete table filter) shapes of p new exchanges effect still held = change_apart shapes of p new exchanges effect still held
-  worked_apart (Form-F.Drop kind name) shapes of p new exchanges effect still held = drop_apart kind shapes name p new exchanges effect still held
+  worked_apart (Form-F.Insert table columns rows) shapes of p new exchanges effect still held = absurd (not_made (Form-F.Insert table columns rows) shapes of p new exchanges effect (λ vars values. refl) still held)
+  worked_apart (Form-F.Update table sets filter) shapes of p new exchanges effect still held = absurd (not_made (Form-F.Update table sets filter) shapes of p new exchanges effect (λ vars values. refl) still held)
+  worked_apart (Form-F.Delete table filter) shapes of p new exchanges effect still held = absurd (not_made (Form-F.Delete table filter) shapes of p new exchanges effect (λ vars values. refl) still held)
   worked_apart (Form-F.CreateTable table text) shapes of p new exchanges effect still held = absurd (not_made (Form-F.CreateTable table text) shapes of p new exchanges effect (λ vars values. refl) still held)
   worked_apart form shapes of p new exchanges effect still held = ([], computes_apart form shapes of p new exchanges effect still held)
 

@@ -1,6 +1,9 @@
 -- The work of a statement within its transaction makes no step but that it assigns variables and asks for its locks' end, and neither begins
 -- nor ends a transaction. So it leaves the session as it was, but for its variables and its savepoints.
-use Rattle.std.proofs.Common.{◌≡◌, ℕ, Bool, true, List, [], ◌∷◌, length, Option, None, Some, Result, Ok, Err, refl, ap, ◌∙◌}
+use Rattle.std.proofs.Common.{◌≡◌, ℕ, true, List, [], ◌∷◌, length, Option, None, Some, Result, Ok, Err, refl, ap, ◌∙◌}
+use Rattle.value_types.specs.Units.{same_units}
+use Rattle.tsql_tree.specs.declared.definition.Definition.{Definition}
+use Rattle.tsql_tree.specs.declared.definition.Definition.TheVariants.{Table, Procedure, Trigger}
 use Rattle.tsql_tree.specs.declared.definition.TableTree.{TableTree}
 use Rattle.tsql_tree.specs.declared.statement.DropKind.{DropKind}
 use Rattle.tsql_tree.specs.declared.statement.DropKind.TheVariants as drop
@@ -19,22 +22,26 @@ use Rattle.step_model.specs.declared.reply.Reply.{Reply}
 use Rattle.step_model.specs.declared.reply.Reply.TheVariants as replies
 use Rattle.step_model.specs.Dialog.{IsQuiet}
 use Rattle.step_model.specs.Exchange.{Exchange, CanReply}
-use Rattle.constraint_check.specs.Reads.{rows_table, shape_of}
+use Rattle.constraint_check.specs.Reads.{shape_of}
 use Rattle.dml_exec.specs.declared.refusal.Level.TheVariants.{Serializable}
 use Rattle.dml_exec.specs.declared.refusal.Refusal.{Refusal}
 use Rattle.dml_exec.specs.declared.written.Written.{Written}
 use Rattle.dml_exec.specs.declared.written.Written.TheVariants as written
+use Rattle.dml_exec.specs.Planning.{table_written}
+use Rattle.dml_exec.specs.Reading.{none_given}
 use Rattle.dml_exec.specs.Writing.{attempts}
 use Rattle.reading_laws.specs.Reads.{IsFetch}
 use Rattle.batch_meaning.specs.declared.failure.Failure.{Failure}
 use Rattle.batch_meaning.specs.Raised.{Around}
-use Rattle.batch_meaning.specs.Changing.{object_present, not_there, planned_over, told_by, created, dropped, unless_referred, whole}
+use Rattle.batch_meaning.specs.Changing.{created, definition_erased, dropped, not_there, object_present, planned_over, told_by, unless_referred, whole}
 use Rattle.batch_meaning.specs.Selecting.{Effect, bound_over, no_effect}
 use Rattle.batch_meaning.specs.Progress.{SessionProgress, SessionStep, assigns, fills, touches, made, asked}
 use Rattle.batch_meaning.specs.Values.{Assigned, rows_assigned}
 use Rattle.batch_meaning.specs.Doing.{Doing, over, reads, asks, Held}
 use Rattle.batch_meaning.specs.Asking.{fails_naming, with_room, comes_to, unless_refused, looks_up, reads_at, reads_definitions, reads_images, unless_broken, applies, assigns_all, takes_back, where_done, marked}
-use Rattle.batch_meaning.specs.Working.{answers, assigns_rows, binds, change_bound, changes, computes, creates, drops, drops_in, drops_kind, if_it_fits, inserted, prepares, select_bound, selects, selects_into, unless_objects, works_bound}
+use Rattle.batch_meaning.specs.Tokens.{done_kind}
+use Rattle.batch_meaning.specs.Working.{answers, assigns_rows, binds, computes, given_in, if_it_fits, known_by, prepares, select_bound, selects, selects_into, works_bound}
+use Rattle.batch_meaning.specs.Writes.{change_bound, changes, creates, drops_definition, drops_found, drops_table, fired_by, fires_of, inserted, shape_or, unless_objects}
 use Rattle.statement_paths.proofs.Only.{IsTouch, Only, held_keeps, only_bind, only_comes, only_gives, only_if, only_mono, only_naming, only_room, says_quiet}
 use Rattle.statement_paths.proofs.Still.{Reads}
 use Rattle.statement_paths.proofs.Looking.{looks_read, definitions_read}
@@ -123,59 +130,59 @@ module _ (around : Around) (p0 : SessionProgress) where
   select_works shapes bound.Plain = tt
   select_works shapes (bound.Write write) = tt
 
-  changes_work : (shapes : List TableTree) (write : BoundWrite) → Works (changes around shapes write)
+  changes_work : (shape : TableTree) (shapes : List TableTree) (write : BoundWrite) → Works (changes around shape shapes write)
   unfolding changes
-  changes_work shapes write =
+  changes_work shape shapes write =
       only_bind IsWorkStep IsQuiet reads_definitions _ (reads_work reads_definitions definitions_read) (λ definitions.
-      only_bind IsWorkStep IsQuiet (reads_images shapes (bound.Write write)) _ (reads_work (reads_images shapes (bound.Write write)) (images_read shapes (bound.Write write))) (λ images.
-      only_bind IsWorkStep IsQuiet (reads λ p. comes_to (planned_over around p shapes write images)) _ (λ p. only_comes IsWorkStep IsQuiet (planned_over around p shapes write images)) (λ planned.
-      only_bind IsWorkStep IsQuiet (reads λ p. comes_to (Ok (told_by p.settings.no_count write planned))) _ (λ p. only_comes IsWorkStep IsQuiet (Ok (told_by p.settings.no_count write planned))) (λ effect.
+      only_bind IsWorkStep IsQuiet (reads_images (given_in around.fired) (shape ∷ shapes) (bound.Write write)) _ (reads_work (reads_images (given_in around.fired) (shape ∷ shapes) (bound.Write write)) (images_read (given_in around.fired) (shape ∷ shapes) (bound.Write write))) (λ images.
+      only_bind IsWorkStep IsQuiet (reads λ p. comes_to (planned_over around p (shape ∷ shapes) write images)) _ (λ p. only_comes IsWorkStep IsQuiet (planned_over around p (shape ∷ shapes) write images)) (λ planned.
+      only_bind IsWorkStep IsQuiet (reads λ p. comes_to (Ok (told_by (done_kind around) p.settings.no_count write planned))) _ (λ p. only_comes IsWorkStep IsQuiet (Ok (told_by (done_kind around) p.settings.no_count write planned))) (λ effect.
       only_bind IsWorkStep IsQuiet (if_it_fits effect) _ (reads_work (if_it_fits effect) (fits_read around p0 effect)) (λ fitting.
-      only_bind IsWorkStep IsQuiet (with_room (applies (tables_of definitions) planned)) (λ put. over (Ok fitting)) (only_room IsWorkStep IsQuiet (applies (tables_of definitions) planned) (applies_works (tables_of definitions) planned)) (λ put. tt))))))
+      only_bind IsWorkStep IsQuiet (comes_to (Ok (fires_of around definitions write))) _ (only_comes IsWorkStep IsQuiet (Ok (fires_of around definitions write))) (λ fires.
+      only_bind IsWorkStep IsQuiet (comes_to (Ok (fired_by (shape_or shape (shape_of (table_written write) (shape ∷ shapes))) write images planned))) _ (only_comes IsWorkStep IsQuiet (Ok (fired_by (shape_or shape (shape_of (table_written write) (shape ∷ shapes))) write images planned))) (λ fired.
+      only_bind IsWorkStep IsQuiet (with_room (applies (tables_of definitions) planned)) _ (only_room IsWorkStep IsQuiet (applies (tables_of definitions) planned) (applies_works (tables_of definitions) planned)) (λ put. tt))))))))
 
-  change_works : (shapes : List TableTree) (of : Bound) → Works (change_bound around shapes of)
+  pub change_works : (shapes : List TableTree) (of : Bound) → Works (change_bound around shapes of)
   change_works [] of = tt
-  change_works (shape ∷ shapes) (bound.Write write) = changes_work (shape ∷ shapes) write
+  change_works (shape ∷ shapes) (bound.Write write) = changes_work shape shapes write
   change_works (shape ∷ shapes) (bound.Query query) = tt
   change_works (shape ∷ shapes) (bound.Assign query places) = tt
   change_works (shape ∷ shapes) bound.Plain = tt
 
-  drops_work : (shapes : List TableTree) (shape : TableTree) (name : List ℕ) → Works (drops around shapes shape name)
-  unfolding drops
-  drops_work shapes shape name =
+  drops_work : (shape : TableTree) (name : List ℕ) → Works (drops_table around shape name)
+  unfolding drops_table
+  drops_work shape name =
       only_bind IsWorkStep IsQuiet reads_definitions _ (reads_work reads_definitions definitions_read) (λ definitions.
       only_bind IsWorkStep IsQuiet (comes_to (unless_referred name (tables_of definitions))) _ (only_comes IsWorkStep IsQuiet (unless_referred name (tables_of definitions))) (λ free.
-      only_bind IsWorkStep IsQuiet (with_room (reads_at Serializable shapes (bound.Write (whole name)))) _
-      (only_room IsWorkStep IsQuiet (reads_at Serializable shapes (bound.Write (whole name))) (reads_work (reads_at Serializable shapes (bound.Write (whole name))) (at_level_reads Serializable shapes (bound.Write (whole name))))) (λ images.
-      only_bind IsWorkStep IsQuiet (reads λ p. comes_to (dropped around p shape name images)) _ (λ p. only_comes IsWorkStep IsQuiet (dropped around p shape name images)) (λ planned.
+      only_bind IsWorkStep IsQuiet (with_room (reads_at none_given Serializable (shape ∷ []) (bound.Write (whole name)))) _
+      (only_room IsWorkStep IsQuiet (reads_at none_given Serializable (shape ∷ []) (bound.Write (whole name))) (reads_work (reads_at none_given Serializable (shape ∷ []) (bound.Write (whole name))) (at_level_reads none_given Serializable (shape ∷ []) (bound.Write (whole name))))) (λ images.
+      only_bind IsWorkStep IsQuiet (reads λ p. comes_to (dropped around p definitions shape name images)) _ (λ p. only_comes IsWorkStep IsQuiet (dropped around p definitions shape name images)) (λ planned.
       only_bind IsWorkStep IsQuiet (applies [] planned) (λ put. over (Ok no_effect)) (applies_works [] planned) (λ put. tt)))))
 
-  drops_in_work : (found : Option TableTree) (shapes : List TableTree) (name : List ℕ) → Works (drops_in around found shapes name)
-  drops_in_work None shapes name = only_naming IsWorkStep IsQuiet Effect not_there name
-  drops_in_work (Some shape) shapes name = drops_work shapes shape name
+  erases_work : (name : List ℕ) → Works (drops_definition around name)
+  unfolding drops_definition
+  erases_work name = only_bind IsWorkStep IsQuiet (with_room (applies [] (definition_erased name ∷ []))) (λ put. over (Ok no_effect)) (only_room IsWorkStep IsQuiet (applies [] (definition_erased name ∷ [])) (applies_works [] (definition_erased name ∷ []))) (λ put. tt)
 
-  drop_works : (kind : DropKind) (shapes : List TableTree) (name : List ℕ) → Works (drops_kind around kind shapes name)
-  drop_works drop.Table shapes name = drops_in_work (shape_of (rows_table name) shapes) shapes name
-  drop_works other shapes name = only_naming IsWorkStep IsQuiet Effect not_there name
+  pub drop_works : (kind : DropKind) (name : List ℕ) (found : Option Definition) → Works (drops_found around kind name found)
+  drop_works drop.Table name (Some (Table table)) = only_if IsWorkStep IsQuiet (same_units table.name name) (drops_table around table name) (fails_naming not_there name) (drops_work table name) (only_naming IsWorkStep IsQuiet Effect not_there name)
+  drop_works drop.Procedure name (Some (Procedure procedure)) = only_if IsWorkStep IsQuiet (same_units procedure.name name) (drops_definition around name) (fails_naming not_there name) (erases_work name) (only_naming IsWorkStep IsQuiet Effect not_there name)
+  drop_works drop.Trigger name (Some (Trigger trigger)) = only_if IsWorkStep IsQuiet (same_units trigger.name name) (drops_definition around name) (fails_naming not_there name) (erases_work name) (only_naming IsWorkStep IsQuiet Effect not_there name)
+  drop_works kind name found = only_naming IsWorkStep IsQuiet Effect not_there name
 
   pub worked_works : (form : Layer) (shapes : List TableTree) (of : Bound) → Works (works_bound around form shapes of)
   worked_works (Form-F.Select select) shapes of = select_works shapes of
-  worked_works (Form-F.Insert table columns rows) shapes of = change_works shapes of
-  worked_works (Form-F.Update table sets filter) shapes of = change_works shapes of
-  worked_works (Form-F.Delete table filter) shapes of = change_works shapes of
-  worked_works (Form-F.Drop kind name) shapes of = drop_works kind shapes name
   worked_works form shapes of = reads_work (computes around form shapes of) (computes_read around p0 form shapes of)
 
 -- ---- bound statements
 
-pub prepares_reads : (statement : Statement) → Reads (prepares statement)
+pub prepares_reads : (around : Around) (statement : Statement) → Reads (prepares around statement)
 unfolding prepares
-prepares_reads statement = only_bind IsTouch IsFetch (looks_up [] (looked_up statement)) _ (looks_read (looked_up statement) []) (λ definitions.
+prepares_reads around statement = only_bind IsTouch IsFetch (looks_up (known_by around statement) [] (looked_up statement)) _ (looks_read (known_by around statement) (looked_up statement) []) (λ definitions.
     only_bind IsTouch IsFetch (reads λ p. comes_to (bound_over definitions p.vars statement)) _ (λ p. only_comes IsTouch IsFetch (bound_over definitions p.vars statement)) (λ of. only_comes IsTouch IsFetch (Ok (tables_of definitions, of))))
 
-pub binds_work : {A : Type 0} (statement : Statement) (go : List TableTree → Bound → Doing (Result A Failure)) → ((shapes : List TableTree) (of : Bound) → Works (go shapes of)) → Works (binds statement go)
+pub binds_work : {A : Type 0} (around : Around) (statement : Statement) (go : List TableTree → Bound → Doing (Result A Failure)) → ((shapes : List TableTree) (of : Bound) → Works (go shapes of)) → Works (binds around statement go)
 unfolding binds
-binds_work statement go more = only_bind IsWorkStep IsQuiet (prepares statement) (λ made. go made.0 made.1) (reads_work (prepares statement) (prepares_reads statement)) (λ made. more made.0 made.1)
+binds_work around statement go more = only_bind IsWorkStep IsQuiet (prepares around statement) (λ made. go made.0 made.1) (reads_work (prepares around statement) (prepares_reads around statement)) (λ made. more made.0 made.1)
 
 pub unless_works : (name : List ℕ) (tree : Doing (Result Effect Failure)) → Works tree → Works (unless_objects name tree)
 unless_works name tree more = only_if IsWorkStep IsQuiet (is_objects name) (fails_naming object_present name) tree (only_naming IsWorkStep IsQuiet Effect object_present name) more
@@ -205,18 +212,22 @@ works_own tree works = only_mono IsWorkStep IsOwnStep IsQuiet IsQuiet work_owns 
 abbrev pub Worked : SessionProgress → SessionProgress → Type 0
 Worked p q = q ≡ record p { vars = q.vars; cursors = q.cursors; touched = q.touched; txn = q.txn }
 
-quiet_open : (op : Op) (reply : Reply) (q : SessionProgress) → IsQuiet op → CanReply op reply → (asked op reply q).is_open ≡ q.is_open
-quiet_open (ops.Fetch table start stop hold part) (replies.Ended place) q quiet can = absurd can
-quiet_open (ops.Insert table key row) (replies.Ended place) q quiet can = absurd can
-quiet_open (ops.Replace table key row) (replies.Ended place) q quiet can = absurd can
-quiet_open (ops.Erase table key) (replies.Ended place) q quiet can = absurd can
-quiet_open ops.Mark (replies.Ended place) q quiet can = absurd can
-quiet_open (ops.BackTo mark) (replies.Ended place) q quiet can = absurd can
-quiet_open ops.Begin reply q quiet can = absurd quiet
-quiet_open ops.Relax reply q quiet can = absurd quiet
-quiet_open ops.Commit reply q quiet can = absurd quiet
-quiet_open ops.Rollback reply q quiet can = absurd quiet
-quiet_open op reply q quiet can = refl
+-- what a quiet operation leaves
+abbrev Quieted : SessionProgress → SessionProgress → Type 0
+Quieted q r = r ≡ record q { touched = r.touched; txn = r.txn }
+
+quiet_same : (op : Op) (reply : Reply) (q : SessionProgress) → IsQuiet op → CanReply op reply → Quieted q (asked op reply q)
+quiet_same (ops.Fetch table start stop hold part) (replies.Ended place) q quiet can = absurd can
+quiet_same (ops.Insert table key row) (replies.Ended place) q quiet can = absurd can
+quiet_same (ops.Replace table key row) (replies.Ended place) q quiet can = absurd can
+quiet_same (ops.Erase table key) (replies.Ended place) q quiet can = absurd can
+quiet_same ops.Mark (replies.Ended place) q quiet can = absurd can
+quiet_same (ops.BackTo mark) (replies.Ended place) q quiet can = absurd can
+quiet_same ops.Begin reply q quiet can = absurd quiet
+quiet_same ops.Relax reply q quiet can = absurd quiet
+quiet_same ops.Commit reply q quiet can = absurd quiet
+quiet_same ops.Rollback reply q quiet can = absurd quiet
+quiet_same op reply q quiet can = refl
 
 module _ (p : SessionProgress) where
   by_step : (step : SessionStep) (q : SessionProgress) → IsOwnStep step → Worked p q → Worked p (made step q)
@@ -226,9 +237,7 @@ module _ (p : SessionProgress) where
   by_step step q work worked = absurd work
 
   by_op : (op : Op) (reply : Reply) (q : SessionProgress) → IsQuiet op → CanReply op reply → Worked p q → Worked p (asked op reply q)
-  by_op op reply q quiet can worked =
-      ap (λ (b : Bool). record q { is_open = b; touched = (asked op reply q).touched; txn = (asked op reply q).txn }) (quiet_open op reply q quiet can)
-      ∙ ap (λ (s : SessionProgress). record s { touched = (asked op reply q).touched; txn = (asked op reply q).txn }) worked
+  by_op op reply q quiet can worked = quiet_same op reply q quiet can ∙ ap (λ (s : SessionProgress). record s { touched = (asked op reply q).touched; txn = (asked op reply q).txn }) worked
 
   pub owns_leave : {A : Type 0} (tree : Doing A) (new : SessionProgress) (exchanges : List Exchange) (a : A) → Owns tree → Held tree p exchanges a new → Worked p new
   owns_leave tree new exchanges a owns held = held_keeps IsOwnStep IsQuiet (Worked p) by_step by_op tree p new exchanges a owns held refl

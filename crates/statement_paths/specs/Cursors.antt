@@ -16,7 +16,7 @@ use Rattle.batch_meaning.specs.Doing.{Held}
 use Rattle.batch_meaning.specs.Progress.{SessionProgress}
 use Rattle.batch_meaning.specs.Raised.{Around}
 use Rattle.batch_meaning.specs.Selecting.{Effect, bound_over, no_effect}
-use Rattle.batch_meaning.specs.Working.{asks_any}
+use Rattle.batch_meaning.specs.Working.{asks_any, known_by}
 use Rattle.statement_paths.specs.Paths.{AreLookedUp, IsAnswered, IsAround}
 
 module _ (around : Around) (p : SessionProgress) where
@@ -28,7 +28,7 @@ module _ (around : Around) (p : SessionProgress) where
     pub looked : List Exchange
     pub read : List Exchange
     pub parts : worked ≡ looked ++ read
-    pub looks : AreLookedUp p.settings.manner [] (looked_up select) looked definitions
+    pub looks : AreLookedUp p.settings.manner (known_by around select) [] (looked_up select) looked definitions
     pub binds : bound_over definitions p.vars select ≡ Ok (bound.Query query)
     pub answered : IsAnswered around p (tables_of definitions) query rows read
     pub fills : new.cursors ≡ filled name (kinds_of query) rows p.cursors
@@ -40,7 +40,7 @@ module _ (around : Around) (p : SessionProgress) where
     pub shut : fill_answer name p.cursors ≡ Ok tt
     pub worked : List Exchange
     pub filled : IsFilled name (select_statement statement select) worked new
-    pub asks : IsAround (asks_any (looked_up (select_statement statement select))) p.is_open true p.settings.manner worked exchanges
+    pub asks : IsAround (asks_any (known_by around (select_statement statement select)) (looked_up (select_statement statement select))) p.is_open true p.settings.manner worked exchanges
     pub tells : effect ≡ no_effect
 
 -- an OPEN that succeeded

@@ -82,7 +82,7 @@ created_reads text statements (tree, stands, is) =
     let (h, d) = cuts (plain_language text) r.Batch (terminals (lexemes_of text)) tree (start true) t reads in
     batch_keeps text (are_declared statements) h (terminals (lexemes_of text)) tree (end_of (lexemes_of text)) (start true) t statements refl d (λ i. record { judges = refl; none = refl }) no_fault (sym is) (λ e. e)
 
-defines : (most : ℕ) (declared : Bool) (layer : Layer) → most ≤ longest_text → KeptReadsAs most declared layer → KeptDefinesAs declared layer
+pub defines : (most : ℕ) (declared : Bool) (layer : Layer) → most ≤ longest_text → KeptReadsAs most declared layer → KeptDefinesAs declared layer
 defines most declared (Form-F.CreateTable table kept) short (few, reads) = λ stays. record { short = omega (arith, short, few); reads = reads stays; named = refl }
 defines most declared _ short reads = tt
 

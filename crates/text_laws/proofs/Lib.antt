@@ -14,4 +14,7 @@ pub mod Everywhere  -- what holds of a statement at whatever level
 pub mod Forms  -- the forms of statements
 pub mod Nested  -- statements that hold others
 pub mod Batches  -- each CREATE TABLE of a batch
+pub mod Bodies  -- the bodies of procedures and triggers
+pub mod Stating  -- what statements stand for, but for places
+pub mod Alone  -- a procedure or trigger alone
 pub mod Served  -- the statements that a text is read as

@@ -56,7 +56,7 @@ try_declares body handler = search the_lemmas
 declare_declares : (declarations : List Declaration) → form_declares (form.Declare declarations) ≡ true
 declare_declares declarations = search the_lemmas
 
-slice_length : (text : List ℕ) (from to : ℕ) → length (slice text from to) ≤ length text
+pub slice_length : (text : List ℕ) (from to : ℕ) → length (slice text from to) ≤ length text
 slice_length text from to = omega (arith, length-take (to - from) (drop from text), length-drop from text)
 
 -- a text, in which variables are declared, or not

@@ -1,39 +1,36 @@
--- Over whatever definitions and variables a CREATE TABLE is bound, what it keeps of a text that is read as statements defines its table.
-use Rattle.std.specs.Prelude.{◌≡◌, Bool, true, false, ◌&&◌, if◌then◌else◌, List, map, Ok, Err, refl}
-use Rattle.std.specs.List.{AllByRecursion}
-use Rattle.std.proofs.Common.{sym, subst}
+-- What a text is read as reads back: over whatever definitions and variables a CREATE TABLE is bound, what it keeps of the text defines its
+-- table; and what CREATE PROCEDURE or CREATE TRIGGER keeps defines such a procedure or trigger.
+use Rattle.std.specs.Prelude.{◌≡◌, ℕ, ◌≤◌, List, length, Ok, Err}
+use Rattle.std.proofs.Common.{sym, subst, arith}
+use Rattle.tsql_tree.specs.declared.definition.Definition.TheVariants as definition
+use Rattle.tsql_tree.specs.declared.definition.Definition.{Definition as Defined}
 use Rattle.tsql_tree.specs.declared.statement.Batch.TheVariants.{Definition, Body}
-use Rattle.tsql_tree.specs.declared.statement.Form.{Form-F}
-use Rattle.tsql_tree.specs.declared.statement.Statement.{Statement}
 use Rattle.query_parser.specs.declared.fault.ParseFault.TheVariants as fault
-use Rattle.binder.specs.Names.{Layer, form_of}
-use Rattle.batch_meaning.specs.declared.form.ReadText.TheVariants as text
-use Rattle.batch_meaning.specs.Statements.{all_built, is_built}
-use Rattle.text_laws.specs.Laws.{Everywhere, KeptDefines, KeptDefinesAs, ReadsBack, ReadsBackAs, ServedText, StaysAs, TextReadsBack, are_declared}
-use Rattle.text_laws.proofs.Leaving.{created_stays}
-use Rattle.text_laws.proofs.Everywhere.{all_more, everywhere_more}
+use Rattle.stmt_parser.specs.Parsed.{BatchOf}
+use Rattle.catalog_rows.specs.Definitions.{defined_name, longest_text}
+use Rattle.text_laws.specs.Placeless.{AreLike}
+use Rattle.text_laws.specs.Laws.{KeepsDefinition, ServedText, TextReadsBack, are_declared}
+use Rattle.text_laws.proofs.Alone.{kept_definition}
 use Rattle.text_laws.proofs.Batches.{created_text}
+use Rattle.text_laws.proofs.Bodies.{statements_back}
 
-and_false : (a b : Bool) → b ≡ false → (a && b) ≡ false
-and_false true b e = e
-and_false false b e = refl
+-- what is alike has one name
+one_name : (of own : Defined) → AreLike of own → defined_name own ≡ defined_name of
+one_name (definition.Procedure of) (definition.Procedure own) like = sym like.name
+one_name (definition.Trigger of) (definition.Trigger own) like = sym like.name
+one_name (definition.Table of) own like = absurd like
+one_name (definition.Procedure of) (definition.Table own) like = absurd like
+one_name (definition.Procedure of) (definition.Trigger own) like = absurd like
+one_name (definition.Trigger of) (definition.Table own) like = absurd like
+one_name (definition.Trigger of) (definition.Procedure own) like = absurd like
 
-reads_back : (declared : Bool) (of : Statement) (layer : Layer) → StaysAs of layer → KeptDefinesAs declared layer → ReadsBackAs of layer
-reads_back declared of (Form-F.CreateTable table kept) stays defines = λ definitions vars bound e. defines (and_false declared _ (stays definitions vars bound e))
-reads_back declared of _ stays defines = tt
-
-statements_back : (declared : Bool) (statements : List Statement) → AllByRecursion (Everywhere (KeptDefines declared)) statements → AllByRecursion (Everywhere ReadsBack) statements
-statements_back declared statements all =
-    all_more (Everywhere (KeptDefines declared)) (Everywhere ReadsBack) (λ of each. everywhere_more (KeptDefines declared) ReadsBack (λ of defines. reads_back declared of (form_of of) (created_stays of) defines) of each)
-    statements all
-
-body_back : (built : Bool) (statements : List Statement) → AllByRecursion (Everywhere ReadsBack) statements → TextReadsBack (if built then text.Statements statements else text.NotBuilt)
-body_back true statements all = all
-body_back false statements all = tt
+keeps : (units : List ℕ) (n : ℕ) (of : Defined) (kept : List ℕ) → BatchOf units (Ok (Definition n of kept)) → length units ≤ longest_text → KeepsDefinition of kept
+keeps units n of kept reads short =
+    let (own, is, like, few) = kept_definition units n of kept reads in
+    (own, record { short = omega (arith, short, few); reads = is; named = one_name of own like }, like)
 
 pub served_text : ServedText
-served_text units read (Ok (Body body), reads, are) short =
-    subst TextReadsBack (sym are) (body_back (all_built (map is_built body)) body (statements_back (are_declared body) body (created_text units body reads short)))
-served_text units read (Ok (Definition n of kept), reads, are) short = subst TextReadsBack (sym are) tt
+served_text units read (Ok (Body body), reads, are) short = subst TextReadsBack (sym are) (statements_back (are_declared body) body (created_text units body reads short))
+served_text units read (Ok (Definition n of kept), reads, are) short = subst TextReadsBack (sym are) (keeps units n of kept reads short)
 served_text units read (Err (fault.Refused number line near), reads, (code, is, are)) short = subst TextReadsBack (sym are) tt
 served_text units read (Err fault.Memory, reads, are) short = absurd are

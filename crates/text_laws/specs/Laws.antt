@@ -1,11 +1,12 @@
--- Own: the laws of texts: what CREATE TABLE keeps of the batch's text is, alone, the text of that table, wherever it stands in the batch.
+-- Own: the laws of texts: what CREATE TABLE keeps of the text around it is, alone, the text of that table, wherever it stands in a batch or in
+-- the body of a procedure or trigger; and what CREATE PROCEDURE and CREATE TRIGGER keep is, alone, the text of such a definition.
 use Rattle.std.specs.Prelude.{◌≡◌, ℕ, zero, suc, ◌≤◌, Bool, true, false, ◌||◌, ◌&&◌, List, ◌∷◌, ◌++◌, map, length, None, Ok}
 use Rattle.std.specs.List.{AllByRecursion}
 use Rattle.std.specs.Option.{ForSome}
 use Rattle.tsql_lexer.specs.declared.lexeme.Spanned.{Spanned}
 use Rattle.tsql_lexer.specs.Reading.{lexing_of}
 use Rattle.tsql_tree.specs.declared.definition.Definition.{Definition}
-use Rattle.tsql_tree.specs.declared.definition.Definition.TheVariants.{Table}
+use Rattle.tsql_tree.specs.declared.definition.Definition.TheVariants.{Table, Procedure, Trigger}
 use Rattle.tsql_tree.specs.declared.statement.Batch.TheVariants.{Body}
 use Rattle.tsql_tree.specs.declared.statement.Form.{Form-F}
 use Rattle.tsql_tree.specs.declared.statement.Statement.{Statement, Statement-F, fold-Statement}
@@ -14,13 +15,14 @@ use Rattle.stmt_parser.specs.Parsed.{lexemes_of, BatchOf, DefinitionOf}
 use Rattle.session_vars.specs.declared.Variable.{Variable}
 use Rattle.bound_tree.specs.declared.write.Bound.{Bound}
 use Rattle.binder.specs.Names.{Layer, form_of}
-use Rattle.catalog_rows.specs.Definitions.{longest_text, Defines}
+use Rattle.catalog_rows.specs.Definitions.{longest_text, defined_name, Defines}
 use Rattle.batch_meaning.specs.declared.form.ReadText.{ReadText}
 use Rattle.batch_meaning.specs.declared.form.ReadText.TheVariants as text
 use Rattle.batch_meaning.specs.Selecting.{bound_over}
 use Rattle.batch_meaning.specs.Statements.{ReadsAs}
 use Rattle.text_laws.specs.Slices.{moved_by, end_behind}
 use Rattle.text_laws.specs.Rows.{some_of, maybe_so, table_leaves}
+use Rattle.text_laws.specs.Placeless.{AreLike}
 
 -- a slice from a lexeme to a lexeme has the lexemes between
 abbrev pub SliceLexes : Type 0
@@ -115,12 +117,26 @@ ReadsBackAs statement form = Unit {0}
 abbrev pub ReadsBack : Statement → Type 0
 ReadsBack statement = ReadsBackAs statement (form_of statement)
 
--- so it is of all statements that a text is read as
+-- so it is of all statements of a body
+abbrev pub BodyReadsBack : Definition → Type 0
+BodyReadsBack (Table table) = Unit {0}
+BodyReadsBack (Procedure procedure) = AllByRecursion (Everywhere ReadsBack) procedure.body
+BodyReadsBack (Trigger trigger) = AllByRecursion (Everywhere ReadsBack) trigger.body
+
+-- of what a text defines
+abbrev pub DefinedText : Type 0
+DefinedText = (name text : List ℕ) (definition : Definition) → Defines name text definition → BodyReadsBack definition
+
+-- what CREATE PROCEDURE or CREATE TRIGGER keeps defines the same, but for places: its lines count from its own first line
+abbrev pub KeepsDefinition : Definition → List ℕ → Type 0
+KeepsDefinition of kept = (own : Definition) × Defines (defined_name of) kept own × AreLike of own
+
+-- so it is of all that a text is read as
 abbrev pub TextReadsBack : ReadText → Type 0
 TextReadsBack (text.Statements statements) = AllByRecursion (Everywhere ReadsBack) statements
-TextReadsBack text.NotBuilt = Unit {0}
+TextReadsBack (text.Defines line of kept) = KeepsDefinition of kept
 TextReadsBack (text.Refused line code near) = Unit {0}
 
--- a text that is not too long is read as statements whose tables read back
+-- a text that is not too long is read as what reads back
 abbrev pub ServedText : Type 0
 ServedText = (units : List ℕ) (read : ReadText) → ReadsAs units read → length units ≤ longest_text → TextReadsBack read

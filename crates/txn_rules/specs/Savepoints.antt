@@ -1,7 +1,7 @@
 -- Transact-SQL reference, "SAVE TRANSACTION": the savepoints of a transaction, in the order in which they
 -- were set. Several may have one name, and the latest of them counts. The code keeps the mark of the last
 -- that it has met.
-use Rattle.std.specs.Prelude.{ℕ, Bool, nat_le, if◌then◌else◌, List, [], ◌∷◌, Option, Some, None, filter}
+use Rattle.std.specs.Prelude.{ℕ, Bool, nat_le, ◌==◌, not, if◌then◌else◌, List, [], ◌∷◌, Option, Some, None, filter}
 use Rattle.value_types.specs.Units.{same_units}
 use Rattle.txn_rules.specs.declared.savepoints.Savepoint.{Savepoint}
 
@@ -12,6 +12,13 @@ is_kept mark savepoint = nat_le savepoint.mark mark
 -- the savepoints that a return to a mark leaves: those whose mark isn't above it
 abbrev pub up_to : ℕ → List Savepoint → List Savepoint
 up_to mark savepoints = filter (is_kept mark) savepoints
+
+-- the savepoints of other marks
+abbrev pub is_other : ℕ → Savepoint → Bool
+is_other mark savepoint = not (savepoint.mark == mark)
+
+abbrev pub without : ℕ → List Savepoint → List Savepoint
+without mark savepoints = filter (is_other mark) savepoints
 
 -- the mark of the last of the savepoints that has the name, or this one where none has
 abbrev pub mark_behind : Option ℕ → List ℕ → List Savepoint → Option ℕ

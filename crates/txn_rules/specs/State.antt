@@ -1,13 +1,12 @@
 -- Transact-SQL reference, "BEGIN TRANSACTION", "COMMIT TRANSACTION", "SAVE TRANSACTION", "ROLLBACK
 -- TRANSACTION" and "XACT_STATE": what these statements make of a session's state of transactions, and the
 -- errors that refuse them. A state is one record here; the code changes its fields.
-use Rattle.std.specs.Prelude.{ℕ, ◌+◌, ◌-◌, min, ℤ, pos, negsuc, Bool, true, false, ◌==◌, if◌then◌else◌, List, [], ◌∷◌, ◌++◌, Option, Some, None, Result, Ok, Err}
+use Rattle.std.specs.Prelude.{ℕ, ◌+◌, ◌-◌, min, ℤ, pos, negsuc, Bool, false, ◌==◌, if◌then◌else◌, List, [], ◌∷◌, ◌++◌, Option, Some, None, Result, Ok, Err}
 use Rattle.value_types.specs.Units.{same_units}
-use Rattle.txn_rules.specs.declared.savepoints.Savepoint.{Savepoint}
 use Rattle.txn_rules.specs.declared.state.BackKind.{BackKind}
 use Rattle.txn_rules.specs.declared.state.BackKind.TheVariants.{Mark, Whole}
 use Rattle.txn_rules.specs.declared.state.TxnState.{TxnState}
-use Rattle.txn_rules.specs.Savepoints.{mark_of, up_to}
+use Rattle.txn_rules.specs.Savepoints.{mark_of, up_to, without}
 
 -- the most transactions that can be open in one another
 abbrev pub count_limit : ℕ
@@ -82,6 +81,15 @@ rollback_answer name state = if is_closed state then Err (pos 3903) else back_to
 -- a return to a mark
 abbrev pub after_cut : ℕ → TxnState → TxnState
 after_cut mark state = record state { saves = up_to mark state.saves }
+
+-- While triggers run, the mark of their statement stands among the savepoints, without a name. A transaction that is the statement's own
+-- counts from then on as one that was begun, without a number.
+abbrev pub after_fire : ℕ → TxnState → TxnState
+after_fire mark state = after_save [] mark (if is_closed state then record state { count = 1 } else state)
+
+-- behind them, where that transaction stands; another has marks of its own
+abbrev pub after_fired : ℕ → TxnState → TxnState
+after_fired mark state = record state { saves = without mark state.saves }
 
 -- XACT_STATE(): 1 where a transaction is open, -1 where it is doomed, 0 where none is
 abbrev pub xact_state : TxnState → ℤ

@@ -1,7 +1,7 @@
 //! The savepoints of a transaction.
 
 ghost use Rattle.std.specs.Prelude.{◌≡◌, ◌++◌, ◌∷◌, [], OnErr, OnOk};
-ghost use Rattle.txn_rules.specs.Savepoints.{is_kept, mark_of, up_to};
+ghost use Rattle.txn_rules.specs.Savepoints.{is_kept, is_other, mark_of, up_to, without};
 
 use std::alloc::Global;
 use std::marker::Model;
@@ -64,6 +64,13 @@ impl Savepoints {
     {
         self.savepoints.push(savepoint)?;
         Ok(())
+    }
+
+    /// Drops the savepoint of this mark.
+    pub(crate) fn drop_mark(&mut self, mark: u64)
+        ensures { self.new ≡ without mark self.old }
+    {
+        self.savepoints.retain(|savepoint| savepoint.mark != mark);
     }
 
     /// The mark of the latest savepoint of this name.

@@ -2,7 +2,7 @@
 
 ghost use Rattle.std.specs.Prelude.{◌≡◌, ◌<◌, ◌↔◌, ℤ, Some, None, OnErr, OnOk};
 ghost use Rattle.txn_rules.specs.Savepoints.{mark_of};
-ghost use Rattle.txn_rules.specs.State.{after_begin, after_commit, after_cut, after_end, after_save, back_to, commit_answer, count_limit, is_called, is_closed, no_transaction, rollback_answer, save_refusal, whole_answer, xact_state};
+ghost use Rattle.txn_rules.specs.State.{after_begin, after_commit, after_cut, after_end, after_fire, after_fired, after_save, back_to, commit_answer, count_limit, is_called, is_closed, no_transaction, rollback_answer, save_refusal, whole_answer, xact_state};
 
 use crate::savepoints::{Savepoint, Savepoints};
 use std::alloc::Global;
@@ -142,6 +142,29 @@ impl TxnState {
             Some(called) if *called == *name => Ok(BackKind::Whole),
             _ => Err(6401),
         }
+    }
+
+    /// The mark of a statement whose triggers run stands among the savepoints, without a name. Where no transaction was
+    /// begun, the statement's own counts as one.
+    pub fn fire(&mut self, alloc: Global, mark: u64) -> Result<(), Memory>
+        ensures fired { OnOk result (self.new ≡ after_fire mark self.old) }
+        ensures err { OnErr result (self.new ≡ self.old) }
+    {
+        self.saves.push(Savepoint {
+            name: Units::new(alloc),
+            mark,
+        })?;
+        if self.count == 0 {
+            self.count = 1;
+        }
+        Ok(())
+    }
+
+    /// Drops the mark of a statement whose triggers have run.
+    pub fn fired(&mut self, mark: u64)
+        ensures { self.new ≡ after_fired mark self.old }
+    {
+        self.saves.drop_mark(mark);
     }
 
     /// Drops the savepoints that a return to this mark leaves behind.

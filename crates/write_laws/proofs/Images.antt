@@ -2,6 +2,7 @@
 use Rattle.std.proofs.Common.{◌≡◌, refl, sym, ap, ◌∙◌, subst, ℕ, zero, suc, ◌+◌, Bool, true, false, if◌then◌else◌, List, [], ◌∷◌, ◌++◌, length, get_or, arith, Option, Some, None, Result, Ok, Err}
 use Rattle.std.proofs.lemmas.Bool.{and_parts}
 use Rattle.std.proofs.lemmas.List.{length-append}
+use Rattle.std.specs.Option.{ForSome}
 use Rattle.value_types.specs.declared.value.Value.{Value}
 use Rattle.tsql_tree.specs.declared.definition.TableTree.{TableTree}
 use Rattle.bound_tree.specs.declared.write.Bound.TheVariants as bound
@@ -22,7 +23,7 @@ use Rattle.dml_exec.specs.declared.refusal.Level.{Level}
 use Rattle.dml_exec.specs.declared.refusal.Refusal.{Refusal}
 use Rattle.dml_exec.specs.declared.refusal.Refusal.TheVariants.{Memory}
 use Rattle.dml_exec.specs.Asking.{on_ok, ◌>>=◌, with_room, with_room_if}
-use Rattle.dml_exec.specs.Reading.{TableRead, behind_gone, fetches, fits, from, images_from, images_of, inner_reads, is_short, key_width, read_by, reads_on, reads_table, rows_from, rows_in, table_fetch}
+use Rattle.dml_exec.specs.Reading.{GivenRows, TableRead, behind_gone, fetches, fits, from, images_from, images_of, inner_reads, is_short, key_width, read_by, reads_on, reads_table, rows_from, rows_in, table_fetch, unless_given}
 use Rattle.write_laws.specs.Laws.{HaveColumns, RowsRead}
 use Rattle.write_laws.proofs.Changes.{all_both}
 
@@ -121,10 +122,15 @@ module _ (shape : TableTree) where
       comes_on (fetches width keeps fetch so_far) (reads_on (λ more start. rows_from width keeps left (from start fetch) more)) HaveSoFar Have (fetch_have width fetch so_far have)
       (behind_have (λ more start. rows_from width keeps left (from start fetch) more) (λ more start. range_have width left (from start fetch) more))
 
-  module _ (shapes : List TableTree) (level : Level) (target : TableRead) (known : shape_of target.0 shapes ≡ Some shape) where
-    table_have : Comes (reads_table shapes level target) (IfWell Have)
+  unless_have : (rows_given : Option Rows) (fetched : Dialog (Result Rows Refusal)) → ForSome rows_given Have → Comes fetched (IfWell Have) → Comes (unless_given rows_given fetched) (IfWell Have)
+  unless_have None fetched have comes = comes
+  unless_have (Some rows) fetched have comes = comes_room Memory (over (Ok rows)) Have (have rows refl)
+
+  module _ (given : GivenRows) (shapes : List TableTree) (level : Level) (target : TableRead) (known : shape_of target.0 shapes ≡ Some shape) (has : ForSome (given target.0) Have) where
+    table_have : Comes (reads_table given shapes level target) (IfWell Have)
     unfolding reads_table rows_in
-    table_have = subst (λ (of : Option TableTree). Comes (rows_from (key_width of) (fits of) range_limit (table_fetch level target) []) (IfWell Have)) (sym known) (range_have (key_width (Some shape)) range_limit (table_fetch level target) [] tt)
+    table_have = unless_have (given target.0) (rows_in (shape_of target.0 shapes) false (table_fetch level target)) has
+        (subst (λ (of : Option TableTree). Comes (rows_from (key_width of) (fits of) range_limit (table_fetch level target) []) (IfWell Have)) (sym known) (range_have (key_width (Some shape)) range_limit (table_fetch level target) [] tt))
 
     -- ---- the image of a target
 
@@ -132,23 +138,23 @@ module _ (shape : TableTree) where
     behind [] rows = refl
     behind (image ∷ images) rows = behind images rows
 
-    images_have : (images : List Rows) (reads : List TableRead) (place : ℕ) → place ≡ length images + length reads → Comes (images_from shapes level images (reads ++ target ∷ [])) (IfWell (λ all. Have (get_or all place [])))
+    images_have : (images : List Rows) (reads : List TableRead) (place : ℕ) → place ≡ length images + length reads → Comes (images_from given shapes level images (reads ++ target ∷ [])) (IfWell (λ all. Have (get_or all place [])))
     unfolding images_from
     images_have images [] place is =
-        comes_on (reads_table shapes level target) (λ rows. with_room Memory (images_from shapes level (images ++ rows ∷ []) [])) Have (λ all. Have (get_or all place [])) table_have
+        comes_on (reads_table given shapes level target) (λ rows. with_room Memory (images_from given shapes level (images ++ rows ∷ []) [])) Have (λ all. Have (get_or all place [])) table_have
         (λ rows have. comes_room Memory (over (Ok (images ++ rows ∷ []))) (λ all. Have (get_or all place []))
         (subst Have (sym (ap (λ n. get_or (images ++ rows ∷ []) n []) (omega (arith, is)) ∙ behind images rows)) have))
     images_have images (read ∷ reads) place is =
-        comes_on (reads_table shapes level read) (λ rows. with_room Memory (images_from shapes level (images ++ rows ∷ []) (reads ++ target ∷ []))) (λ rows. Unit {0}) (λ all. Have (get_or all place []))
-        (comes_whatever (reads_table shapes level read))
-        (λ rows any. comes_room Memory (images_from shapes level (images ++ rows ∷ []) (reads ++ target ∷ [])) (λ all. Have (get_or all place []))
+        comes_on (reads_table given shapes level read) (λ rows. with_room Memory (images_from given shapes level (images ++ rows ∷ []) (reads ++ target ∷ []))) (λ rows. Unit {0}) (λ all. Have (get_or all place []))
+        (comes_whatever (reads_table given shapes level read))
+        (λ rows any. comes_room Memory (images_from given shapes level (images ++ rows ∷ []) (reads ++ target ∷ [])) (λ all. Have (get_or all place []))
         (images_have (images ++ rows ∷ []) reads place (simp length-append (omega (arith, is)))))
 
 pub rows_read : RowsRead
 unfolding images_of
-rows_read shapes level (write.Insert table places given) shape manner exchanges images known held = tt
-rows_read shapes level (write.Update table sets test inner) shape manner exchanges images known held =
-    came manner (images_of shapes level (bound.Write (write.Update table sets test inner))) (IfWell (λ all. HaveColumns shape (get_or all (length (inner_reads inner)) []))) exchanges (Ok images)
-    (comes_room Memory (images_from shapes level [] (inner_reads inner ++ (table, true) ∷ [])) (λ all. HaveColumns shape (get_or all (length (inner_reads inner)) []))
-    (images_have shape shapes level (table, true) known [] (inner_reads inner) (length (inner_reads inner)) (omega arith))) held
-rows_read shapes level (write.Delete table test inner) shape manner exchanges images known held = tt
+rows_read given shapes level (write.Insert table places values) shape manner exchanges images known has held = tt
+rows_read given shapes level (write.Update table sets test inner) shape manner exchanges images known has held =
+    came manner (images_of given shapes level (bound.Write (write.Update table sets test inner))) (IfWell (λ all. HaveColumns shape (get_or all (length (inner_reads inner)) []))) exchanges (Ok images)
+    (comes_room Memory (images_from given shapes level [] (inner_reads inner ++ (table, true) ∷ [])) (λ all. HaveColumns shape (get_or all (length (inner_reads inner)) []))
+    (images_have shape given shapes level (table, true) known has [] (inner_reads inner) (length (inner_reads inner)) (omega arith))) held
+rows_read given shapes level (write.Delete table test inner) shape manner exchanges images known has held = tt

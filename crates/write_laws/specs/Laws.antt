@@ -27,7 +27,7 @@ use Rattle.constraint_check.specs.Laws.{KeysAreOne, Passes, behind}
 use Rattle.dml_exec.specs.declared.refusal.Level.{Level}
 use Rattle.dml_exec.specs.Filling.{Row}
 use Rattle.dml_exec.specs.Planning.{Chg, table_written}
-use Rattle.dml_exec.specs.Reading.{images_of, inner_reads}
+use Rattle.dml_exec.specs.Reading.{GivenRows, images_of, inner_reads}
 
 -- ---- the rows that were read
 
@@ -45,10 +45,10 @@ rows_before (write.Delete table test inner) images = []
 abbrev pub HaveColumns : TableTree → List Row → Type 0
 HaveColumns shape rows = AllByRecursion (λ row. IsTrue (has_columns shape.columns row)) rows
 
--- those that were read for a write have
+-- those that were read for a write have, and so have those that are given for its table, if there are such
 abbrev pub RowsRead : Type 0
-RowsRead = (shapes : List TableTree) (level : Level) (of : BoundWrite) (shape : TableTree) (manner : Manner) (exchanges : List Exchange) (images : List (List Row))
-    → shape_of (table_written of) shapes ≡ Some shape → Held manner (images_of shapes level (bound.Write of)) exchanges (Ok images) → HaveColumns shape (rows_before of images)
+RowsRead = (given : GivenRows) (shapes : List TableTree) (level : Level) (of : BoundWrite) (shape : TableTree) (manner : Manner) (exchanges : List Exchange) (images : List (List Row))
+    → shape_of (table_written of) shapes ≡ Some shape → ForSome (given (table_written of)) (HaveColumns shape) → Held manner (images_of given shapes level (bound.Write of)) exchanges (Ok images) → HaveColumns shape (rows_before of images)
 
 -- ---- the changes
 

@@ -1,5 +1,5 @@
 -- What a statement tells.
-use Rattle.std.specs.Prelude.{Bool}
+use Rattle.std.specs.Prelude.{Bool, ℤ}
 use Rattle.batch_meaning.specs.declared.raised.Raised.{Raised}
 use Rattle.batch_meaning.specs.Selecting.{Effect}
 use Rattle.batch_laws.proofs.Telling.{work_tells}
@@ -13,3 +13,6 @@ returns-clause-tests c = work_tells Bool
 
 pub returns-clause-messages : goal.returns-clause-messages
 returns-clause-messages c = work_tells Raised
+
+pub returns-clause-statuses : goal.returns-clause-statuses
+returns-clause-statuses c = work_tells ℤ

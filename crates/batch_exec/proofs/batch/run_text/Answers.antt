@@ -8,8 +8,10 @@ use Rattle.batch_exec.proofs.batch.run_text.Goals as goal
 pub returns-in-Statements-clause-does : goal.returns-in-Statements-clause-does
 returns-in-Statements-clause-does g c = rw c.in-Statements.is (rw (c.as_slice.ensures, c.batch.ensures) at c.run_statements.ensures.does statement_limit c.requires.left)
 
-pub returns-in-NotBuilt-clause-does : goal.returns-in-NotBuilt-clause-does
-returns-in-NotBuilt-clause-does g c = rw c.in-NotBuilt.is (does_refused _ _ (rw c.plain.ensures at c.refuse.ensures.refused) c.refuse.ensures.kept)
+pub returns-in-Defines-clause-does : goal.returns-in-Defines-clause-does
+returns-in-Defines-clause-does g c =
+    let same : to_z w32 (of_z w32 c.in-Defines.line) ≡ c.in-Defines.line = search rules in
+    rw c.in-Defines.is (rw same at c.define.ensures.does)
 
 pub returns-in_err-failure-in-Refused-clause-does : goal.returns-in_err-failure-in-Refused-clause-does
 returns-in_err-failure-in-Refused-clause-does g c = does_out _ c.from_residual.ensures.0 refl
@@ -17,4 +19,4 @@ returns-in_err-failure-in-Refused-clause-does g c = does_out _ c.from_residual.e
 pub returns-in_ok-failure-in-Refused-clause-does : goal.returns-in_ok-failure-in-Refused-clause-does
 returns-in_ok-failure-in-Refused-clause-does g c =
     let same : to_z w32 (of_z w32 c.in-Refused.line) ≡ c.in-Refused.line = search rules in
-    rw c.in-Refused.is (does_refused _ _ (rw (c.in_ok-failure-in-Refused.ensures, same) at c.refuse-in-Refused.ensures.refused) c.refuse-in-Refused.ensures.kept)
+    rw c.in-Refused.is (does_refused _ _ (rw (c.in_ok-failure-in-Refused.ensures, same) at c.refuse.ensures.refused) c.refuse.ensures.kept)

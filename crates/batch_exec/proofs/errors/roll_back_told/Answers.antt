@@ -11,10 +11,14 @@ pub returns-in_err-tokens-clause-does : goal.returns-in_err-tokens-clause-does
 unfolding rolls_back_told
 returns-in_err-tokens-clause-does g c = does_reads (does_yes _ _ _ (sym c.if-not-in_transaction.ensures) (does_out _ c.from_residual.ensures.0 refl))
 
-pub returns-in_err-send-in-Ended-clause-does : goal.returns-in_err-send-in-Ended-clause-does
+pub returns-in-Ended-clause-does : goal.returns-in-Ended-clause-does
 unfolding rolls_back_told
-returns-in_err-send-in-Ended-clause-does g c = does_reads (does_yes _ _ _ (sym c.if-not-in_transaction.ensures) (does_asks c.in-Ended.ensures.asked (does_out _ c.from_residual-in_err-send-in-Ended.ensures.0 c.in_err-send-in-Ended.ensures.kept)))
+returns-in-Ended-clause-does g c = does_reads (does_yes _ _ _ (sym c.if-not-in_transaction.ensures) (does_asks c.in-Ended.ensures.asked (rw (sym c.if-is_own.ensures) (does_over refl))))
 
-pub returns-clause-does : goal.returns-clause-does
+pub returns-in_err-send-in-Ended-2-clause-does : goal.returns-in_err-send-in-Ended-2-clause-does
 unfolding rolls_back_told
-returns-clause-does g c = does_reads (does_yes _ _ _ (sym c.if-not-in_transaction.ensures) (does_asks c.in-Ended.ensures.asked (does_makes (rw (c.in_ok-tokens.ensures, c.serial.ensures) at c.in_ok-send-in-Ended.ensures.sent) (does_over refl))))
+returns-in_err-send-in-Ended-2-clause-does g c = does_reads (does_yes _ _ _ (sym c.if-not-in_transaction.ensures) (does_asks c.in-Ended.ensures.asked (does_out _ c.from_residual-in_err-send-in-Ended-2.ensures.0 c.in_err-send-in-Ended-2.ensures.kept)))
+
+pub returns-in_ok-send-in-Ended-2-clause-does : goal.returns-in_ok-send-in-Ended-2-clause-does
+unfolding rolls_back_told
+returns-in_ok-send-in-Ended-2-clause-does g c = does_reads (does_yes _ _ _ (sym c.if-not-in_transaction.ensures) (does_asks c.in-Ended.ensures.asked (rw (sym c.if-is_own.ensures) (does_makes (rw (c.in_ok-tokens.ensures, c.serial.ensures) at c.in_ok-send-in-Ended-2.ensures.sent) (does_over refl)))))

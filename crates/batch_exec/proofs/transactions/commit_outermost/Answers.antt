@@ -7,7 +7,7 @@ use Rattle.batch_exec.proofs.TxnSteps.{does_afforded}
 use Rattle.batch_exec.proofs.transactions.commit_outermost.Goals as goal
 
 pub returns-in_err-tokens-clause-does : goal.returns-in_err-tokens-clause-does
-returns-in_err-tokens-clause-does g c = does_unaffordable _ _ _ _ _ c.from_residual.ensures.0 c.from_residual.ensures.1 (rw c.serial.ensures at c.transaction_committed.ensures) c.in_err-tokens.ensures
+returns-in_err-tokens-clause-does g c = does_unaffordable _ _ _ _ _ c.from_residual.ensures.0 c.from_residual.ensures.1 c.committed_tokens.ensures c.in_err-tokens.ensures
 
 pub returns-clause-does : goal.returns-clause-does
-returns-clause-does g c = does_room true (does_afforded _ _ _ (rw c.serial.ensures at c.transaction_committed.ensures) c.in_ok-tokens.ensures (λ is. does_asks c.in-Ended.ensures.asked (does_made (ap Ok (c.sending.ensures ∙ ap sending is)))))
+returns-clause-does g c = does_room true (does_afforded _ _ _ c.committed_tokens.ensures c.in_ok-tokens.ensures (λ is. does_asks c.in-Ended.ensures.asked (does_made (ap Ok (c.sending.ensures ∙ ap sending is)))))

@@ -15,4 +15,4 @@ returns-clause-typed c =
     let line : SFits w32 c.args.raised.now.line = search rules in
     let class : c.args.raised.now.class ≤ 255 = omega arith in
     let state : c.args.raised.now.state ≤ 255 = omega arith in
-    subst (λ (l : List Value). AreOf error_kinds l) (sym is) (errors_typed c.args.raised.now number class state line)
+    subst (λ (l : List Value). AreOf error_kinds l) (sym is) (errors_typed c.args.raised.now number class state line c.in_ok-procedure.ensures.short)

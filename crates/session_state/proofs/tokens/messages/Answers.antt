@@ -6,4 +6,4 @@ use Rattle.session_state.proofs.tokens.messages.Goals as goal
 pub new-requires : goal.new-requires
 new-requires c =
     let is : c.in_ok-vec.field-0.items ≡ info_token c.args.raised.now ∷ [] = search rules in
-    fits_as _ _ is (info_fits c.args.raised.now)
+    fits_as _ _ is (info_fits c.args.raised.now c.in_ok-notice_of.ensures.short)

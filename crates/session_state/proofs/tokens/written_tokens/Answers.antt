@@ -5,5 +5,5 @@ use Rattle.session_state.proofs.tokens.written_tokens.Goals as goal
 
 pub new-requires : goal.new-requires
 new-requires c =
-    let is : c.in_ok-vec.field-0.items ≡ statement_done c.args.no_count c.args.command c.args.rows ∷ [] = search rules in
-    fits_as _ _ is (written_fit c.args.no_count c.args.command c.args.rows)
+    let is : c.in_ok-vec.field-0.items ≡ statement_done c.args.kind c.args.no_count c.args.command c.args.rows ∷ [] = search rules in
+    fits_as _ _ is (written_fit c.args.kind c.args.no_count c.args.command c.args.rows)

@@ -1,4 +1,3 @@
-use Rattle.std.proofs.Common.{◌∙◌}
 use Rattle.batch_meaning.specs.Working.{prepares}
 use Rattle.batch_meaning.proofs.Composed.{does_bind, does_fail}
 use Rattle.statement_exec.proofs.Preparing.{shaped_begun, shaped_bound}
@@ -11,14 +10,14 @@ returns-in_err-definitions-clause-does g c = does_fail _ _ _ c.from_residual.ens
 
 pub returns-in-Ok-clause-does : goal.returns-in-Ok-clause-does
 unfolding prepares
-returns-in-Ok-clause-does g c = does_bind _ _ (rw c.requires.names at c.in_ok-definitions.ensures.does) (does_read_on _ _ (rw (c.in-Ok.is, c.as_slice.ensures.value, c.vars.ensures.vars) at c.bound_over.ensures) (does_result _ _ c.shaped.ensures))
+returns-in-Ok-clause-does g c = does_bind _ _ (rw c.requires.names at c.in_ok-definitions.ensures.does) (does_read_on _ _ (rw (c.in-Ok.is, c.as_slice.ensures.value) at c.bound_in.ensures.came) (does_result _ _ c.shaped.ensures))
 
 pub returns-in-Err-clause-does : goal.returns-in-Err-clause-does
 unfolding prepares
-returns-in-Err-clause-does g c = does_bind _ _ (rw c.requires.names at c.in_ok-definitions.ensures.does) (does_failed _ _ (does_read _ _ (rw (c.in-Err.is, c.as_slice.ensures.value, c.vars.ensures.vars) at c.bound_over.ensures)))
+returns-in-Err-clause-does g c = does_bind _ _ (rw c.requires.names at c.in_ok-definitions.ensures.does) (does_failed _ _ (does_read _ _ (rw (c.in-Err.is, c.as_slice.ensures.value) at c.bound_in.ensures.came)))
 
 pub returns-in-Ok-clause-begun : goal.returns-in-Ok-clause-begun
-returns-in-Ok-clause-begun g c = shaped_begun _ _ _ _ _ (λ asked. c.in_ok-definitions.ensures.kept ∙ c.requires.begun asked) c.in_ok-definitions.ensures.none c.shaped.ensures
+returns-in-Ok-clause-begun g c = shaped_begun _ _ c.in_ok-definitions.definitions.items c.in-Ok.of _ (rw c.in-Ok.is at c.bound_in.ensures.begun) c.shaped.ensures
 
 pub returns-in-Ok-clause-bound : goal.returns-in-Ok-clause-bound
-returns-in-Ok-clause-bound g c = shaped_bound c.in_ok-definitions.definitions.items c.args.session.now.vars c.args.statement.now _ _ (rw (c.in-Ok.is, c.as_slice.ensures.value, c.vars.ensures.vars, c.in_ok-definitions.ensures.vars) at c.bound_over.ensures) c.shaped.ensures
+returns-in-Ok-clause-bound g c = shaped_bound c.in_ok-definitions.definitions.items c.args.session.now.vars c.args.statement.now _ _ (rw (c.in-Ok.is, c.as_slice.ensures.value, c.in_ok-definitions.ensures.vars) at c.bound_in.ensures.came) c.shaped.ensures
