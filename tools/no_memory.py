@@ -5,9 +5,9 @@
 
 PROGRAM is the built tsqld. Each batch has one statement. What is told of one that got no memory, 701, must be all that
 comes of it: each reply behind it must be, byte by byte, what a server with memory gives to the same conversation without
-that statement (under XACT_ABORT: with ROLLBACK in its place), up to the last two, which show the tables. A program that
-ends must end with status 6, behind a front of the replies. It wants `cc`, prints how often each came, and ends with 1 at
-anything else.
+that statement (under XACT_ABORT: with ROLLBACK in its place), up to the last two, which show the tables. What a called
+procedure has done stays where the call finds no memory at its end. A program that ends must end with status 6, behind a
+front of the replies. It wants `cc`, prints how often each came, and ends with 1 at anything else.
 """
 import argparse
 import os
@@ -25,6 +25,7 @@ MALLOC = r"""
 #include <errno.h>
 #include <stdio.h>
 #include <stdlib.h>
+#include <unistd.h>
 
 static long calls, failing = -1;
 static void *(*next_malloc)(size_t), *(*next_realloc)(void *, size_t), *(*next_aligned)(size_t, size_t);
@@ -49,8 +50,10 @@ void *realloc(void *old, size_t size) { return fails() ? 0 : next_realloc(old, s
 void *aligned_alloc(size_t by, size_t size) { return fails() ? 0 : next_aligned(by, size); }
 int posix_memalign(void **out, size_t by, size_t size) { return fails() ? ENOMEM : next_memalign(out, by, size); }
 
-__attribute__((destructor)) static void tell(void) {
+void _exit(int status) {
     if (getenv("COUNT_ALLOC")) dprintf(2, "%ld\n", calls);
+    ((void (*)(int))dlsym(RTLD_NEXT, "_exit"))(status);
+    __builtin_unreachable();
 }
 """
 
@@ -92,6 +95,16 @@ CONVERSATION = [
     ("SET XACT_ABORT OFF", None),
     ("SELECT @@TRANCOUNT AS n, XACT_STATE() AS x", None),
     ("BEGIN TRY INSERT orders VALUES (1, N'X') END TRY BEGIN CATCH SELECT ERROR_NUMBER() AS e END CATCH", None),
+    ("CREATE PROCEDURE put @id INT AS INSERT orders VALUES (@id, N'Put')", None),
+    ("EXEC put 7", None),
+    ("CREATE TRIGGER follows ON orders AFTER INSERT AS INSERT items SELECT id, 9, 1, 1 FROM inserted", None),
+    ("INSERT orders VALUES (8, N'Eve'), (9, N'Flo')", None),
+    ("DECLARE c CURSOR STATIC FOR SELECT id, customer FROM orders ORDER BY id DESC", None),
+    ("OPEN c", None),
+    ("DECLARE @i INT, @s NVARCHAR(20); FETCH NEXT FROM c INTO @i, @s; SELECT @i, @s", None),
+    ("CLOSE c", None),
+    ("DROP TRIGGER follows", None),
+    ("DROP PROCEDURE put", None),
     ("SELECT id, customer FROM orders ORDER BY id", None),
     ("SELECT order_id, line, qty, price FROM items", None),
 ]
@@ -100,6 +113,9 @@ STATEMENTS = [statement for statement, _ in CONVERSATION]
 
 # The statement whose error is caught, so that it tells the number and not the message.
 CATCHING = next(at for at, statement in enumerate(STATEMENTS) if "CATCH" in statement)
+
+# The call, whose body's statement is committed before it ends, and stays where the end finds no memory.
+CALLING = next(at for at, statement in enumerate(STATEMENTS) if statement.startswith("EXEC"))
 
 REFUSED = "There is insufficient memory".encode("utf-16-le")
 
@@ -163,6 +179,8 @@ def judge(status, told, full, others):
     if len(refused) != 1:
         return f"wrong: {len(refused)} statements refused"
     at = refused[0]
+    if at == CALLING and leave(told, at) == leave(full, at):
+        return "done, and refused at its end"
     return "as if not sent" if leave(told, at) == others[at] else f"wrong: behind {STATEMENTS[at]}"
 
 
