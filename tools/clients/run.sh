@@ -5,11 +5,15 @@
 #
 # orders: each client runs the batches of orders.sql, and tells what orders.out has. transfers: four of a kind, and then one of
 # each, at once; no money is lost. locks: two of a kind, of which each meets the other's lock with LOCK_TIMEOUT 0, and one falls
-# in a deadlock. Prints a line for each part, and ends with 1 where one is wrong. The tables orders, items, account and seat are
-# dropped, before and behind. The server needs two workers at least.
+# in a deadlock. Prints a line for each part, and ends with 1 where one is wrong, or at once with 2 where no server is reached.
+# The tables orders, items, account and seat are dropped, before and behind. The server needs two workers at least.
 cd "$(dirname "$0")" || exit 2
 port=${1:?the port is missing}
 host=${2:-127.0.0.1}
+perl -MIO::Socket::IP -e 'IO::Socket::IP->new(PeerHost => $ARGV[0], PeerPort => $ARGV[1], Timeout => 10) or exit 1' "$host" "$port" || {
+    echo "run.sh: no server is reached at $host, port $port" >&2
+    exit 2
+}
 work=$(mktemp -d)
 trap 'rm -r "$work"' EXIT
 trap 'exit 2' INT TERM

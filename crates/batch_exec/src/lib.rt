@@ -12,8 +12,11 @@ mod batch;
 mod calls;
 mod errors;
 mod firing;
+mod looping;
 mod options;
+mod returning;
 mod running;
+mod simple;
 mod transactions;
 
 pub use batch::run_batch;

@@ -1,48 +1,32 @@
 //! Statements are run.
 
-ghost use Rattle.std.specs.Prelude.{◌≡◌, ◌==◌, ◌&&◌, ℕ, ◌<◌, ◌≤◌, [], IfOk, IsTrue, Ok, None, true};
+ghost use Rattle.std.specs.Prelude.{◌≡◌, ◌==◌, ℕ, ◌<◌, ◌≤◌, [], IfOk, IsTrue, None, true};
 ghost use Rattle.std.specs.List.{list_any};
 ghost use Rattle.std.specs.Option.{option_map};
-ghost use Rattle.std.specs.Result.{ForOk};
 ghost use Rattle.binder.specs.Names.{form_of};
-ghost use Rattle.batch_meaning.specs.Doing.{Did, over, ◌then◌};
+ghost use Rattle.batch_meaning.specs.Doing.{Did, ◌then◌};
 ghost use Rattle.batch_meaning.specs.Firing.{in_trigger};
-ghost use Rattle.batch_meaning.specs.Meaning.{Meaning, branch, calls, concluded, concludes, decides, each_of, effect_of, fires, is_refused_doomed, mean_form, mean_of, raises_again, raises_or_tells, runs_body, runs_call, runs_fired, runs_trigger, runs_triggers, sets_option, succeeds, tells, tells_behind, tries, turned, turns, turns_again, writes, written};
-ghost use Rattle.batch_meaning.specs.Selecting.{no_effect};
-ghost use Rattle.batch_meaning.specs.Working.{statuses};
-ghost use Rattle.batch_meaning.specs.Raised.{again};
-ghost use Rattle.tsql_tree.specs.declared.statement.Form.{out-Form};
-ghost use Rattle.tsql_tree.specs.declared.statement.Statement.{Statement as Tree};
+ghost use Rattle.batch_meaning.specs.Meaning.{branch, calls, decides, each_of, fires, mean_form, mean_of, runs_body, runs_call, runs_fired, runs_trigger, runs_triggers, tries, turns, writes, written};
 ghost use Rattle.batch_meaning.specs.Progress.{Ready};
-ghost use Rattle.batch_meaning.specs.declared.exit.Exit.TheVariants.{Return};
 ghost use Rattle.batch_meaning.specs.declared.settings.Settings.{Settings as Set};
 ghost use Rattle.step_model.specs.Exchange.{IsPriority};
-ghost use Rattle.batch_exec.specs.Running.{AreTyped, IsSimple, IsWhile, Loops, effects, turning};
-ghost use Rattle.session_state.specs.Parts.{SetsFit};
+ghost use Rattle.batch_exec.specs.Running.{AreTyped, IsWhile, Loops, turning};
 
-use crate::calls::{Call, CallEnd, call_vars, find_call, return_from};
-use crate::errors::{fail, raise_counted, spend, succeed};
-use crate::firing::{leave_fired, trigger_end, undo};
-use crate::options::set_option;
-use crate::transactions::{
-    begin_transaction, commit_transaction, roll_back_transaction, save_transaction,
-};
+use crate::calls::{Call, call_vars, find_call};
+use crate::errors::{fail, spend, succeed};
+use crate::firing::{effect_of, end_write, leave_fired, tells_behind, trigger_end, undo};
+use crate::looping::begin_again;
+use crate::returning::{CallEnd, return_from};
+use crate::simple::{is_refused, run_simple};
 use batch_forms::vars_of;
-use batch_meaning::{Exit, Failure, Home, Raised, Settings, Stop};
-use error_table::RaisedBy;
-use session_state::{
-    Around, DOOMED_WRITE, Effect, Fired, NO_MEMORY, OUTSIDE_PROFILE, RESULT_FULL, SessionState,
-    TOO_DEEP, is_message, messages,
-};
+use batch_meaning::{Exit, Failure, Home, Settings, Stop};
+use session_state::{Around, DOOMED_WRITE, Effect, Fired, NO_MEMORY, SessionState, TOO_DEEP};
 use session_vars::Vars;
 use sqlite_items::Boxed;
-use statement_exec::{
-    Change, Written, close_cursor, compose, create_table, declare_cursor, drop_object, fetch,
-    open_cursor, relax, remove_cursor, status, test, work, write,
-};
+use statement_exec::{Change, Written, relax, test, write};
 use std::alloc::Global;
 use step_model::Port;
-use tsql_tree::{Argument, Form, SessionOption, Statement, TriggerTree};
+use tsql_tree::{Argument, Form, Statement, TriggerTree};
 use value_types::{Memory, Units};
 
 /// Statements one after another.
@@ -149,112 +133,6 @@ fn held(otherwise: &Option<Boxed<Statement>>) -> Option<&Statement>
     }
 }
 
-/// A statement that holds no statements.
-#[inline(never)]
-fn run_simple<P: Port>(
-    alloc: Global,
-    session: &mut SessionState,
-    port: &mut P,
-    statement: &Statement,
-    around: &Around<'_, '_>,
-) -> Result<Exit, Memory>
-    requires ready { Ready session.old (P.past port.old) }
-    requires simple { IsSimple (form_of statement.now) }
-    ensures does { (one : Tree → Meaning) → Did (P.past port.old) (P.past port.new) (mean_form one around.now statement.now (form_of statement.now)) session.old result session.new }
-    ensures ready { Ready session.new (P.past port.new) }
-    ensures left { session.new.statements_left ≡ session.old.statements_left }
-{
-    match &statement.form {
-        Form::Break => {
-            session.tell_error(0);
-            Ok(Exit::Leave)
-        }
-        Form::Continue => {
-            session.tell_error(0);
-            Ok(Exit::Again)
-        }
-        Form::Print(_) => tell(alloc, session, port, statement, around),
-        Form::RaiseError(_, _, _) => tell(alloc, session, port, statement, around),
-        Form::Throw(_, _, _) => tell(alloc, session, port, statement, around),
-        Form::ThrowAgain => throw_again(alloc, session, port, statement, around),
-        Form::SetOption(option) => set(alloc, session, port, statement, *option, around),
-        Form::Return(_) => give(alloc, session, port, statement, around),
-        _ => {
-            let came = work_by_form(alloc, session, port, statement, around);
-            conclude(alloc, session, port, statement, around, came, Exit::On)
-        }
-    }
-}
-
-/// RETURN: its status is the exit's.
-#[inline(never)]
-fn give<P: Port>(
-    alloc: Global,
-    session: &mut SessionState,
-    port: &mut P,
-    statement: &Statement,
-    around: &Around<'_, '_>,
-) -> Result<Exit, Memory>
-    requires ready { Ready session.old (P.past port.old) }
-    ensures does { Did (P.past port.old) (P.past port.new) (concludes around.now statement.now (λ status. succeeds statement.now no_effect (over (Return status))) (statuses around.now statement.now)) session.old result session.new }
-    ensures ready { Ready session.new (P.past port.new) }
-    ensures left { session.new.statements_left ≡ session.old.statements_left }
-{
-    match status(alloc, session, port, statement, around) {
-        Ok(number) => succeed(
-            session,
-            statement,
-            Effect::none(alloc),
-            Exit::Return(number),
-        ),
-        Err(failure) => fail(alloc, session, port, statement, around, failure),
-    }
-}
-
-/// What a statement comes to that is done with its effect.
-#[inline(never)]
-fn work_by_form<P: Port>(
-    alloc: Global,
-    session: &mut SessionState,
-    port: &mut P,
-    statement: &Statement,
-    around: &Around<'_, '_>,
-) -> Result<Effect, Failure>
-    requires ready { Ready session.old (P.past port.old) }
-    ensures does { Did (P.past port.old) (P.past port.new) (effects around.now statement.now (form_of statement.now)) session.old (Ok result) session.new }
-    ensures ready { Ready session.new (P.past port.new) }
-    ensures left { session.new.statements_left ≡ session.old.statements_left }
-    ensures fits { IfOk result (λ effect. SetsFit session.new.vars effect.sets) }
-{
-    match &statement.form {
-        Form::BeginTransaction(name) => {
-            begin_transaction(alloc, session, port, statement, name.as_ref())
-        }
-        Form::Commit(_) => commit_transaction(alloc, session, port, statement),
-        Form::Rollback(name) => {
-            roll_back_transaction(alloc, session, port, statement, name.as_ref())
-        }
-        Form::Save(name) => save_transaction(alloc, session, port, statement, name),
-        Form::Drop(kind, name) => {
-            drop_object(alloc, session, port, statement, *kind, name, around)
-        }
-        Form::CreateTable(table, text) => {
-            let name = &table.get().name;
-            create_table(alloc, session, port, statement, name, text, around)
-        }
-        Form::DeclareCursor(name, select) => {
-            declare_cursor(alloc, session, statement, name, select.get())
-        }
-        Form::OpenCursor(name) => open_cursor(alloc, session, port, statement, name, around),
-        Form::Fetch(name, variables) => {
-            fetch(alloc, session, statement, name, variables.as_slice())
-        }
-        Form::CloseCursor(name) => close_cursor(alloc, session, statement, name),
-        Form::Deallocate(name) => remove_cursor(alloc, session, statement, name),
-        _ => work(alloc, session, port, statement, around),
-    }
-}
-
 /// IF.
 #[inline(never)]
 #[cycle(running)]
@@ -344,65 +222,6 @@ fn turn<P: Port>(
             let exit = fail(alloc, session, port, statement, around, failure)?;
             Ok(Some(exit))
         }
-    }
-}
-
-/// Behind a turn of a WHILE: how it is left, or it begins again.
-fn begin_again<P: Port>(
-    alloc: Global,
-    session: &mut SessionState,
-    port: &mut P,
-    statement: &Statement,
-    body: &Statement,
-    around: &Around<'_, '_>,
-    exit: Exit,
-) -> Result<Option<Exit>, Memory>
-    requires loops { IsWhile body.now (form_of statement.now) }
-    requires ready { Ready session.old (P.past port.old) }
-    ensures does { (levels : ℕ) → session.old.statements_left ≤ levels → Loops (P.past port.old) (P.past port.new) (turns_again (mean_of levels statement.now around.now) (turned exit)) statement.now body.now around.now session.old result session.new }
-    ensures ready { Ready session.new (P.past port.new) }
-    ensures left { session.new.statements_left ≤ session.old.statements_left }
-    ensures fewer { IfOk result (λ exit. exit ≡ None → session.new.statements_left < session.old.statements_left) }
-{
-    match turned(exit) {
-        Some(exit) => Ok(Some(exit)),
-        None => begin_anew(alloc, session, port, statement, body, around),
-    }
-}
-
-/// A WHILE begins again, if a statement may begin.
-fn begin_anew<P: Port>(
-    alloc: Global,
-    session: &mut SessionState,
-    port: &mut P,
-    statement: &Statement,
-    body: &Statement,
-    around: &Around<'_, '_>,
-) -> Result<Option<Exit>, Memory>
-    requires loops { IsWhile body.now (form_of statement.now) }
-    requires ready { Ready session.old (P.past port.old) }
-    ensures does { (levels : ℕ) → session.old.statements_left ≤ levels → Loops (P.past port.old) (P.past port.new) (mean_of levels statement.now around.now) statement.now body.now around.now session.old result session.new }
-    ensures ready { Ready session.new (P.past port.new) }
-    ensures left { session.new.statements_left ≤ session.old.statements_left }
-    ensures fewer { IfOk result (λ exit. exit ≡ None → session.new.statements_left < session.old.statements_left) }
-{
-    if session.is_spent() {
-        let exit = spend(alloc, session, port, statement, around)?;
-        return Ok(Some(exit));
-    }
-    session.begin_statement();
-    Ok(None)
-}
-
-/// How a loop is left behind a turn of it, if it is.
-fn turned(exit: Exit) -> Option<Exit>
-    ensures { result ≡ turned exit }
-{
-    match exit {
-        Exit::On => None,
-        Exit::Again => None,
-        Exit::Leave => Some(Exit::On),
-        exit => Some(exit),
     }
 }
 
@@ -556,32 +375,6 @@ fn run_write<P: Port>(
     }
 }
 
-/// A write ends by what it came to behind its triggers; where one of them was left, it is left so, too.
-#[inline(never)]
-fn end_write<P: Port>(
-    alloc: Global,
-    session: &mut SessionState,
-    port: &mut P,
-    statement: &Statement,
-    around: &Around<'_, '_>,
-    came: Result<Effect, Stop>,
-) -> Result<Exit, Memory>
-    requires ready { Ready session.old (P.past port.old) }
-    requires none { IfOk came (λ effect. effect.sets ≡ []) }
-    ensures does { Did (P.past port.old) (P.past port.new) (written around.now statement.now came) session.old result session.new }
-    ensures ready { Ready session.new (P.past port.new) }
-    ensures left { session.new.statements_left ≡ session.old.statements_left }
-{
-    match came {
-        Ok(effect) => succeed(session, statement, effect, Exit::On),
-        Err(Stop::Failed(failure)) => fail(alloc, session, port, statement, around, failure),
-        Err(Stop::Left(exit)) => {
-            session.tell_rows(0);
-            Ok(exit)
-        }
-    }
-}
-
 /// Behind a write that fires triggers: its locks end, and they run, before its own transaction ends.
 #[inline(never)]
 #[cycle(running)]
@@ -615,16 +408,6 @@ fn run_fired<P: Port>(
             undo(session, port, home, mark);
             Ok(Err(Stop::Failed(Failure::plain(NO_MEMORY))))
         }
-    }
-}
-
-/// What a write tells, where its triggers have not stopped it.
-fn effect_of(written: Written, came: Result<(), Stop>) -> Result<Effect, Stop>
-    ensures { (one : Tree → Meaning) → result ≡ effect_of one written.effect came }
-{
-    match came {
-        Ok(()) => Ok(written.effect),
-        Err(stop) => Err(stop),
     }
 }
 
@@ -676,17 +459,6 @@ fn run_triggers<P: Port>(
     Ok(tells_behind(session, &written.effect))
 }
 
-/// What a write tells must still fit behind what its triggers have sent.
-fn tells_behind(session: &SessionState, effect: &Effect) -> Result<(), Stop>
-    ensures { (one : Tree → Meaning) → result ≡ tells_behind one effect.now session.now }
-{
-    if session.is_full(effect.tokens()) {
-        Err(Stop::Failed(Failure::plain(RESULT_FULL)))
-    } else {
-        Ok(())
-    }
-}
-
 /// One trigger.
 #[inline(never)]
 #[cycle(running)]
@@ -719,161 +491,5 @@ fn in_trigger(settings: Settings) -> Settings
     Settings {
         xact_abort: true,
         ..settings
-    }
-}
-
-// ---- statements that hold none
-
-/// Whether a form of statements is refused, as the transaction is doomed.
-fn is_refused(session: &SessionState, form: &Form) -> bool
-    ensures { result ≡ (session.now.txn.doomed && is_refused_doomed (out-Form form.now)) }
-{
-    session.is_doomed() && is_refused_doomed(form)
-}
-
-/// Whether a doomed transaction refuses a form of statements.
-fn is_refused_doomed(form: &Form) -> bool
-    ensures { result ≡ is_refused_doomed (out-Form form.now) }
-{
-    match form {
-        Form::Insert(_, _, _) => true,
-        Form::Update(_, _, _) => true,
-        Form::Delete(_, _) => true,
-        Form::CreateTable(_, _) => true,
-        Form::Drop(_, _) => true,
-        Form::BeginTransaction(_) => true,
-        Form::Commit(_) => true,
-        Form::Save(_) => true,
-        _ => false,
-    }
-}
-
-/// A statement ends by what it came to.
-#[inline(never)]
-fn conclude<P: Port>(
-    alloc: Global,
-    session: &mut SessionState,
-    port: &mut P,
-    statement: &Statement,
-    around: &Around<'_, '_>,
-    came: Result<Effect, Failure>,
-    exit: Exit,
-) -> Result<Exit, Memory>
-    requires ready { Ready session.old (P.past port.old) }
-    requires fits { ForOk came (λ effect. SetsFit session.old.vars effect.sets) }
-    ensures does { Did (P.past port.old) (P.past port.new) (concluded around.now statement.now (λ effect. succeeds statement.now effect (over exit)) came) session.old result session.new }
-    ensures ready { Ready session.new (P.past port.new) }
-    ensures left { session.new.statements_left ≡ session.old.statements_left }
-{
-    match came {
-        Ok(effect) => succeed(session, statement, effect, exit),
-        Err(failure) => fail(alloc, session, port, statement, around, failure),
-    }
-}
-
-/// PRINT, RAISERROR and THROW.
-#[inline(never)]
-fn tell<P: Port>(
-    alloc: Global,
-    session: &mut SessionState,
-    port: &mut P,
-    statement: &Statement,
-    around: &Around<'_, '_>,
-) -> Result<Exit, Memory>
-    requires ready { Ready session.old (P.past port.old) }
-    ensures does { Did (P.past port.old) (P.past port.new) (tells around.now statement.now) session.old result session.new }
-    ensures ready { Ready session.new (P.past port.new) }
-    ensures left { session.new.statements_left ≡ session.old.statements_left }
-{
-    match compose(alloc, session, port, statement, around) {
-        Ok(raised) => raise_or_tell(alloc, session, port, statement, around, raised),
-        Err(failure) => fail(alloc, session, port, statement, around, failure),
-    }
-}
-
-/// What is no error is sent, and the batch goes on; what is one is raised.
-fn raise_or_tell<P: Port>(
-    alloc: Global,
-    session: &mut SessionState,
-    port: &mut P,
-    statement: &Statement,
-    around: &Around<'_, '_>,
-    raised: Boxed<Raised>,
-) -> Result<Exit, Memory>
-    requires ready { Ready session.old (P.past port.old) }
-    ensures does { Did (P.past port.old) (P.past port.new) (raises_or_tells around.now statement.now raised) session.old result session.new }
-    ensures ready { Ready session.new (P.past port.new) }
-    ensures left { session.new.statements_left ≡ session.old.statements_left }
-{
-    if !is_message(raised.get()) {
-        return raise_counted(alloc, session, port, statement, around, raised);
-    }
-    let tokens = messages(alloc, raised.get())?;
-    succeed(session, statement, Effect::sending(alloc, tokens), Exit::On)
-}
-
-/// THROW without arguments.
-#[inline(never)]
-fn throw_again<P: Port>(
-    alloc: Global,
-    session: &mut SessionState,
-    port: &mut P,
-    statement: &Statement,
-    around: &Around<'_, '_>,
-) -> Result<Exit, Memory>
-    requires ready { Ready session.old (P.past port.old) }
-    ensures does { Did (P.past port.old) (P.past port.new) (raises_again around.now statement.now around.now.caught) session.old result session.new }
-    ensures ready { Ready session.new (P.past port.new) }
-    ensures left { session.new.statements_left ≡ session.old.statements_left }
-{
-    match around.caught() {
-        Some(raised) => {
-            let raised = again(alloc, raised)?;
-            raise_counted(alloc, session, port, statement, around, raised)
-        }
-        None => {
-            let failure = Failure::plain(OUTSIDE_PROFILE);
-            fail(alloc, session, port, statement, around, failure)
-        }
-    }
-}
-
-/// An error that THROW raises again.
-fn again(alloc: Global, raised: &Raised) -> Result<Boxed<Raised>, Memory>
-    ensures { IfOk result (λ thrown. thrown ≡ again raised.now) }
-{
-    let thrown = Raised {
-        number: raised.number,
-        class: raised.class,
-        state: raised.state,
-        text: raised.text.copy(alloc)?,
-        procedure: raised.procedure.copy(alloc)?,
-        line: raised.line,
-        by: RaisedBy::Throw,
-    };
-    Ok(Boxed::new(alloc, thrown)?)
-}
-
-/// SET of an option.
-#[inline(never)]
-fn set<P: Port>(
-    alloc: Global,
-    session: &mut SessionState,
-    port: &mut P,
-    statement: &Statement,
-    option: SessionOption,
-    around: &Around<'_, '_>,
-) -> Result<Exit, Memory>
-    requires ready { Ready session.old (P.past port.old) }
-    ensures does { Did (P.past port.old) (P.past port.new) (sets_option around.now statement.now option) session.old result session.new }
-    ensures ready { Ready session.new (P.past port.new) }
-    ensures left { session.new.statements_left ≡ session.old.statements_left }
-{
-    match set_option(option, session.settings()) {
-        Ok(settings) => {
-            session.set(settings);
-            succeed(session, statement, Effect::none(alloc), Exit::On)
-        }
-        Err(failure) => fail(alloc, session, port, statement, around, failure),
     }
 }

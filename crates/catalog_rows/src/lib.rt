@@ -18,4 +18,4 @@ pub use definitions::{
 pub use laws::{
     law_image_typed, law_one_definition, law_row_typed, law_value_of_type, law_written_read,
 };
-pub use rows::{has_values, place_in, row_fits};
+pub use rows::{has_values, is_value_of, place_in, row_fits};

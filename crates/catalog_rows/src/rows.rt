@@ -35,7 +35,7 @@ fn has_columns(columns: &[ColumnTree], row: &Row) -> bool
 }
 
 /// Whether a value is NULL or one of the type.
-fn is_value_of(kind: SqlType, value: &Value) -> bool
+pub fn is_value_of(kind: SqlType, value: &Value) -> bool
     ensures { result ≡ spec.is_value_of kind value.now }
 {
     match value {

@@ -2,6 +2,7 @@
 
 ghost use Rattle.std.specs.Prelude.{◌≡◌, ◌++◌, [], ◌∷◌, IfOk, IsTrue, OnErr, Err, true, false, not, is_some, option_map};
 ghost use Rattle.std.specs.List.{list_any};
+ghost use Rattle.value_types.specs.Units.{same_units};
 ghost use Rattle.step_model.specs.Dialog.{Asks};
 ghost use Rattle.constraint_check.specs.Reads as find;
 ghost use Rattle.dml_exec.specs.Asking.{MayWork, seen};
@@ -16,7 +17,7 @@ use std::alloc::Global;
 use std::marker::Model;
 use step_model::{Hold, Manner, Op, Port, Start, Stop};
 use tsql_tree::TableTree;
-use value_types::{Memory, Row, TableName};
+use value_types::{Memory, Row, TableName, Units};
 
 /// The rows of the tables of a trigger, which are not fetched.
 pub struct GivenTables<'g> {
@@ -39,14 +40,28 @@ impl<'g> GivenTables<'g> {
     fn rows_of(&self, table: &TableName) -> Option<&'g Image>
         ensures { option_map (λ rows. rows.now) result ≡ spec.rows_called table.now.object self.now }
     {
-        if table.object.is("inserted") {
+        if is_inserted(&table.object) {
             Some(self.inserted)
-        } else if table.object.is("deleted") {
+        } else if is_deleted(&table.object) {
             Some(self.deleted)
         } else {
             None
         }
     }
+}
+
+/// Whether a name is `inserted`.
+pub fn is_inserted(name: &Units) -> bool
+    ensures { result ≡ same_units name.now spec.inserted_name }
+{
+    name.is("inserted")
+}
+
+/// Whether a name is `deleted`.
+pub fn is_deleted(name: &Units) -> bool
+    ensures { result ≡ same_units name.now spec.deleted_name }
+{
+    name.is("deleted")
 }
 
 /// Reads the images of a statement: of the references of its inner queries, then of its own, then of the target of UPDATE or

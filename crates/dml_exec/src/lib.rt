@@ -20,10 +20,10 @@ mod rewritten;
 mod writing;
 mod written;
 
-pub use images::{GivenTables, fetches_any, read_images};
+pub use images::{GivenTables, fetches_any, is_deleted, is_inserted, read_images};
 pub use keys::{has_key, key_places};
 pub use planning::{plan_write, rows_told, table_written};
-pub use ranges::shape_of;
+pub use ranges::{is_shape_of, shape_of};
 pub use refusal::{Level, Refusal};
 pub use rewritten::Rewritten;
 pub use writing::{apply_write, attempt_write};

@@ -214,7 +214,8 @@ pub fn shape_of<'a>(table: &TableName, shapes: &'a [TableTree]) -> Option<&'a Ta
     None
 }
 
-fn is_shape_of(table: &TableName, shape: &TableTree) -> bool
+/// Whether a shape is that of a table.
+pub fn is_shape_of(table: &TableName, shape: &TableTree) -> bool
     ensures { result ≡ checks.is_shape_of table.now shape.now }
 {
     table.part == 0 && table.object == shape.name

@@ -54,23 +54,24 @@ pub const RANGE_FULL: u16 = 49003;
 /// The error of an option or an argument outside the profile.
 pub const OUTSIDE_PROFILE: u16 = 49004;
 
-/// The error of a variable beyond those that can stand.
+/// The error of a variable beyond those that can stand, of a definition outside the limits, of a cursor's select that
+/// assigns, and of what binding does not give of a statement.
 pub const OUTSIDE_LIMITS: u16 = 49007;
 
 /// The error of a FETCH into another count of variables than the cursor has columns.
 pub const OTHER_COUNT: u16 = 49012;
 
-/// No procedure of that name is there.
+/// The error of a procedure that is not there.
 pub const NO_PROCEDURE: u16 = 2812;
 
-/// Procedures and triggers stand too deep in one another.
+/// The error of a procedure or trigger that would stand too deep in others.
 pub const TOO_DEEP: u16 = 217;
 
-/// A procedure ended with another count of transactions than it began with.
+/// The error of a procedure that ended with another count of transactions than it began with.
 pub const UNEVEN: u16 = 266;
 
-/// A trigger has ended the transaction.
+/// The error of a write of which a trigger has ended the transaction.
 pub const ENDED_IN_TRIGGER: u16 = 3609;
 
-/// A trigger has doomed the transaction.
+/// The error of a write of which a trigger has doomed the transaction.
 pub const DOOMED_IN_TRIGGER: u16 = 3616;

@@ -23,8 +23,8 @@ use tds_tokens::{
 use tsql_tree::Form;
 use value_types::{Memory, Row, Units};
 
-/// How many units the name of a procedure or trigger has at most.
-const LONGEST_NAME: usize = 128;
+/// How many units the name of a procedure, trigger or parameter has at most, `max_name` of clause_binder/specs/Scope.
+pub const LONGEST_NAME: usize = 128;
 
 // ---- what a statement sends
 

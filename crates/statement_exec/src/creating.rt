@@ -24,7 +24,8 @@ use batch_meaning::Failure;
 use binder::names_of;
 use catalog_rows::is_objects;
 use session_state::{
-    Around, Effect, OBJECT_PRESENT, OUTSIDE_LIMITS, SessionState, UNKNOWN_TABLE, naming, no_memory,
+    Around, Effect, LONGEST_NAME, OBJECT_PRESENT, OUTSIDE_LIMITS, SessionState, UNKNOWN_TABLE,
+    naming, no_memory,
 };
 use std::alloc::Global;
 use step_model::Port;
@@ -33,9 +34,6 @@ use value_types::{SqlType, Units};
 
 /// How many variables a procedure may have.
 const MAX_VARIABLES: usize = 10_000;
-
-/// How many units a name may have.
-const LONGEST_NAME: usize = 128;
 
 // ---- CREATE TABLE
 

@@ -3,11 +3,11 @@
 ghost use Rattle.std.specs.Prelude.{◌≡◌, ◌∷◌, [], not, IfOk};
 ghost use Rattle.value_types.specs.Units.{same_units};
 ghost use Rattle.tsql_tree.specs.declared.statement.Form.{out-Form};
-ghost use Rattle.dml_exec.specs.Reading.{deleted_name, inserted_name};
 ghost use Rattle.batch_meaning.specs.Working.{asks_any, is_of_trigger, is_read_by, known_in, table_called};
 ghost use Rattle.statement_exec.specs.Named.{known_so};
 
 use catalog_rows::is_objects;
+use dml_exec::{is_deleted, is_inserted};
 use session_state::{Around, Fired};
 use sqlite_items::Items;
 use std::alloc::Global;
@@ -49,20 +49,6 @@ fn is_of_trigger(name: &Units) -> bool
     ensures { result ≡ is_of_trigger name.now }
 {
     is_inserted(name) || is_deleted(name)
-}
-
-/// Whether it is `inserted`.
-fn is_inserted(name: &Units) -> bool
-    ensures { result ≡ same_units name.now inserted_name }
-{
-    name.is("inserted")
-}
-
-/// Whether it is `deleted`.
-fn is_deleted(name: &Units) -> bool
-    ensures { result ≡ same_units name.now deleted_name }
-{
-    name.is("deleted")
 }
 
 /// Whether a statement of this form reads rows of the table of a name: it doesn't write it, drop it, run it or refer to
@@ -119,8 +105,8 @@ pub(crate) fn table_called(alloc: Global, name: &Units, fired: &Fired) -> Result
 {
     Ok(Definition::Table(TableTree {
         name: name.copy(alloc)?,
-        columns: columns_of(alloc, fired.shape.columns.as_slice())?,
-        key: keys_of(alloc, fired.shape.key.as_slice())?,
+        columns: copied_columns(alloc, fired.shape.columns.as_slice())?,
+        key: copied_keys(alloc, fired.shape.key.as_slice())?,
         uniques: Items::new(alloc),
         checks: Items::new(alloc),
         foreigns: Items::new(alloc),
@@ -128,7 +114,7 @@ pub(crate) fn table_called(alloc: Global, name: &Units, fired: &Fired) -> Result
 }
 
 /// A copy of columns.
-fn columns_of(alloc: Global, columns: &[ColumnTree]) -> Result<Items<ColumnTree>, Memory>
+fn copied_columns(alloc: Global, columns: &[ColumnTree]) -> Result<Items<ColumnTree>, Memory>
     ensures { IfOk result (λ copies. copies ≡ columns.now) }
 {
     let mut copies = Vec::with_capacity(alloc, columns.len())?;
@@ -143,21 +129,21 @@ fn columns_of(alloc: Global, columns: &[ColumnTree]) -> Result<Items<ColumnTree>
 }
 
 /// A copy of PRIMARY KEYs.
-fn keys_of(alloc: Global, keys: &[KeyTree]) -> Result<Items<KeyTree>, Memory>
+fn copied_keys(alloc: Global, keys: &[KeyTree]) -> Result<Items<KeyTree>, Memory>
     ensures { IfOk result (λ copies. copies ≡ keys.now) }
 {
     let mut copies = Vec::with_capacity(alloc, keys.len())?;
     for key in keys {
         copies.push(KeyTree {
             name: key.name.copy(alloc)?,
-            columns: names_of(alloc, key.columns.as_slice())?,
+            columns: copied_names(alloc, key.columns.as_slice())?,
         })?;
     }
     Ok(Items::from_vec(copies))
 }
 
 /// A copy of names.
-fn names_of(alloc: Global, names: &[Units]) -> Result<Items<Units>, Memory>
+fn copied_names(alloc: Global, names: &[Units]) -> Result<Items<Units>, Memory>
     ensures { IfOk result (λ copies. copies ≡ names.now) }
 {
     let mut copies = Vec::with_capacity(alloc, names.len())?;

@@ -244,6 +244,7 @@ fn result_of(
     }
 }
 
+/// The tokens of a query's result.
 fn sent_result(
     alloc: Global,
     kind: DoneKind,

@@ -13,7 +13,7 @@ ghost use Rattle.session_state.specs.Parts.{IsOrMemory};
 use batch_meaning::Failure;
 use bound_tree::{BoundWrite, Image};
 use call_rules::trigger_images;
-use dml_exec::{has_key, key_places, table_written};
+use dml_exec::{has_key, is_shape_of, key_places, table_written};
 use session_state::{Fired, no_memory};
 use sqlite_items::Items;
 use std::alloc::Global;
@@ -91,13 +91,6 @@ fn place_of_shape(shapes: &[TableTree], table: &TableName) -> Option<usize>
     ensures { result ≡ position (is_shape_of table.now) shapes.now }
 {
     shapes.iter().position(|shape| is_shape_of(table, shape))
-}
-
-/// Whether a shape is that of a table.
-fn is_shape_of(table: &TableName, shape: &TableTree) -> bool
-    ensures { result ≡ is_shape_of table.now shape.now }
-{
-    table.part == 0 && table.object == shape.name
 }
 
 /// The rows that a write's target had when it was read; an INSERT reads none of it.
