@@ -16,6 +16,11 @@ pub all_mapped : {A B : Type 0} (f : A → B) (P : B → Type 0) → ((x : A) �
 all_mapped f P h [] = tt
 all_mapped f P h (x ∷ xs) = (h x, all_mapped f P h xs)
 
+-- what is true of each, for two things that are
+pub all_of_two : {A : Type 0} (P Q R : A → Type 0) (xs : List A) → ((x : A) → P x → Q x → R x) → AllOf P xs → AllOf Q xs → AllOf R xs
+all_of_two P Q R [] h p q = tt
+all_of_two P Q R (x ∷ xs) h p q = (h x p.0 q.0, all_of_two P Q R xs h p.1 q.1)
+
 pub after_same : {A B : Type 0} (o : Outcome A) (f g : A → Outcome B) → ((x : A) → f x ≡ g x) → after o f ≡ after o g
 after_same (Ok x) f g h = h x
 after_same (Err refusal) f g h = refl
