@@ -1,12 +1,10 @@
 -- Own: the locks of all sessions. A table is any list of locks with their sessions, and every clause speaks of
 -- one session's locks in it, in the order of their grants: so the code may find them as it likes.
 use Rattle.std.specs.Prelude.{◌≡◌, ◌≢◌, ◌<◌, ◌==◌, ℕ, true, false, List, [], ◌∷◌, if◌then◌else◌, slice_index_or}
-use Rattle.std.specs.List.{AllByRecursion}
 use Rattle.lock_modes.specs.declared.Pair.{Pair}
 use Rattle.lock_modes.specs.Agreement.{pairs_agree}
 use Rattle.lock_modes.specs.Modes.{none}
 use Rattle.step_model.specs.declared.resource.Resource.{Resource}
-use Rattle.step_model.specs.Exchange.{IsSession}
 use Rattle.step_model.specs.Locks.{Lock, pair_on}
 
 -- a lock, and whose it is
@@ -51,9 +49,3 @@ pair_at session pairs = slice_index_or pairs session none
 -- they are the pairs of all sessions on a resource
 abbrev pub ArePairsOn : Resource → List SessionLock → List Pair → Type 0
 ArePairsOn on table pairs = (session : ℕ) → pair_at session pairs ≡ pair_on on (of_session session table)
-
--- ---- for the table's own invariant
-
--- each lock is of a number from 1 to 64
-abbrev pub AreOfSessions : List SessionLock → Type 0
-AreOfSessions table = AllByRecursion (λ lock. IsSession lock.session) table

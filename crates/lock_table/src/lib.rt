@@ -2,45 +2,57 @@
 //!
 //! Read `specs/Table.antt`. The layers above may rely on each session's locks being a list in the order of their
 //! grants, which changes exactly as each call says, while no other session's does. A caller asks [`LockTable::foe`]
-//! before it grants; the table itself takes what it is given. That calls print nothing and end is the proof's;
-//! how fast they are only measurements show.
+//! before it grants; the table itself takes what it is given. That calls print nothing and end is the proof's. No
+//! clause says what they cost: a look-up goes down two ordered maps, an end goes over its session's locks alone, and
+//! of a key on which no session has a lock nothing is kept.
 #![tactic(auto)]
 
-ghost use Rattle.std.specs.Prelude.{◌≡◌, ◌≢◌, ◌&&◌, ◌||◌, not, ◌==◌, ◌∷◌, ◌++◌, [], ℕ, Ok, None, true, false, filter, if◌then◌else◌, IfOk, IfSome, OnOk, OnErr};
-ghost use Rattle.std.specs.List.{list_any};
+ghost use Rattle.std.specs.Prelude.{◌≡◌, ◌≢◌, ◌<◌, ◌++◌, ◌∷◌, [], ℕ, Ok, None, true, false, filter, IfOk, IfSome, OnOk, OnErr};
 ghost use Rattle.lock_modes.specs.Join.{join_pairs};
 ghost use Rattle.lock_modes.specs.declared.KeyPart.TheVariants.{N};
 ghost use Rattle.lock_modes.specs.declared.RangePart.TheVariants.{S as RangeS};
 ghost use Rattle.step_model.specs.declared.resource.Span.TheVariants.{Transaction as Whole};
 ghost use Rattle.step_model.specs.Exchange.{IsSession};
-ghost use Rattle.step_model.specs.Locks.{pair_on, same_resource as is_same, is_whole, is_range_s};
-ghost use Rattle.lock_table.specs.Table.{ChangesLocks, KeepsLocks, NoFoeIn, IsFoeIn, ArePairsOn, pair_at, of_session, all_but_last};
+ghost use Rattle.step_model.specs.Locks.{pair_on, is_whole, is_range_s};
+ghost use Rattle.lock_table.specs.Table.{ChangesLocks, KeepsLocks, NoFoeIn, IsFoeIn, ArePairsOn, of_session, all_but_last};
+ghost use Rattle.lock_table.specs.BySession.{numbers};
+ghost use Rattle.lock_table.specs.Places.{Changes, Keeps, KeepsOthers, HasPairsOf};
 
+mod by_place;
+mod index;
+mod own_locks;
 mod pairs;
 
-use lock_modes::{KeyPart, Pair, RangePart, agree, join};
+use crate::index::Index;
+use crate::own_locks::{Lock, OwnLocks};
+use crate::pairs::NUMBERS;
+use lock_modes::{KeyPart, Pair, RangePart};
 pub use pairs::Pairs;
 use std::alloc::Global;
+use std::array::from_fn;
 use std::marker::Model;
-use step_model::{LAST_SESSION, Resource, Span, same_resource};
+use step_model::{Resource, Span};
 use value_types::Memory;
 
-/// The locks of all sessions.
+/// The locks of all sessions: the list of each, by its number, and what they make together on each resource.
 #[derive(Debug, Drop)]
 pub struct LockTable {
-    locks: Vec<SessionLock>,
+    by_session: [OwnLocks; NUMBERS],
+    index: Index,
     alloc: Global,
 }
 
 impl Model for LockTable {
     ghost use Rattle.std.specs.Prelude.{List};
-    ghost use Rattle.lock_table.specs.Table.{SessionLock as OfSession, AreOfSessions};
+    ghost use Rattle.lock_table.specs.Table.{SessionLock as OfSession};
+    ghost use Rattle.lock_table.specs.BySession.{all_from};
+    ghost use Rattle.lock_table.specs.Places.{AreOfLists};
 
     ghost Value = { List OfSession };
 
-    ghost view = { λ table. table.locks.items };
+    ghost view = { λ table. all_from 0 table.by_session };
 
-    ghost invariant = { λ table. AreOfSessions table.locks.items };
+    ghost invariant = { λ table. AreOfLists table.by_session table.index };
 }
 
 impl LockTable {
@@ -49,7 +61,8 @@ impl LockTable {
         ensures { (session : ℕ) → of_session session result ≡ [] }
     {
         LockTable {
-            locks: Vec::new(alloc),
+            by_session: from_fn(|_session| OwnLocks::none(alloc)),
+            index: Index::none(alloc),
             alloc,
         }
     }
@@ -58,22 +71,14 @@ impl LockTable {
     pub fn pair(&self, session: u32, on: &Resource) -> Pair
         ensures { result ≡ pair_on on.now (of_session session self.now) }
     {
-        let mut pair = Pair::NONE;
-        for lock in &self.locks {
-            pair = lock.added_to(pair, session, on);
-        }
-        pair
+        self.index.pair(session, on)
     }
 
-    /// The pairs of all sessions on a resource, by one look at each lock.
+    /// The pairs of all sessions on a resource.
     pub fn pairs(&self, on: &Resource) -> Pairs
         ensures { ArePairsOn on.now self.now result }
     {
-        let mut pairs = Pairs::none();
-        for lock in &self.locks {
-            lock.add_to(&mut pairs, on);
-        }
-        pairs
+        self.index.pairs(on)
     }
 
     /// The lowest other session whose pair does not agree with what is asked, with that pair.
@@ -81,39 +86,7 @@ impl LockTable {
         ensures free { result ≡ None → NoFoeIn session on.now asked self.now }
         ensures foe { IfSome result (λ found. IsFoeIn session on.now asked self.now found.0 found.1) }
     {
-        if self.has_others_on(session, on) {
-            self.lowest_foe(session, on, asked)
-        } else {
-            None
-        }
-    }
-
-    /// Whether another session has any lock on a resource. Mostly none has, and then one look at each lock
-    /// is enough.
-    fn has_others_on(&self, session: u32, on: &Resource) -> bool
-        ensures { result ≡ list_any (λ lock. not (lock.session == session) && is_same lock.lock.on on.now) self.now }
-    {
-        self.locks
-            .iter()
-            .any(|lock| lock.is_of_another_on(session, on))
-    }
-
-    /// The first session by number whose pair stands in the way.
-    fn lowest_foe(&self, session: u32, on: &Resource, asked: Pair) -> Option<(u32, Pair)>
-        ensures free { result ≡ None → NoFoeIn session on.now asked self.now }
-        ensures foe { IfSome result (λ found. IsFoeIn session on.now asked self.now found.0 found.1) }
-    {
-        // Looking at the list opens the table: all its locks are of numbers from 1 to the last.
-        let _count = self.locks.len();
-        for other in 1..LAST_SESSION + 1 {
-            if other != session {
-                let pair = self.pair(other, on);
-                if !agree(pair, asked) {
-                    return Some((other, pair));
-                }
-            }
-        }
-        None
+        self.pairs(on).foe(session, asked)
     }
 
     /// Adds a lock, also beside an equal one.
@@ -128,13 +101,13 @@ impl LockTable {
         ensures ok { OnOk result (ChangesLocks session (λ locks. locks ++ record { on = on.now; pair = pair; span = span } ∷ []) self.old self.new) }
         ensures err { OnErr result (KeepsLocks self.old self.new) }
     {
-        self.locks.push(SessionLock {
-            session,
+        let lock = Lock {
             on: on.copy(self.alloc)?,
             pair,
             span,
-        })?;
-        Ok(())
+        };
+        let own = &mut self.by_session[session as usize];
+        add_lock(own, &mut self.index, self.alloc, session, lock, on)
     }
 
     /// Adds range part S on a resource, for the transaction, where the session has it on another one; and
@@ -162,13 +135,9 @@ impl LockTable {
         requires locks { of_session session self.old ≢ [] }
         ensures { ChangesLocks session all_but_last self.old self.new }
     {
-        let count = self.locks.len();
-        for behind in 0..count {
-            let at = count - 1 - behind;
-            if self.locks[at].is_of(session) {
-                self.locks.remove(at);
-                return;
-            }
+        if self.has_list(session) {
+            let own = &mut self.by_session[session as usize];
+            take_back(own, &mut self.index, session);
         }
     }
 
@@ -176,81 +145,74 @@ impl LockTable {
     pub fn relax(&mut self, session: u32)
         ensures { ChangesLocks session (filter (λ lock. is_whole lock.span)) self.old self.new }
     {
-        self.locks.retain(|lock| lock.lasts(session));
+        if self.has_list(session) {
+            let own = &mut self.by_session[session as usize];
+            self.index.forget(session, own.as_slice(), Span::Statement);
+            own.relax();
+        }
     }
 
     /// Frees all the session's locks.
     pub fn release(&mut self, session: u32)
         ensures { ChangesLocks session (λ locks. []) self.old self.new }
     {
-        self.locks.retain(|lock| lock.is_of_another(session));
+        if self.has_list(session) {
+            let own = &mut self.by_session[session as usize];
+            self.index.forget(session, own.as_slice(), Span::Statement);
+            self.index
+                .forget(session, own.as_slice(), Span::Transaction);
+            *own = OwnLocks::none(self.alloc);
+        }
+    }
+
+    /// Whether there is a list for the number; no other has locks.
+    fn has_list(&self, session: u32) -> bool
+        ensures within { result ≡ true → session < numbers }
+        ensures past { result ≡ false → of_session session self.now ≡ [] }
+    {
+        let lists = &self.by_session;
+        (session as usize) < lists.len()
     }
 }
 
-/// A lock of a session.
-#[derive(Debug, Drop)]
-struct SessionLock {
+/// Adds a lock to its session's, and its pair to the session's on its resource. Where either wants memory, neither
+/// is done.
+fn add_lock(
+    own: &mut OwnLocks,
+    index: &mut Index,
+    alloc: Global,
     session: u32,
-    on: Resource,
-    pair: Pair,
-    span: Span,
-}
-
-impl Model for SessionLock {
-    ghost use Rattle.lock_table.specs.Table.{SessionLock as OfSession};
-
-    ghost Value = { OfSession };
-
-    ghost view = { λ lock. record { session = lock.session; lock = record { on = lock.on; pair = lock.pair; span = lock.span } } };
-}
-
-impl SessionLock {
-    /// Whether it is of this session.
-    fn is_of(&self, session: u32) -> bool
-        ensures { result ≡ (self.now.session == session) }
-    {
-        self.session == session
-    }
-
-    /// Whether it is of another session.
-    fn is_of_another(&self, session: u32) -> bool
-        ensures { result ≡ not (self.now.session == session) }
-    {
-        self.session != session
-    }
-
-    /// Whether it is another session's on a resource.
-    fn is_of_another_on(&self, session: u32, on: &Resource) -> bool
-        ensures { result ≡ (not (self.now.session == session) && is_same self.now.lock.on on.now) }
-    {
-        self.session != session && same_resource(&self.on, on)
-    }
-
-    /// Whether it stays when a statement of this session ends.
-    fn lasts(&self, session: u32) -> bool
-        ensures { result ≡ (not (self.now.session == session) || is_whole self.now.lock.span) }
-    {
-        self.session != session || matches!(self.span, Span::Transaction)
-    }
-
-    /// Joins this lock's pair to its session's, where it is on the resource.
-    fn add_to(&self, pairs: &mut Pairs, on: &Resource)
-        requires { IsSession self.now.session }
-        ensures { (who : ℕ) → pair_at who pairs.new ≡ (if self.now.session == who && is_same self.now.lock.on on.now then join_pairs (pair_at who pairs.old) self.now.lock.pair else pair_at who pairs.old) }
-    {
-        if same_resource(&self.on, on) {
-            pairs.add(self.session, self.pair);
+    lock: Lock,
+    on: &Resource,
+) -> Result<(), Memory>
+    requires session { session < numbers }
+    requires on { on.now ≡ lock.on }
+    ensures own { OnOk result (own.new ≡ own.old ++ lock ∷ []) }
+    ensures index { OnOk result (Changes lock.span lock.on session (λ old. join_pairs old lock.pair) index.old index.new) }
+    ensures err_own { OnErr result (own.new ≡ own.old) }
+    ensures err_index { OnErr result (Keeps index.old index.new) }
+{
+    let (pair, span) = (lock.pair, lock.span);
+    own.push(lock)?;
+    match index.add(alloc, session, on, pair, span) {
+        Ok(()) => Ok(()),
+        Err(Memory) => {
+            let _lock = own.pop();
+            Err(Memory)
         }
     }
+}
 
-    /// A pair with this lock's, where it is one of the session on the resource.
-    fn added_to(&self, pair: Pair, session: u32, on: &Resource) -> Pair
-        ensures { result ≡ (if self.now.session == session && is_same self.now.lock.on on.now then join_pairs pair self.now.lock.pair else pair) }
-    {
-        if self.session == session && same_resource(&self.on, on) {
-            join(pair, self.pair)
-        } else {
-            pair
-        }
+/// Takes the session's latest lock away, if there is one, and makes its pair on that resource anew.
+fn take_back(own: &mut OwnLocks, index: &mut Index, session: u32)
+    requires session { session < numbers }
+    requires pairs { HasPairsOf session own.old index.old }
+    ensures own { own.new ≡ all_but_last own.old }
+    ensures pairs { HasPairsOf session own.new index.new }
+    ensures others { KeepsOthers session index.old index.new }
+{
+    if let Some(lock) = own.pop() {
+        let left = own.pair_on(&lock.on, lock.span);
+        index.set(session, &lock.on, left, lock.span);
     }
 }

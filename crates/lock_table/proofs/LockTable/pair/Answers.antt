@@ -1,8 +1,5 @@
-use Rattle.std.proofs.Common.{◌∙◌, sym}
-use Rattle.lock_table.proofs.Locks.{join_next}
+use Rattle.lock_table.proofs.Lists.{pair_listed}
 use Rattle.lock_table.proofs.LockTable.pair.Goals as goal
 
-pub loop-lock-preserved : goal.loop-lock-preserved
-loop-lock-preserved c =
-    let more = join_next c.args.session c.args.on.now c.deref-lock-items.result.now c.loop-lock.lock-index c.lock-item.result c.loop-lock.pair c.loop-lock-test.true c.lock-item.is in
-    rw c.added_to-pair.ensures (sym more ∙ c.loop-lock.invariant)
+pub returns : goal.returns
+returns c = rw (← c.self.view_is, c.pair.ensures) (pair_listed c.self.inside.by_session c.self.inside.index c.self.invariant c.args.on.now c.args.session)

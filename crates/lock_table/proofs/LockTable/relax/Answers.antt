@@ -1,14 +1,22 @@
-use Rattle.std.proofs.Common.{◌≡◌, rules, ap, ◌∙◌, filter}
-use Rattle.std.proofs.lemmas.Fn.{filter_same}
-use Rattle.lock_table.specs.Table.{of_session}
-use Rattle.lock_table.proofs.Locks.{sessions_of_filter, lasts, relaxes}
+use Rattle.std.proofs.Common.{◌<◌, List, [], length, set, filter, sym, ap, ◌∙◌, subst, arith}
+use Rattle.std.proofs.lemmas.List.{get_or_default}
+use Rattle.step_model.specs.declared.resource.Span.TheVariants.{Statement}
+use Rattle.step_model.specs.Locks.{Lock, is_whole}
+use Rattle.lock_table.specs.Places.{Forgets, AreOfLists}
+use Rattle.lock_table.proofs.Lists.{relaxed, lists_changed}
 use Rattle.lock_table.proofs.LockTable.relax.Goals as goal
 
-left : (c : goal.After-retain) → c.retain.new.self.items ≡ filter (lasts c.args.session) c.self.inside.locks.items
-left c = filter_same _ (lasts c.args.session) _ (λ x b f called. search rules) _ _ c.retain.ensures.filtered
-
 pub invariant_of-self : goal.invariant_of-self
-invariant_of-self c = rw (left c) (sessions_of_filter (lasts c.args.session) c.self.inside.locks.items c.self.invariant)
+invariant_of-self c =
+    let within : c.args.session < length c.self.inside.by_session = omega (arith, c.self.invariant.long, c.has_list.ensures.within c.if-has_list.true) in
+    let own = get_or_default c.self.inside.by_session c.args.session c.index-self-session.result [] within in
+    subst (λ (ls : List Lock). AreOfLists (set c.self.inside.by_session c.args.session ls) c.forget.new.self) (sym (c.relax.ensures ∙ ap (λ (ls : List Lock). filter (λ lock. is_whole lock.span) ls) own))
+    (relaxed c.self.inside.by_session c.self.inside.index c.forget.new.self c.args.session within c.self.invariant
+    (subst (λ (ls : List Lock). Forgets c.args.session ls Statement c.self.inside.index c.forget.new.self) (c.as_slice.ensures ∙ own) c.forget.ensures))
 
-pub returns : goal.returns
-returns c who = rw (← c.self.view_is) (ap (of_session who) (left c) ∙ relaxes c.args.session c.self.inside.locks.items who)
+pub returns-then-has_list : goal.returns-then-has_list
+returns-then-has_list c =
+    let within : c.args.session < length c.self.inside.by_session = omega (arith, c.self.invariant.long, c.has_list.ensures.within c.if-has_list.true) in
+    let own = get_or_default c.self.inside.by_session c.args.session c.index-self-session.result [] within in
+    rw (← c.self.view_is)
+    (lists_changed c.self.inside.by_session c.args.session c.relax.new.self (filter (λ lock. is_whole lock.span)) within (c.relax.ensures ∙ ap (λ (ls : List Lock). filter (λ lock. is_whole lock.span) ls) own))

@@ -1,4 +1,4 @@
-use Rattle.lock_table.proofs.Locks.{none_of}
+use Rattle.lock_table.proofs.Numbers.{none_of}
 use Rattle.lock_table.proofs.pairs.Pairs.none.Goals as goal
 
 pub returns : goal.returns
