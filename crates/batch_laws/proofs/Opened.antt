@@ -50,7 +50,7 @@ abbrev pub Inside : {A : Type 0} → Doing A → Type 0
 Inside (over a) = Unit {0}
 Inside (reads look) = (p : SessionProgress) → p.is_open ≡ true → Inside (look p)
 Inside (makes step next) = IsOwnStep step × Inside next
-Inside (defines row go) = (found : Option Definition) → Inside (go found)
+Inside (defines entry go) = (found : Option Definition) → Inside (go found)
 Inside (asks op go) = IsInside op × ((reply : Reply) → CanReply op reply → Inside (go reply))
 Inside (room go) = (enough : Bool) → Inside (go enough)
 Inside never = Unit {0}
@@ -65,7 +65,7 @@ pub owns_inside : {A : Type 0} (tree : Doing A) → Owns tree → Inside tree
 owns_inside (over a) owns = tt
 owns_inside (reads look) owns = λ p is. owns_inside (look p) (owns p)
 owns_inside (makes step next) owns = (owns.0, owns_inside next owns.1)
-owns_inside (defines row go) owns = λ found. owns_inside (go found) (owns found)
+owns_inside (defines entry go) owns = λ found. owns_inside (go found) (owns found)
 owns_inside (asks op go) owns = (quiet_inside op owns.0, λ reply can. owns_inside (go reply) (owns.1 reply can))
 owns_inside (room go) owns = λ enough. owns_inside (go enough) (owns enough)
 owns_inside never owns = tt
@@ -78,7 +78,7 @@ unfolding ◌then◌
 inside_then (over a) go inside more = more a
 inside_then (reads look) go inside more = λ p is. inside_then (look p) go (inside p is) more
 inside_then (makes step next) go inside more = (inside.0, inside_then next go inside.1 more)
-inside_then (defines row next) go inside more = λ found. inside_then (next found) go (inside found) more
+inside_then (defines entry next) go inside more = λ found. inside_then (next found) go (inside found) more
 inside_then (asks op next) go inside more = (inside.0, λ reply can. inside_then (next reply) go (inside.1 reply can) more)
 inside_then (room next) go inside more = λ enough. inside_then (next enough) go (inside enough) more
 inside_then never go inside more = tt
@@ -225,7 +225,7 @@ module _ (txn : TxnState) where
   inside_keeps (over c) q new exchanges a inside held now = subst IsIn (sym held.2) now
   inside_keeps (reads look) q new exchanges a inside held now = inside_keeps (look q) q new exchanges a (inside q now.0) held now
   inside_keeps (makes step next) q new exchanges a inside held now = inside_keeps next (made step q) new exchanges a inside.1 held (in_step step q inside.0 now)
-  inside_keeps (defines row go) q new exchanges a inside held now = inside_keeps (go held.0) q new exchanges a (inside held.0) held.2 now
+  inside_keeps (defines entry go) q new exchanges a inside held now = inside_keeps (go held.0) q new exchanges a (inside held.0) held.2 now
   inside_keeps (asks op go) q new [] a inside held now = absurd held
   inside_keeps (asks op go) q new (x ∷ later) a inside held now = inside_keeps (go x.reply) (asked op x.reply q) new later a (inside.1 x.reply held.2) held.3 (in_op op x.reply q inside.0 held.2 now)
   inside_keeps (room go) q new exchanges a inside held now = inside_keeps (go held.0) q new exchanges a (inside held.0) held.1 now

@@ -22,7 +22,7 @@ unfolding Left
 left_nothing (over a) p = (refl, refl)
 left_nothing (reads look) p = left_nothing (look p) p
 left_nothing (makes step next) p = inl (refl, refl)
-left_nothing (defines row go) p = inl (refl, refl)
+left_nothing (defines entry go) p = inl (refl, refl)
 left_nothing (asks op go) p = refl
 left_nothing (room go) p = (false, left_nothing (go false) p)
 left_nothing never p = (refl, refl)
@@ -35,7 +35,7 @@ unfolding Held ◌then◌
 held_then (over c) go p mid new first second a b held more = rw (held.0) (subst (λ q. Held (go c) q second b new) held.2 (subst (λ x. Held (go x) mid second b new) held.1 more))
 held_then (reads look) go p mid new first second a b held more = held_then (look p) go p mid new first second a b held more
 held_then (makes step next) go p mid new first second a b held more = held_then next go (made step p) mid new first second a b held more
-held_then (defines row next) go p mid new first second a b held more = (held.0, held.1, held_then (next held.0) go p mid new first second a b held.2 more)
+held_then (defines entry next) go p mid new first second a b held more = (held.0, held.1, held_then (next held.0) go p mid new first second a b held.2 more)
 held_then (asks op next) go p mid new [] second a b held more = absurd held
 held_then (asks op next) go p mid new (x ∷ first) second a b held more = (held.0, held.1, held.2, held_then (next x.reply) go (asked op x.reply p) mid new first second a b held.3 more)
 held_then (room next) go p mid new first second a b held more = (held.0, held_then (next held.0) go p mid new first second a b held.1 more)
@@ -47,7 +47,7 @@ unfolding Held Left ◌then◌
 held_left (over c) go p mid new first second a held more = rw (held.0) (subst (λ q. Left (go c) q second new) held.2 (subst (λ x. Left (go x) mid second new) held.1 more))
 held_left (reads look) go p mid new first second a held more = held_left (look p) go p mid new first second a held more
 held_left (makes step next) go p mid new first second a held more = inr (held_left next go (made step p) mid new first second a held more)
-held_left (defines row next) go p mid new first second a held more = inr (held.0, held.1, held_left (next held.0) go p mid new first second a held.2 more)
+held_left (defines entry next) go p mid new first second a held more = inr (held.0, held.1, held_left (next held.0) go p mid new first second a held.2 more)
 held_left (asks op next) go p mid new [] second a held more = absurd held
 held_left (asks op next) go p mid new (x ∷ first) second a held more = (held.0, held.1, held.2, held_left (next x.reply) go (asked op x.reply p) mid new first second a held.3 more)
 held_left (room next) go p mid new first second a held more = (held.0, held_left (next held.0) go p mid new first second a held.1 more)
@@ -59,8 +59,8 @@ left_then (over c) go p new exchanges left = rw (left.0, left.1) (left_nothing (
 left_then (reads look) go p new exchanges left = left_then (look p) go p new exchanges left
 left_then (makes step next) go p new exchanges (inl here) = inl here
 left_then (makes step next) go p new exchanges (inr later) = inr (left_then next go (made step p) new exchanges later)
-left_then (defines row next) go p new exchanges (inl here) = inl here
-left_then (defines row next) go p new exchanges (inr later) = inr (later.0, later.1, left_then (next later.0) go p new exchanges later.2)
+left_then (defines entry next) go p new exchanges (inl here) = inl here
+left_then (defines entry next) go p new exchanges (inr later) = inr (later.0, later.1, left_then (next later.0) go p new exchanges later.2)
 left_then (asks op next) go p new [] left = left
 left_then (asks op next) go p new (x ∷ later) left = (left.0, left.1, left.2, left_then (next x.reply) go (asked op x.reply p) new later left.3)
 left_then (room next) go p new exchanges left = (left.0, left_then (next left.0) go p new exchanges left.1)
@@ -93,7 +93,7 @@ unfolding Held Left
 does_room {A = A} {go = go} {p = p} {new = new} {result = Ok a} enough does = record { exchanges = does.exchanges; past = does.past; came = (enough, does.came) }
 does_room {A = A} {go = go} {p = p} {new = new} {result = Err m} enough does = record { exchanges = does.exchanges; past = does.past; came = (enough, does.came) }
 
-pub does_defines : {before after : PortPast} {A : Type 0} {row : List Value} {go : Option Definition → Doing A} {p new : SessionProgress} {result : Result A Memory} (found : Option Definition) → IsDefinitionIn row found → Did before after (go found) p result new → Did before after (defines row go) p result new
+pub does_defines : {before after : PortPast} {A : Type 0} {entry : List Value × List Value} {go : Option Definition → Doing A} {p new : SessionProgress} {result : Result A Memory} (found : Option Definition) → IsDefinitionIn entry found → Did before after (go found) p result new → Did before after (defines entry go) p result new
 unfolding Held Left
 does_defines {A = A} {go = go} {p = p} {new = new} {result = Ok a} found is does = record { exchanges = does.exchanges; past = does.past; came = (found, is, does.came) }
 does_defines {A = A} {go = go} {p = p} {new = new} {result = Err m} found is does = record { exchanges = does.exchanges; past = does.past; came = inr (found, is, does.came) }

@@ -87,7 +87,7 @@ assigns_all (one ∷ rest) next = makes (assigns one.0 one.1) (assigns_all rest 
 
 -- what the row at a name's key in `objects` defines, or nothing
 abbrev pub known : Reply → Doing (Result (Option Definition) Failure)
-known (replies.Row key row at) = with_room (defines row (λ found. over (Ok found)))
+known (replies.Row key row at) = with_room (defines (key, row) (λ found. over (Ok found)))
 known (replies.Gone key at) = over (Ok None)
 known (replies.End at) = over (Ok None)
 known reply = never
@@ -136,7 +136,7 @@ objects_fetch start = ops.Fetch (rows_table objects_name) start Last hold.Range 
 
 -- what a fetch's reply makes of the definitions so far, with the key to go on from, or none at the end
 abbrev pub defined_by : List Definition → Reply → Doing (Result (List Definition × Option (List Value)) Failure)
-defined_by so_far (replies.Row key row at) = with_room (defines row (λ found. with_room (over (Ok (with_found so_far found, Some key)))))
+defined_by so_far (replies.Row key row at) = with_room (defines (key, row) (λ found. with_room (over (Ok (with_found so_far found, Some key)))))
 defined_by so_far (replies.Gone key at) = over (Ok (so_far, Some key))
 defined_by so_far (replies.End at) = over (Ok (so_far, None))
 defined_by so_far reply = never

@@ -12,15 +12,15 @@ use Rattle.step_model.specs.Exchange.{Exchange, CanReply}
 use Rattle.step_model.specs.Port.{PortPast, GoesOn}
 use Rattle.batch_meaning.specs.Progress.{SessionProgress, SessionStep, made, asked}
 
--- A value; how to go on by the progress; a step, and what follows; a row of `objects`, and how to go on by what it
--- defines for its own name, which is one thing or nothing; an operation, and how to go on by its reply; how to go on
+-- A value; how to go on by the progress; a step, and what follows; a row of `objects` with its key, and how to go
+-- on by what it defines, which is one thing or nothing; an operation, and how to go on by its reply; how to go on
 -- where memory was left for what comes next, or wasn't, which is the one free answer; or nothing, behind a reply
 -- that does not come.
 pub data Doing (A : Type 0) : Type 0 where
   over : A → Doing A
   reads : (SessionProgress → Doing A) → Doing A
   makes : SessionStep → Doing A → Doing A
-  defines : List Value → (Option Definition → Doing A) → Doing A
+  defines : List Value × List Value → (Option Definition → Doing A) → Doing A
   asks : Op → (Reply → Doing A) → Doing A
   room : (Bool → Doing A) → Doing A
   never : Doing A
@@ -31,7 +31,7 @@ unfoldable pub ◌then◌ : {A B : Type 0} → Doing A → (A → Doing B) → D
 (over a) then go = go a
 (reads look) then go = reads (λ p. look p then go)
 (makes step next) then go = makes step (next then go)
-(defines row next) then go = defines row (λ found. next found then go)
+(defines entry next) then go = defines entry (λ found. next found then go)
 (asks op next) then go = asks op (λ reply. next reply then go)
 (room next) then go = room (λ enough. next enough then go)
 never then go = never
@@ -43,7 +43,7 @@ unfoldable pub Held : {A : Type 0} → Doing A → SessionProgress → List Exch
 Held (over a) p exchanges result new = (exchanges ≡ []) × (result ≡ a) × (new ≡ p)
 Held (reads look) p exchanges result new = Held (look p) p exchanges result new
 Held (makes step next) p exchanges result new = Held next (made step p) exchanges result new
-Held (defines row go) p exchanges result new = (found : Option Definition) × IsDefinitionIn row found × Held (go found) p exchanges result new
+Held (defines entry go) p exchanges result new = (found : Option Definition) × IsDefinitionIn entry found × Held (go found) p exchanges result new
 Held (asks op go) p [] result new = ⊥
 Held (asks op go) p (x ∷ later) result new = (x.op ≡ op) × (x.manner ≡ p.settings.manner) × CanReply op x.reply × Held (go x.reply) (asked op x.reply p) later result new
 Held (room go) p exchanges result new = (enough : Bool) × Held (go enough) p exchanges result new
@@ -55,7 +55,7 @@ unfoldable pub Left : {A : Type 0} → Doing A → SessionProgress → List Exch
 Left (over a) p exchanges new = (exchanges ≡ []) × (new ≡ p)
 Left (reads look) p exchanges new = Left (look p) p exchanges new
 Left (makes step next) p exchanges new = ((exchanges ≡ []) × (new ≡ p)) ⊎ Left next (made step p) exchanges new
-Left (defines row go) p exchanges new = ((exchanges ≡ []) × (new ≡ p)) ⊎ ((found : Option Definition) × IsDefinitionIn row found × Left (go found) p exchanges new)
+Left (defines entry go) p exchanges new = ((exchanges ≡ []) × (new ≡ p)) ⊎ ((found : Option Definition) × IsDefinitionIn entry found × Left (go found) p exchanges new)
 Left (asks op go) p [] new = new ≡ p
 Left (asks op go) p (x ∷ later) new = (x.op ≡ op) × (x.manner ≡ p.settings.manner) × CanReply op x.reply × Left (go x.reply) (asked op x.reply p) later new
 Left (room go) p exchanges new = (enough : Bool) × Left (go enough) p exchanges new

@@ -82,7 +82,7 @@ module _ (around : Around) where
       filter is_fired (filter_map (λ place. trigger_in (slice_get definitions place)) (seen.triggers_for (table_written write).object (event_of write) definitions))
 
   -- The definitions are read, and the tables of a write; what it changes is planned, and asked where it can be told. What its triggers see is
-  -- there before anything is changed, so that behind the changes nothing is wanted.
+  -- there before anything is changed, so that behind the changes they want no memory for it.
   unfoldable pub changes : TableTree → List TableTree → BoundWrite → Doing (Result Written Failure)
   changes shape shapes write = do
     definitions ← reads_definitions

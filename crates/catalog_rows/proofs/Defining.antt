@@ -142,11 +142,11 @@ one_definition name row None None x y = refl
 
 -- ---- rows by their own names
 
-pub at_name : (name : List ℕ) (row : List Value) (result : Result (Option Definition) Memory)
-    → own_name row ≡ Some name → IfOk result (λ (found : Option Definition). IsDefinitionOf name row found)
-    → IfOk result (λ (found : Option Definition). IsDefinitionIn row found)
-at_name name row result same is =
+pub at_name : (name : List ℕ) (key row : List Value) (result : Result (Option Definition) Memory)
+    → own_name key row ≡ Some name → IfOk result (λ (found : Option Definition). IsDefinitionOf name row found)
+    → IfOk result (λ (found : Option Definition). IsDefinitionIn (key, row) found)
+at_name name key row result same is =
     subst (λ (n : Option (List ℕ)). IfOk result (λ (found : Option Definition). IsOfName n row found)) (sym same) is
 
-pub at_none : (row : List Value) → own_name row ≡ None → IsDefinitionIn row None
-at_none row none = subst (λ (n : Option (List ℕ)). IsOfName n row None) (sym none) refl
+pub at_none : (key row : List Value) → own_name key row ≡ None → IsDefinitionIn (key, row) None
+at_none key row none = subst (λ (n : Option (List ℕ)). IsOfName n row None) (sym none) refl

@@ -1,6 +1,6 @@
 -- Own: the table `objects` has a row for each table, procedure and trigger: its name, and the text of its CREATE
--- statement. A row says what its text reads as, if that is a definition of the row's name; what else stands there is
--- read as no row. A row is said to be that of a given tree; the code reads the text.
+-- statement. A row says what its text reads as, if that is a definition of the row's name and the row stands at the name's
+-- key; what else stands there is read as no row. A row is said to be that of a given tree; the code reads the text.
 use Rattle.std.specs.Prelude.{◌≡◌, ◌≤◌, ℕ, Bool, List, [], ◌∷◌, length, filter_map, codes, Option, Some, None, Ok, if◌then◌else◌}
 use Rattle.value_types.specs.Units.{same_units}
 use Rattle.value_types.specs.declared.value.Value.{Value}
@@ -9,6 +9,7 @@ use Rattle.tsql_tree.specs.declared.definition.TableTree.{TableTree}
 use Rattle.tsql_tree.specs.declared.definition.Definition.{Definition}
 use Rattle.tsql_tree.specs.declared.definition.Definition.TheVariants.{Table, Procedure, Trigger}
 use Rattle.stmt_parser.specs.Parsed.{DefinitionOf}
+use Rattle.catalog_rows.specs.Rows.{same_key}
 
 -- ---- rows of `objects`
 
@@ -55,18 +56,19 @@ abbrev pub IsDefinitionOf : List ℕ → List Value → Option Definition → Ty
 IsDefinitionOf name row (Some definition) = (text : List ℕ) × (row ≡ row_of name text) × Defines name text definition
 IsDefinitionOf name row None = (text : List ℕ) (definition : Definition) → row ≡ row_of name text → Defines name text definition → ⊥
 
--- the name of a row, which stands first; a row that begins otherwise has none
-abbrev pub own_name : List Value → Option (List ℕ)
-own_name (Text name ∷ rest) = Some name
-own_name row = None
+-- the name of a row that stands at its own key: the row's first value; keys that compare equal are one key. A row that begins otherwise, or stands
+-- at another key, has none.
+abbrev pub own_name : List Value → List Value → Option (List ℕ)
+own_name key (Text name ∷ rest) = if same_key (object_key name) key then Some name else None
+own_name key row = None
 
 abbrev pub IsOfName : Option (List ℕ) → List Value → Option Definition → Type 0
 IsOfName (Some name) row outcome = IsDefinitionOf name row outcome
 IsOfName None row outcome = outcome ≡ None
 
--- The same of a row for its own name, at whichever key it stands.
-abbrev pub IsDefinitionIn : List Value → Option Definition → Type 0
-IsDefinitionIn row outcome = IsOfName (own_name row) row outcome
+-- The same of a row for its own name, beside the key at which it stands.
+abbrev pub IsDefinitionIn : List Value × List Value → Option Definition → Type 0
+IsDefinitionIn entry outcome = IsOfName (own_name entry.0 entry.1) entry.1 outcome
 
 -- Private contracts alone cite these: the text in a row of this name, and a definition where it is one of the name.
 abbrev pub text_in : List ℕ → List Value → Option (List ℕ)

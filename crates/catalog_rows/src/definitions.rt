@@ -3,6 +3,7 @@
 ghost use Rattle.std.specs.Prelude.{◌≡◌, IfOk, option_map};
 ghost use Rattle.catalog_rows.specs.Definitions as spec;
 
+use crate::rows::has_values;
 use std::alloc::Global;
 use stmt_parser::{ParseFault, parse_definition};
 use tsql_tree::{Definition, TableTree};
@@ -10,6 +11,9 @@ use value_types::{Key, Memory, Row, Units, Value};
 
 /// The units of the name `objects`.
 const OBJECTS: [u16; 7] = [0x6F, 0x62, 0x6A, 0x65, 0x63, 0x74, 0x73];
+
+/// The places of the key of `objects`.
+const KEY_PLACES: [u16; 1] = [0];
 
 /// The most units of a text that is read as a definition.
 pub const LONGEST_TEXT: usize = 2_147_483_647;
@@ -65,23 +69,24 @@ fn text_in<'a>(name: &Units, row: &'a Row) -> Option<&'a Units>
     }
 }
 
-/// What a row of `objects` defines for its own name; none where it begins with no name.
+/// What a row of `objects` defines for its own name; none where it begins with no name, or stands at another key than its
+/// name's.
 #[tactic(auto, using(crate::proofs::Defining::at_name, crate::proofs::Defining::at_none))]
-pub fn definition_in(alloc: Global, row: &Row) -> Result<Option<Definition>, Memory>
-    ensures { IfOk result (λ found. spec.IsDefinitionIn row.now found) }
+pub fn definition_in(alloc: Global, key: &Key, row: &Row) -> Result<Option<Definition>, Memory>
+    ensures { IfOk result (λ found. spec.IsDefinitionIn (key.now, row.now) found) }
 {
-    match own_name(row) {
+    match own_name(key, row) {
         Some(name) => definition_of(alloc, name, row),
         None => Ok(None),
     }
 }
 
-/// The name of a row, which stands first.
-fn own_name(row: &Row) -> Option<&Units>
-    ensures { option_map (λ name. name.now) result ≡ spec.own_name row.now }
+/// The name of a row that stands at its own key.
+fn own_name<'a>(key: &Key, row: &'a Row) -> Option<&'a Units>
+    ensures { option_map (λ name. name.now) result ≡ spec.own_name key.now row.now }
 {
     match row.as_slice() {
-        [Value::Text(name), ..] => Some(name),
+        [Value::Text(name), ..] if has_values(row, &KEY_PLACES, key.as_slice()) => Some(name),
         _ => None,
     }
 }

@@ -29,22 +29,27 @@ use Rattle.integrity_laws.proofs.Defined.{not_same, one_name, one_table, one_thi
 abbrev Says : List Value → Definition → Type 0
 Says row definition = (name : List ℕ) × IsDefinitionOf name row (Some definition)
 
-says_in : (row : List Value) (definition : Definition) → IsDefinitionIn row (Some definition) → Says row definition
-says_in row definition is = by_name (own_name row) is
+says_in : (entry : Entry) (definition : Definition) → IsDefinitionIn entry (Some definition) → Says entry.1 definition
+says_in entry definition is = by_name (own_name entry.0 entry.1) is
   where
-    by_name : (name : Option (List ℕ)) → IsOfName name row (Some definition) → Says row definition
+    by_name : (name : Option (List ℕ)) → IsOfName name entry.1 (Some definition) → Says entry.1 definition
     by_name None is = let both : Some definition ≡ None = is in cc
     by_name (Some name) is = (name, is)
 
+-- it defines this for the name at whose key it stands
+abbrev IsSaid : Definition → Entry → Type 0
+IsSaid definition entry = (name : List ℕ) × (same_key (object_key name) entry.0 ≡ true) × IsDefinitionOf name entry.1 (Some definition)
+
 -- where nothing is read in it, it defines nothing
-none_in : (row : List Value) → IsDefinitionIn row None → (definition : Definition) → Says row definition → ⊥
-none_in row is definition said =
-    let none : IsDefinitionOf said.0 row None = subst (λ (name : Option (List ℕ)). IsOfName name row None) (ap own_name said.1.1) is in
-    none said.1.0 definition said.1.1 said.1.2
+none_in : (entry : Entry) → IsDefinitionIn entry None → (definition : Definition) → IsSaid definition entry → ⊥
+none_in entry is definition (name, at, (text, same, defines)) =
+    let own : own_name entry.0 entry.1 ≡ Some name = ap (own_name entry.0) same ∙ ap (λ (b : Bool). if b then Some name else None) at in
+    let none : IsDefinitionOf name entry.1 None = subst (λ (n : Option (List ℕ)). IsOfName n entry.1 None) own is in
+    none text definition same defines
 
 pub found_defined : FoundDefined
 found_defined db key row definition firm stands is =
-    let said = says_in row definition is in
+    let said = says_in (key, row) definition is in
     let own = firm.definitions key row stands in
     let names : own.name ≡ said.0 = one_name row own.name said.0 own.definition definition own.defines said.1 in
     let at : db (rows_table objects_name) (object_key said.0) ≡ db (rows_table objects_name) key =
@@ -61,7 +66,7 @@ module _ (db : Database) (firm : Firm db) where
   abbrev Stand : List Entry → Type 0
   Stand entries = AllByRecursion (λ entry. db (rows_table objects_name) entry.0 ≡ Some entry.1) entries
 
-  with_defined : (so_far : List Definition) (entry : Entry) (found : Option Definition) → db (rows_table objects_name) entry.0 ≡ Some entry.1 → IsDefinitionIn entry.1 found
+  with_defined : (so_far : List Definition) (entry : Entry) (found : Option Definition) → db (rows_table objects_name) entry.0 ≡ Some entry.1 → IsDefinitionIn entry found
       → AllByRecursion (DefinedIn db) so_far → AllByRecursion (DefinedIn db) (with_found so_far found)
   with_defined so_far entry None stands is all = all
   with_defined so_far entry (Some definition) stands is all = all_both (DefinedIn db) so_far (definition ∷ []) all (found_defined db entry.0 entry.1 definition firm stands is, tt)
@@ -99,15 +104,12 @@ among_stays : (definition : Definition) (entries : List Entry) (so_far all : Lis
 among_stays definition [] so_far all read among = subst (Among (λ of. of ≡ definition)) (sym read) among
 among_stays definition (entry ∷ rest) so_far all read among = among_stays definition rest (with_found so_far read.0) all read.2 (among_found definition so_far read.0 among)
 
-abbrev IsSaid : Definition → Entry → Type 0
-IsSaid definition entry = Says entry.1 definition
-
-said_found : (definition : Definition) (so_far : List Definition) (entry : Entry) (found : Option Definition) → IsSaid definition entry → IsDefinitionIn entry.1 found → Among (λ of. of ≡ definition) (with_found so_far found)
-said_found definition so_far entry None said is = absurd (none_in entry.1 is definition said)
+said_found : (definition : Definition) (so_far : List Definition) (entry : Entry) (found : Option Definition) → IsSaid definition entry → IsDefinitionIn entry found → Among (λ of. of ≡ definition) (with_found so_far found)
+said_found definition so_far entry None said is = absurd (none_in entry is definition said)
 said_found definition so_far entry (Some other) said is =
-    let also = says_in entry.1 other is in
-    let names : also.0 ≡ said.0 = one_name entry.1 also.0 said.0 other definition also.1 said.1 in
-    among_right (λ of. of ≡ definition) so_far (other ∷ []) (inl (one_thing entry.1 said.0 other definition (subst (λ (n : List ℕ). IsDefinitionOf n entry.1 (Some other)) names also.1) said.1))
+    let also = says_in entry other is in
+    let names : also.0 ≡ said.0 = one_name entry.1 also.0 said.0 other definition also.1 said.2 in
+    among_right (λ of. of ≡ definition) so_far (other ∷ []) (inl (one_thing entry.1 said.0 other definition (subst (λ (n : List ℕ). IsDefinitionOf n entry.1 (Some other)) names also.1) said.2))
 
 all_found : (definition : Definition) (entries : List Entry) (so_far all : List Definition) → ReadAs so_far entries all → Among (IsSaid definition) entries → Among (λ of. of ≡ definition) all
 all_found definition [] so_far all read none = absurd none
@@ -148,7 +150,7 @@ module _ (db : Database) (entries : List Entry) (all : List Definition) (firm : 
       one at h =
           let both : Some is.0 ≡ Some at.1 = sym is.1 ∙ firm.one_key (rows_table objects_name) (object_key name) at.0 h.1 ∙ h.0 in
           let rows : is.0 ≡ at.1 = cc in
-          (name, subst (λ (row : List Value). IsDefinitionOf name row (Some definition)) rows is.2)
+          (name, h.1, subst (λ (row : List Value). IsDefinitionOf name row (Some definition)) rows is.2)
 
 is_among : (definition : Definition) (list : List Definition) → Among (λ of. of ≡ definition) list → IsAmong definition list
 is_among definition [] none = none

@@ -1,6 +1,6 @@
 -- Own: the law of definitions that are read. What a row of `objects` is read as is defined; and where all of `objects` is
--- read, the definitions are exactly those of the database. A row tells by itself which name it defines,
--- so nothing is asked of the keys at which rows stand: a row may stand at one that compares equal to its name's.
+-- read, the definitions are exactly those of the database. A row stands at the key of the name that it defines, or at one
+-- that compares equal to it.
 use Rattle.std.specs.Prelude.{◌≡◌, List, [], ◌∷◌, Option, Some}
 use Rattle.value_types.specs.declared.value.Value.{Value}
 use Rattle.tsql_tree.specs.declared.definition.Definition.{Definition}
@@ -20,11 +20,11 @@ Entry = List Value × List Value
 -- these are all definitions of the rows, in their order, behind others
 abbrev pub ReadAs : List Definition → List Entry → List Definition → Type 0
 ReadAs so_far [] all = all ≡ so_far
-ReadAs so_far (entry ∷ rest) all = (found : Option Definition) × IsDefinitionIn entry.1 found × ReadAs (with_found so_far found) rest all
+ReadAs so_far (entry ∷ rest) all = (found : Option Definition) × IsDefinitionIn entry found × ReadAs (with_found so_far found) rest all
 
 -- what a row is read as is defined
 abbrev pub FoundDefined : Type 0
-FoundDefined = (db : Database) (key row : List Value) (definition : Definition) → Firm db → db (rows_table objects_name) key ≡ Some row → IsDefinitionIn row (Some definition) → IsDefined db (defined_name definition) definition
+FoundDefined = (db : Database) (key row : List Value) (definition : Definition) → Firm db → db (rows_table objects_name) key ≡ Some row → IsDefinitionIn (key, row) (Some definition) → IsDefined db (defined_name definition) definition
 
 -- the tables of all rows are those that are defined
 abbrev pub FoundTables : Type 0

@@ -64,8 +64,7 @@ pub fn law_firm_erased()
     ensures { FirmErased }
 {}
 
-/// What a row of `objects` is read as is defined; and the definitions of all its rows are exactly those of the database, at
-/// whichever keys they stand.
+/// What a row of `objects` is read as is defined; and the definitions of all its rows are exactly those of the database.
 pub fn law_found()
     ensures defined { FoundDefined }
     ensures tables { FoundTables }

@@ -93,10 +93,10 @@ module _ (log : List Logged) (mine : List Exchange) where
   brings_room From next To brings before part later p is agree from =
       (λ new left. (brings left.0 before part later p is agree from).0 new left.1, λ result new held. (brings held.0 before part later p is agree from).1 result new held.1)
 
-  pub brings_defines : {A : Type 0} (From : List Exchange → List Exchange → Type 0) (row : List Value) (next : Option Definition → Doing A) (To : A → List Exchange → List Exchange → Type 0)
-      → ((found : Option Definition) → IsDefinitionIn row found → Brings log mine From (next found) To) → Brings log mine From (defines row next) To
+  pub brings_defines : {A : Type 0} (From : List Exchange → List Exchange → Type 0) (entry : List Value × List Value) (next : Option Definition → Doing A) (To : A → List Exchange → List Exchange → Type 0)
+      → ((found : Option Definition) → IsDefinitionIn entry found → Brings log mine From (next found) To) → Brings log mine From (defines entry next) To
   unfolding Held Left
-  brings_defines From row next To brings before part later p is agree from = (
+  brings_defines From entry next To brings before part later p is agree from = (
     λ new left. elim left [ inl here ↦ keep_none log before part here.0 | inr there ↦ (brings there.0 there.1 before part later p is agree from).0 new there.2 ],
     λ result new held. (brings held.0 held.1 before part later p is agree from).1 result new held.2,
   )

@@ -46,7 +46,7 @@ pub only_more : {A : Type 0} (Steps : SessionStep → Type 0) (P Q : Op → Type
 only_more Steps P Q more (over a) only = tt
 only_more Steps P Q more (reads look) only = λ p. only_more Steps P Q more (look p) (only p)
 only_more Steps P Q more (makes step next) only = (tt, only_more Steps P Q more next only.1)
-only_more Steps P Q more (defines row go) only = λ found. only_more Steps P Q more (go found) (only found)
+only_more Steps P Q more (defines entry go) only = λ found. only_more Steps P Q more (go found) (only found)
 only_more Steps P Q more (asks op go) only = (more op only.0, λ reply can. only_more Steps P Q more (go reply) (only.1 reply can))
 only_more Steps P Q more (room go) only = λ enough. only_more Steps P Q more (go enough) (only enough)
 only_more Steps P Q more never only = tt
@@ -69,7 +69,7 @@ module _ (session : ℕ) (begin log : List Logged) (mine : List Exchange) (tied 
   still_brings {A} (over a) only = brings_over log mine (Stands log) a (λ (a : A). Stands log) (λ before later is stands. stands)
   still_brings {A} (reads look) only = brings_reads log mine (Stands log) look (λ (a : A). Stands log) (λ p. still_brings (look p) (only p))
   still_brings {A} (makes step next) only = brings_makes log mine (Stands log) step next (λ (a : A). Stands log) (still_brings next only.1)
-  still_brings {A} (defines row go) only = brings_defines log mine (Stands log) row go (λ (a : A). Stands log) (λ found is. still_brings (go found) (only found))
+  still_brings {A} (defines entry go) only = brings_defines log mine (Stands log) entry go (λ (a : A). Stands log) (λ found is. still_brings (go found) (only found))
   still_brings {A} (asks op go) only = brings_asks log mine (Stands log) op go (λ reply. Stands log) (λ (a : A). Stands log)
       (λ before x later is of can stands. ((λ commits. commit_keeps session begin log mine tied before x later is commits stands), one_stands session begin log mine tied before x later is (subst IsStill (sym of) only.0) stands))
       (λ reply can. still_brings (go reply) (only.1 reply can))

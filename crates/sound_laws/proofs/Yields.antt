@@ -52,7 +52,7 @@ abbrev pub Yields : {A : Type 0} → (A → Type 0) → Doing A → Type 0
 Yields P (over a) = P a
 Yields P (reads look) = (p : SessionProgress) → Yields P (look p)
 Yields P (makes step next) = Yields P next
-Yields P (defines row go) = (found : Option Definition) → IsDefinitionIn row found → Yields P (go found)
+Yields P (defines entry go) = (found : Option Definition) → IsDefinitionIn entry found → Yields P (go found)
 Yields P (asks op go) = (reply : Reply) → Yields P (go reply)
 Yields P (room go) = (enough : Bool) → Yields P (go enough)
 Yields P never = Unit {0}
@@ -62,7 +62,7 @@ unfolding Held
 held_yields P (over a) p new exchanges result yields held = subst P (sym held.1) yields
 held_yields P (reads look) p new exchanges result yields held = held_yields P (look p) p new exchanges result (yields p) held
 held_yields P (makes step next) p new exchanges result yields held = held_yields P next _ new exchanges result yields held
-held_yields P (defines row go) p new exchanges result yields held = held_yields P (go held.0) p new exchanges result (yields held.0 held.1) held.2
+held_yields P (defines entry go) p new exchanges result yields held = held_yields P (go held.0) p new exchanges result (yields held.0 held.1) held.2
 held_yields P (asks op go) p new [] result yields held = absurd held
 held_yields P (asks op go) p new (x ∷ later) result yields held = held_yields P (go x.reply) _ new later result (yields x.reply) held.3
 held_yields P (room go) p new exchanges result yields held = held_yields P (go held.0) p new exchanges result (yields held.0) held.1
@@ -73,7 +73,7 @@ pub yields_any : {A : Type 0} (tree : Doing A) → Yields (λ a. Unit {0}) tree
 yields_any (over a) = tt
 yields_any (reads look) = λ p. yields_any (look p)
 yields_any (makes step next) = yields_any next
-yields_any (defines row go) = λ found is. yields_any (go found)
+yields_any (defines entry go) = λ found is. yields_any (go found)
 yields_any (asks op go) = λ reply. yields_any (go reply)
 yields_any (room go) = λ enough. yields_any (go enough)
 yields_any never = tt
@@ -83,7 +83,7 @@ unfolding ◌then◌
 yields_then P Q (over a) go first second = second a first
 yields_then P Q (reads look) go first second = λ p. yields_then P Q (look p) go (first p) second
 yields_then P Q (makes step next) go first second = yields_then P Q next go first second
-yields_then P Q (defines row next) go first second = λ found is. yields_then P Q (next found) go (first found is) second
+yields_then P Q (defines entry next) go first second = λ found is. yields_then P Q (next found) go (first found is) second
 yields_then P Q (asks op next) go first second = λ reply. yields_then P Q (next reply) go (first reply) second
 yields_then P Q (room next) go first second = λ enough. yields_then P Q (next enough) go (first enough) second
 yields_then P Q never go first second = tt
@@ -140,8 +140,8 @@ back_of None row found is = subst BackIf (sym is) tt
 back_of (Some name) row None is = tt
 back_of (Some name) row (Some definition) is = defined_text name is.0 definition is.2
 
-pub found_back : (row : List Value) (found : Option Definition) → IsDefinitionIn row found → BackIf found
-found_back row found is = back_of (own_name row) row found is
+pub found_back : (entry : List Value × List Value) (found : Option Definition) → IsDefinitionIn entry found → BackIf found
+found_back entry found is = back_of (own_name entry.0 entry.1) entry.1 found is
 
 all_with : (so_far : List Definition) (found : Option Definition) → AllBack so_far → BackIf found → AllBack (with_found so_far found)
 all_with so_far None all back = all
@@ -162,8 +162,8 @@ defined_yields (suc left) start so_far all =
     Came came = AllBack came.0
 
     by_reply : (reply : Reply) → Yields (Well Came) (unless_refused (defined_by so_far) reply)
-    by_reply (replies.Row key row at) = yields_room Came (defines row (λ found. with_room (over (Ok (with_found so_far found, Some key)))))
-        (λ found is. yields_room Came (over (Ok (with_found so_far found, Some key))) (all_with so_far found all (found_back row found is)))
+    by_reply (replies.Row key row at) = yields_room Came (defines (key, row) (λ found. with_room (over (Ok (with_found so_far found, Some key)))))
+        (λ found is. yields_room Came (over (Ok (with_found so_far found, Some key))) (all_with so_far found all (found_back (key, row) found is)))
     by_reply (replies.Gone key at) = all
     by_reply (replies.End at) = all
     by_reply replies.Memory = tt
@@ -185,7 +185,7 @@ unfolding look_up
 look_yields name = by_objects (is_objects name)
   where
     by_reply : (reply : Reply) → Yields (Well BackIf) (unless_refused known reply)
-    by_reply (replies.Row key row at) = yields_room BackIf (defines row (λ found. over (Ok found))) (λ found is. found_back row found is)
+    by_reply (replies.Row key row at) = yields_room BackIf (defines (key, row) (λ found. over (Ok found))) (λ found is. found_back (key, row) found is)
     by_reply (replies.Gone key at) = tt
     by_reply (replies.End at) = tt
     by_reply replies.Memory = tt

@@ -63,7 +63,7 @@ unfoldable pub BeginsNone : {A : Type 0} → Doing A → Type 0
 BeginsNone (over a) = Unit {0}
 BeginsNone (reads look) = (p : SessionProgress) → BeginsNone (look p)
 BeginsNone (makes step next) = IsPlain step × BeginsNone next
-BeginsNone (defines row go) = (found : Option Definition) → BeginsNone (go found)
+BeginsNone (defines entry go) = (found : Option Definition) → BeginsNone (go found)
 BeginsNone (asks op go) = (reply : Reply) → BeginsNone (go reply)
 BeginsNone (room go) = (enough : Bool) → BeginsNone (go enough)
 BeginsNone never = Unit {0}
@@ -80,7 +80,7 @@ unfolding Held BeginsNone
 held_none (over a) p new exchanges result none held = ap (λ (q : SessionProgress). q.statements_left) held.2
 held_none (reads look) p new exchanges result none held = held_none (look p) p new exchanges result (none p) held
 held_none (makes step next) p new exchanges result none held = held_none next (made step p) new exchanges result none.1 held ∙ step_left step p none.0
-held_none (defines row go) p new exchanges result none held = held_none (go held.0) p new exchanges result (none held.0) held.2
+held_none (defines entry go) p new exchanges result none held = held_none (go held.0) p new exchanges result (none held.0) held.2
 held_none (asks op go) p new [] result none held = absurd held
 held_none (asks op go) p new (x ∷ later) result none held = held_none (go x.reply) _ new later result (none x.reply) held.3
 held_none (room go) p new exchanges result none held = held_none (go held.0) p new exchanges result (none held.0) held.1
@@ -92,8 +92,8 @@ left_none (over a) p new exchanges none left = ap (λ (q : SessionProgress). q.s
 left_none (reads look) p new exchanges none left = left_none (look p) p new exchanges (none p) left
 left_none (makes step next) p new exchanges none (inl here) = ap (λ (q : SessionProgress). q.statements_left) here.1
 left_none (makes step next) p new exchanges none (inr later) = left_none next (made step p) new exchanges none.1 later ∙ step_left step p none.0
-left_none (defines row go) p new exchanges none (inl here) = ap (λ (q : SessionProgress). q.statements_left) here.1
-left_none (defines row go) p new exchanges none (inr later) = left_none (go later.0) p new exchanges (none later.0) later.2
+left_none (defines entry go) p new exchanges none (inl here) = ap (λ (q : SessionProgress). q.statements_left) here.1
+left_none (defines entry go) p new exchanges none (inr later) = left_none (go later.0) p new exchanges (none later.0) later.2
 left_none (asks op go) p new [] none left = ap (λ (q : SessionProgress). q.statements_left) left
 left_none (asks op go) p new (x ∷ later) none left = left_none (go x.reply) _ new later (none x.reply) left.3
 left_none (room go) p new exchanges none left = left_none (go left.0) p new exchanges (none left.0) left.1
@@ -121,9 +121,9 @@ pub none_makes : {A : Type 0} (step : SessionStep) (next : Doing A) → IsPlain 
 unfolding BeginsNone
 none_makes step next plain none = (plain, none)
 
-pub none_defines : {A : Type 0} (row : List Value) (go : Option Definition → Doing A) → ((found : Option Definition) → BeginsNone (go found)) → BeginsNone (defines row go)
+pub none_defines : {A : Type 0} (entry : List Value × List Value) (go : Option Definition → Doing A) → ((found : Option Definition) → BeginsNone (go found)) → BeginsNone (defines entry go)
 unfolding BeginsNone
-none_defines row go none = none
+none_defines entry go none = none
 
 pub none_asks : {A : Type 0} (op : Op) (go : Reply → Doing A) → ((reply : Reply) → BeginsNone (go reply)) → BeginsNone (asks op go)
 unfolding BeginsNone
@@ -145,7 +145,7 @@ unfolding BeginsNone ◌then◌
 none_then (over a) go none more = more a
 none_then (reads look) go none more = λ p. none_then (look p) go (none p) more
 none_then (makes step next) go none more = (none.0, none_then next go none.1 more)
-none_then (defines row next) go none more = λ found. none_then (next found) go (none found) more
+none_then (defines entry next) go none more = λ found. none_then (next found) go (none found) more
 none_then (asks op next) go none more = λ reply. none_then (next reply) go (none reply) more
 none_then (room next) go none more = λ enough. none_then (next enough) go (none enough) more
 none_then never go none more = tt
@@ -213,7 +213,7 @@ none_made result = none_roomed _ (none_over _)
 -- ---- look-ups
 
 pub none_known : (reply : Reply) → BeginsNone (known reply)
-none_known (replies.Row key row at) = none_roomed _ (none_defines row _ (λ found. none_over _))
+none_known (replies.Row key row at) = none_roomed _ (none_defines (key, row) _ (λ found. none_over _))
 none_known (replies.Gone key at) = none_over _
 none_known (replies.End at) = none_over _
 none_known reply = none_never _
@@ -232,7 +232,7 @@ none_looks_up known_names definitions [] = none_over _
 none_looks_up known_names definitions (name ∷ names) = none_bind (finds_by (known_names name) name) _ (none_finds_by (known_names name) name) (λ found. none_if (is_table found) _ _ (none_roomed _ (none_looks_up known_names (with_found definitions found) names)) (none_over _))
 
 pub none_defined_by : (so_far : List Definition) (reply : Reply) → BeginsNone (defined_by so_far reply)
-none_defined_by so_far (replies.Row key row at) = none_roomed _ (none_defines row _ (λ found. none_made _))
+none_defined_by so_far (replies.Row key row at) = none_roomed _ (none_defines (key, row) _ (λ found. none_made _))
 none_defined_by so_far (replies.Gone key at) = none_over _
 none_defined_by so_far (replies.End at) = none_over _
 none_defined_by so_far reply = none_never _

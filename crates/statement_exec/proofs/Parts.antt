@@ -86,9 +86,9 @@ does_read_on of go {a = a} is more = does_then (reads λ q. with_room (over (of 
 -- ---- what is looked up and read
 
 -- what a row defines
-pub does_defined : {past : PortPast} (row : List Value) (result : Result (Option Definition) Failure) {p : SessionProgress} → IsDefined row result → Did past past (with_room (defines row (λ found. over (Ok found)))) p (Ok result) p
-does_defined row (Ok found) is = does_room true (does_defines found is (does_over refl))
-does_defined {past = past} row (Err failure) {p = p} is = subst (λ (f : Failure). Did past past (with_room (defines row (λ found. over (Ok found)))) p (Ok (Err f)) p) (sym is) (does_room false (does_over refl))
+pub does_defined : {past : PortPast} (entry : List Value × List Value) (result : Result (Option Definition) Failure) {p : SessionProgress} → IsDefined entry result → Did past past (with_room (defines entry (λ found. over (Ok found)))) p (Ok result) p
+does_defined entry (Ok found) is = does_room true (does_defines found is (does_over refl))
+does_defined {past = past} entry (Err failure) {p = p} is = subst (λ (f : Failure). Did past past (with_room (defines entry (λ found. over (Ok found)))) p (Ok (Err f)) p) (sym is) (does_room false (does_over refl))
 
 -- the next name is looked up
 pub next_name : {before now : PortPast} {whole : Doing (Result (List Definition) Failure)} {old mid : SessionProgress} (known_names : KnownNames) (names : List (List ℕ)) (i : ℕ) (name : List ℕ) (definitions : List Definition)

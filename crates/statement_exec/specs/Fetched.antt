@@ -31,6 +31,6 @@ ReadsObjects op = ⊥
 
 -- what a row at a key makes of the definitions so far: the key to go on from, or memory was wanting
 abbrev pub IsKeyDefined : List Value → List Value → List Definition → Result (Option (List Value)) Failure → List Definition → Type 0
-IsKeyDefined key row old (Ok (Some last)) new = (last ≡ key) × (found : Option Definition) × IsDefinitionIn row found × (new ≡ with_found old found)
+IsKeyDefined key row old (Ok (Some last)) new = (last ≡ key) × (found : Option Definition) × IsDefinitionIn (key, row) found × (new ≡ with_found old found)
 IsKeyDefined key row old (Ok None) new = ⊥
 IsKeyDefined key row old (Err failure) new = failure ≡ plain no_memory

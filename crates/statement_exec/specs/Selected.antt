@@ -35,10 +35,10 @@ use Rattle.batch_meaning.specs.Raised.{Around}
 use Rattle.batch_meaning.specs.Selecting.{bound_over}
 use Rattle.batch_meaning.specs.Progress.{SessionProgress, made, system_in, touches, values_of}
 
--- the row defines this, or memory was wanting
-abbrev pub IsDefined : List Value → Result (Option Definition) Failure → Type 0
-IsDefined row (Ok found) = IsDefinitionIn row found
-IsDefined row (Err failure) = failure ≡ plain no_memory
+-- the row with its key defines this, or memory was wanting
+abbrev pub IsDefined : List Value × List Value → Result (Option Definition) Failure → Type 0
+IsDefined entry (Ok found) = IsDefinitionIn entry found
+IsDefined entry (Err failure) = failure ≡ plain no_memory
 
 -- ---- what is read
 

@@ -166,7 +166,7 @@ fn fetch_defined<P: Port>(
     ensures vars { session.new.vars ≡ session.old.vars }
 {
     match session.ask(port, fetch) {
-        Reply::Row { row, .. } => defined(alloc, &row),
+        Reply::Row { key, row, .. } => defined(alloc, &key, &row),
         Reply::Gone { .. } => Ok(None),
         Reply::End { .. } => Ok(None),
         Reply::Memory => Err(Failure::plain(NO_MEMORY)),
@@ -176,11 +176,11 @@ fn fetch_defined<P: Port>(
     }
 }
 
-/// What a row of `objects` defines.
-pub(crate) fn defined(alloc: Global, row: &Row) -> Result<Option<Definition>, Failure>
-    ensures { IsDefined row.now result }
+/// What a row of `objects` at a key defines.
+pub(crate) fn defined(alloc: Global, key: &Key, row: &Row) -> Result<Option<Definition>, Failure>
+    ensures { IsDefined (key.now, row.now) result }
 {
-    match definition_in(alloc, row) {
+    match definition_in(alloc, key, row) {
         Ok(found) => Ok(found),
         Err(_) => Err(Failure::plain(NO_MEMORY)),
     }

@@ -109,7 +109,7 @@ fn add_at(
 ) -> Result<Option<Key>, Failure>
     ensures { IsKeyDefined key row.now definitions.old.items result definitions.new.items }
 {
-    let found = defined(alloc, row)?;
+    let found = defined(alloc, &key, row)?;
     if add(definitions, found) {
         Ok(Some(key))
     } else {

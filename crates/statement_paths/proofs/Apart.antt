@@ -32,7 +32,7 @@ held_apart (reads look) go p new exchanges b held =
     let on = held_apart (look p) go p new exchanges b held in record { front = on.front; back = on.back; came = on.came; mid = on.mid; parts = on.parts; held = on.held; rest = on.rest }
 held_apart (makes step next) go p new exchanges b held =
     let on = held_apart next go (made step p) new exchanges b held in record { front = on.front; back = on.back; came = on.came; mid = on.mid; parts = on.parts; held = on.held; rest = on.rest }
-held_apart (defines row next) go p new exchanges b held =
+held_apart (defines entry next) go p new exchanges b held =
     let on = held_apart (next held.0) go p new exchanges b held.2 in record { front = on.front; back = on.back; came = on.came; mid = on.mid; parts = on.parts; held = (held.0, held.1, on.held); rest = on.rest }
 held_apart (asks op next) go p new [] b held = absurd held
 held_apart (asks op next) go p new (x ∷ later) b held =
@@ -51,7 +51,7 @@ held_then {B = B} (over c) go p mid new front back a b held more =
     (subst (λ (q : SessionProgress). Held (go c) q back b new) held.2 (subst (λ x. Held (go x) mid back b new) held.1 more))
 held_then (reads look) go p mid new front back a b held more = held_then (look p) go p mid new front back a b held more
 held_then (makes step next) go p mid new front back a b held more = held_then next go (made step p) mid new front back a b held more
-held_then (defines row next) go p mid new front back a b held more = (held.0, held.1, held_then (next held.0) go p mid new front back a b held.2 more)
+held_then (defines entry next) go p mid new front back a b held more = (held.0, held.1, held_then (next held.0) go p mid new front back a b held.2 more)
 held_then (asks op next) go p mid new [] back a b held more = absurd held
 held_then (asks op next) go p mid new (x ∷ front) back a b held more = (held.0, held.1, held.2, held_then (next x.reply) go (asked op x.reply p) mid new front back a b held.3 more)
 held_then (room next) go p mid new front back a b held more = (held.0, held_then (next held.0) go p mid new front back a b held.1 more)
@@ -66,7 +66,7 @@ left_then {B = B} (over c) go p mid new front back a held more =
     (subst (λ (q : SessionProgress). Left (go c) q back new) held.2 (subst (λ x. Left (go x) mid back new) held.1 more))
 left_then (reads look) go p mid new front back a held more = left_then (look p) go p mid new front back a held more
 left_then (makes step next) go p mid new front back a held more = inr (left_then next go (made step p) mid new front back a held more)
-left_then (defines row next) go p mid new front back a held more = inr (held.0, held.1, left_then (next held.0) go p mid new front back a held.2 more)
+left_then (defines entry next) go p mid new front back a held more = inr (held.0, held.1, left_then (next held.0) go p mid new front back a held.2 more)
 left_then (asks op next) go p mid new [] back a held more = absurd held
 left_then (asks op next) go p mid new (x ∷ front) back a held more = (held.0, held.1, held.2, left_then (next x.reply) go (asked op x.reply p) mid new front back a held.3 more)
 left_then (room next) go p mid new front back a held more = (held.0, left_then (next held.0) go p mid new front back a held.1 more)
@@ -78,7 +78,7 @@ unfolding Left
 left_start (over c) p = (refl, refl)
 left_start (reads look) p = left_start (look p) p
 left_start (makes step next) p = inl (refl, refl)
-left_start (defines row next) p = inl (refl, refl)
+left_start (defines entry next) p = inl (refl, refl)
 left_start (asks op next) p = refl
 left_start (room next) p = (true, left_start (next true) p)
 left_start never p = (refl, refl)
@@ -91,8 +91,8 @@ left_front {B = B} (over c) go p new exchanges left =
 left_front (reads look) go p new exchanges left = left_front (look p) go p new exchanges left
 left_front (makes step next) go p new exchanges (inl here) = inl here
 left_front (makes step next) go p new exchanges (inr later) = inr (left_front next go (made step p) new exchanges later)
-left_front (defines row next) go p new exchanges (inl here) = inl here
-left_front (defines row next) go p new exchanges (inr later) = inr (later.0, later.1, left_front (next later.0) go p new exchanges later.2)
+left_front (defines entry next) go p new exchanges (inl here) = inl here
+left_front (defines entry next) go p new exchanges (inr later) = inr (later.0, later.1, left_front (next later.0) go p new exchanges later.2)
 left_front (asks op next) go p new [] left = left
 left_front (asks op next) go p new (x ∷ later) left = (left.0, left.1, left.2, left_front (next x.reply) go (asked op x.reply p) new later left.3)
 left_front (room next) go p new exchanges left = (left.0, left_front (next left.0) go p new exchanges left.1)
@@ -114,10 +114,10 @@ left_apart {A = A} {B = B} (makes step next) go p new exchanges (inr later) = by
     by_on : Left next (made step p) exchanges new ⊎ Apart next (made step p) exchanges (λ a mid back. Left (go a) mid back new) → Left (makes step next) p exchanges new ⊎ Apart (makes step next) p exchanges (λ a mid back. Left (go a) mid back new)
     by_on (inl here) = inl (inr here)
     by_on (inr on) = inr (record { front = on.front; back = on.back; came = on.came; mid = on.mid; parts = on.parts; held = on.held; rest = on.rest })
-left_apart {A = A} {B = B} (defines row next) go p new exchanges (inl here) = inl (inl here)
-left_apart {A = A} {B = B} (defines row next) go p new exchanges (inr later) = by_on (left_apart (next later.0) go p new exchanges later.2)
+left_apart {A = A} {B = B} (defines entry next) go p new exchanges (inl here) = inl (inl here)
+left_apart {A = A} {B = B} (defines entry next) go p new exchanges (inr later) = by_on (left_apart (next later.0) go p new exchanges later.2)
   where
-    by_on : Left (next later.0) p exchanges new ⊎ Apart (next later.0) p exchanges (λ a mid back. Left (go a) mid back new) → Left (defines row next) p exchanges new ⊎ Apart (defines row next) p exchanges (λ a mid back. Left (go a) mid back new)
+    by_on : Left (next later.0) p exchanges new ⊎ Apart (next later.0) p exchanges (λ a mid back. Left (go a) mid back new) → Left (defines entry next) p exchanges new ⊎ Apart (defines entry next) p exchanges (λ a mid back. Left (go a) mid back new)
     by_on (inl here) = inl (inr (later.0, later.1, here))
     by_on (inr on) = inr (record { front = on.front; back = on.back; came = on.came; mid = on.mid; parts = on.parts; held = (later.0, later.1, on.held); rest = on.rest })
 left_apart {A = A} {B = B} (asks op next) go p new [] left = inl left
@@ -139,7 +139,7 @@ unfolding Held Left
 held_left (over c) p new exchanges a held = (held.0, held.2)
 held_left (reads look) p new exchanges a held = held_left (look p) p new exchanges a held
 held_left (makes step next) p new exchanges a held = inr (held_left next (made step p) new exchanges a held)
-held_left (defines row go) p new exchanges a held = inr (held.0, held.1, held_left (go held.0) p new exchanges a held.2)
+held_left (defines entry go) p new exchanges a held = inr (held.0, held.1, held_left (go held.0) p new exchanges a held.2)
 held_left (asks op go) p new [] a held = absurd held
 held_left (asks op go) p new (x ∷ later) a held = (held.0, held.1, held.2, held_left (go x.reply) (asked op x.reply p) new later a held.3)
 held_left (room go) p new exchanges a held = (held.0, held_left (go held.0) p new exchanges a held.1)

@@ -81,8 +81,8 @@ module _ (manner : Manner) where
       → CanReply (definition_fetch name) reply → Held (unless_refused known reply) p later (Ok found) new → (later ≡ []) × IsFound reply found
   unfolding Held
   found_by name (replies.Row key row at) p new later found can held =
-      let was = room_apart (defines row (λ one. over (Ok one))) p new later found held in
-      (was.2.0, subst (λ (f : Option Definition). IsDefinitionIn row f) (sym (ok_same {E = Failure} found was.0 was.2.1)) was.1)
+      let was = room_apart (defines (key, row) (λ one. over (Ok one))) p new later found held in
+      (was.2.0, subst (λ (f : Option Definition). IsDefinitionIn (key, row) f) (sym (ok_same {E = Failure} found was.0 was.2.1)) was.1)
   found_by name (replies.Gone key at) p new later found can held = (held.0, ok_same {E = Failure} found None held.1)
   found_by name (replies.End at) p new later found can held = (held.0, ok_same {E = Failure} found None held.1)
   found_by name replies.Memory p new later found can held = absurd (let no : Ok found ≡ Err _ = held.1 in cc)
@@ -139,7 +139,7 @@ module _ (manner : Manner) where
       → CanReply (objects_fetch start) reply → Held (unless_refused (defined_by so_far) reply) p later (Ok came) new → (later ≡ []) × AddsBy GoesOn Ends so_far reply
   unfolding Held
   adds_by GoesOn Ends start so_far (replies.Row key row at) p new later came on end can held =
-      let was = room_apart (defines row (λ found. with_room (over (Ok (with_found so_far found, Some key))))) p new later came held in
+      let was = room_apart (defines (key, row) (λ found. with_room (over (Ok (with_found so_far found, Some key))))) p new later came held in
       let last = room_apart (over (Ok (with_found so_far was.0, Some key))) p new later came was.2 in
       (last.0, (was.0, was.1, on (with_found so_far was.0) key (ok_same {E = Failure} came (with_found so_far was.0, Some key) last.1)))
   adds_by GoesOn Ends start so_far (replies.Gone key at) p new later came on end can held = (held.0, on so_far key (ok_same {E = Failure} came (so_far, Some key) held.1))

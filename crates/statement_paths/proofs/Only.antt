@@ -57,7 +57,7 @@ module _ (Steps : SessionStep → Type 0) (Ops : Op → Type 0) where
   Only (over a) = Unit {0}
   Only (reads look) = (p : SessionProgress) → Only (look p)
   Only (makes step next) = Steps step × Only next
-  Only (defines row go) = (found : Option Definition) → Only (go found)
+  Only (defines entry go) = (found : Option Definition) → Only (go found)
   Only (asks op go) = Ops op × ((reply : Reply) → CanReply op reply → Only (go reply))
   Only (room go) = (enough : Bool) → Only (go enough)
   Only never = Unit {0}
@@ -69,7 +69,7 @@ module _ (Steps : SessionStep → Type 0) (Ops : Op → Type 0) where
   only_then (over a) go only more = more a
   only_then (reads look) go only more = λ p. only_then (look p) go (only p) more
   only_then (makes step next) go only more = (only.0, only_then next go only.1 more)
-  only_then (defines row next) go only more = λ found. only_then (next found) go (only found) more
+  only_then (defines entry next) go only more = λ found. only_then (next found) go (only found) more
   only_then (asks op next) go only more = (only.0, λ reply can. only_then (next reply) go (only.1 reply can) more)
   only_then (room next) go only more = λ enough. only_then (next enough) go (only enough) more
   only_then never go only more = tt
@@ -112,8 +112,8 @@ module _ (Steps : SessionStep → Type 0) (Ops : Op → Type 0) where
   left_asks (reads look) p new exchanges only left = left_asks (look p) p new exchanges (only p) left
   left_asks (makes step next) p new exchanges only (inl here) = none_asked Ops exchanges here.0
   left_asks (makes step next) p new exchanges only (inr later) = left_asks next (made step p) new exchanges only.1 later
-  left_asks (defines row go) p new exchanges only (inl here) = none_asked Ops exchanges here.0
-  left_asks (defines row go) p new exchanges only (inr later) = left_asks (go later.0) p new exchanges (only later.0) later.2
+  left_asks (defines entry go) p new exchanges only (inl here) = none_asked Ops exchanges here.0
+  left_asks (defines entry go) p new exchanges only (inr later) = left_asks (go later.0) p new exchanges (only later.0) later.2
   left_asks (asks op go) p new [] only left = tt
   left_asks (asks op go) p new (x ∷ later) only left =
       ((subst Ops (sym left.0) only.0, subst (λ (o : Op). CanReply o x.reply) (sym left.0) left.2), left_asks (go x.reply) (asked op x.reply p) new later (only.1 x.reply left.2) left.3)
@@ -126,7 +126,7 @@ module _ (Steps : SessionStep → Type 0) (Ops : Op → Type 0) where
   held_asks (over c) p new exchanges a only held = none_asked Ops exchanges held.0
   held_asks (reads look) p new exchanges a only held = held_asks (look p) p new exchanges a (only p) held
   held_asks (makes step next) p new exchanges a only held = held_asks next (made step p) new exchanges a only.1 held
-  held_asks (defines row go) p new exchanges a only held = held_asks (go held.0) p new exchanges a (only held.0) held.2
+  held_asks (defines entry go) p new exchanges a only held = held_asks (go held.0) p new exchanges a (only held.0) held.2
   held_asks (asks op go) p new [] a only held = absurd held
   held_asks (asks op go) p new (x ∷ later) a only held =
       ((subst Ops (sym held.0) only.0, subst (λ (o : Op). CanReply o x.reply) (sym held.0) held.2), held_asks (go x.reply) (asked op x.reply p) new later a (only.1 x.reply held.2) held.3)
@@ -140,7 +140,7 @@ module _ (Steps : SessionStep → Type 0) (Ops : Op → Type 0) where
     held_keeps (over c) p new exchanges a only held kept = subst Kept (sym held.2) kept
     held_keeps (reads look) p new exchanges a only held kept = held_keeps (look p) p new exchanges a (only p) held kept
     held_keeps (makes step next) p new exchanges a only held kept = held_keeps next (made step p) new exchanges a only.1 held (by_step step p only.0 kept)
-    held_keeps (defines row go) p new exchanges a only held kept = held_keeps (go held.0) p new exchanges a (only held.0) held.2 kept
+    held_keeps (defines entry go) p new exchanges a only held kept = held_keeps (go held.0) p new exchanges a (only held.0) held.2 kept
     held_keeps (asks op go) p new [] a only held kept = absurd held
     held_keeps (asks op go) p new (x ∷ later) a only held kept = held_keeps (go x.reply) (asked op x.reply p) new later a (only.1 x.reply held.2) held.3 (by_op op x.reply p only.0 held.2 kept)
     held_keeps (room go) p new exchanges a only held kept = held_keeps (go held.0) p new exchanges a (only held.0) held.1 kept
@@ -151,7 +151,7 @@ pub only_mono : {A : Type 0} (Steps More : SessionStep → Type 0) (Ops Others :
 only_mono Steps More Ops Others steps asked_too (over a) only = tt
 only_mono Steps More Ops Others steps asked_too (reads look) only = λ p. only_mono Steps More Ops Others steps asked_too (look p) (only p)
 only_mono Steps More Ops Others steps asked_too (makes step next) only = (steps step only.0, only_mono Steps More Ops Others steps asked_too next only.1)
-only_mono Steps More Ops Others steps asked_too (defines row go) only = λ found. only_mono Steps More Ops Others steps asked_too (go found) (only found)
+only_mono Steps More Ops Others steps asked_too (defines entry go) only = λ found. only_mono Steps More Ops Others steps asked_too (go found) (only found)
 only_mono Steps More Ops Others steps asked_too (asks op go) only = (asked_too op only.0, λ reply can. only_mono Steps More Ops Others steps asked_too (go reply) (only.1 reply can))
 only_mono Steps More Ops Others steps asked_too (room go) only = λ enough. only_mono Steps More Ops Others steps asked_too (go enough) (only enough)
 only_mono Steps More Ops Others steps asked_too never only = tt

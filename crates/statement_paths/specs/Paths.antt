@@ -74,7 +74,7 @@ NoneCommits exchanges = AllByRecursion (λ exchange. exchange.op ≢ ops.Commit)
 
 -- what the reply to the fetch of a name's key says: what the row there defines, or nothing
 abbrev pub IsFound : Reply → Option Definition → Type 0
-IsFound (Row key row at) found = IsDefinitionIn row found
+IsFound (Row key row at) found = IsDefinitionIn (key, row) found
 IsFound (Gone key at) found = found ≡ None
 IsFound (End at) found = found ≡ None
 IsFound reply found = ⊥
@@ -98,7 +98,7 @@ AreLookedUp manner known_names so_far (name ∷ names) exchanges definitions =
 
 -- what a fetch of `objects` adds to the definitions so far, by its reply; it goes on behind a key, and ends at the end
 abbrev pub AddsBy : (Start → List Definition → Type 0) → (List Definition → Type 0) → List Definition → Reply → Type 0
-AddsBy GoesOn Ends so_far (Row key row at) = (found : Option Definition) × IsDefinitionIn row found × GoesOn (behind_gone 1 key) (with_found so_far found)
+AddsBy GoesOn Ends so_far (Row key row at) = (found : Option Definition) × IsDefinitionIn (key, row) found × GoesOn (behind_gone 1 key) (with_found so_far found)
 AddsBy GoesOn Ends so_far (Gone key at) = GoesOn (behind_gone 1 key) so_far
 AddsBy GoesOn Ends so_far (End at) = Ends so_far
 AddsBy GoesOn Ends so_far reply = ⊥

@@ -41,6 +41,7 @@ const ROWS: &str = "null = null|null
 
 /// Rows of `objects` by which no table `t` is known.
 const UNKNOWN: &str = "'u = 't|'CREATE TABLE t (k INT NOT NULL PRIMARY KEY, v INT NOT NULL)
+'t|null = 't|'CREATE TABLE t (k INT NOT NULL PRIMARY KEY, v INT NOT NULL)
 't = 'u|'CREATE TABLE t (k INT NOT NULL PRIMARY KEY, v INT NOT NULL)
 't = 'u|'CREATE TABLE u (k INT NOT NULL PRIMARY KEY, v INT NOT NULL)
 't = 't|'CREATE TABLE u (k INT NOT NULL PRIMARY KEY, v INT NOT NULL)
@@ -50,11 +51,16 @@ const UNKNOWN: &str = "'u = 't|'CREATE TABLE t (k INT NOT NULL PRIMARY KEY, v IN
 't = 't
 't = 't|'CREATE TABLE t (k INT NOT NULL PRIMARY KEY, v INT NOT NULL)|1";
 
-/// Rows of `objects` by which the table `t` is known, where a look-up of it finds them: at its key, at one that compares equal,
-/// and at one that begins with it.
+/// Rows of `objects` by which the table `t` is known: at its key, and at one that compares equal.
 const KNOWN: &str = "'t = 't|'CREATE TABLE t (k INT NOT NULL PRIMARY KEY, v INT NOT NULL)
-'t  = 't|'CREATE TABLE t (k INT NOT NULL PRIMARY KEY, v INT NOT NULL)
-'t|null = 't|'CREATE TABLE t (k INT NOT NULL PRIMARY KEY, v INT NOT NULL)";
+'t  = 't|'CREATE TABLE t (k INT NOT NULL PRIMARY KEY, v INT NOT NULL)";
+
+/// The row of `objects` that defines a procedure `q`, at the key of another name.
+const OTHER: &str = "'p = 'q|'CREATE PROCEDURE q AS SELECT 1";
+
+/// Rows of `objects` that define the table `t`, and at the key of another name its trigger.
+const TRIGGER: &str = "'t = 't|'CREATE TABLE t (k INT NOT NULL PRIMARY KEY, v INT NOT NULL)
+'x = 'g|'CREATE TRIGGER g ON t AFTER INSERT AS SELECT 1";
 
 /// The value of a word: `null`, `true`, a text behind a quote, or a number.
 fn value_of(alloc: Global, word: &str) -> Result<Value, Memory> {
@@ -240,7 +246,7 @@ DONE(02,0,0)
 }
 
 #[test]
-fn a_row_is_read_for_its_own_name(rt: HostRuntime) -> Result<(), Fail> {
+fn a_row_is_read_at_a_key_that_compares_equal(rt: HostRuntime) -> Result<(), Fail> {
     let wanted = "COL(k INT, v INT)
 DONE(11,C1,0)
 DONE(00,0,0)
@@ -251,5 +257,29 @@ DONE(00,0,0)
         let given = told_of(&rt, rt.alloc(), line)?;
         assert!(rt; given.as_str() == wanted, "{line}");
     }
+    Ok(())
+}
+
+#[test]
+fn a_row_at_another_key_is_no_row(rt: HostRuntime) -> Result<(), Fail> {
+    let mut port = port_with(&rt, rt.alloc(), OTHER, "")?;
+    let given = reply_to(rt.alloc(), &mut port, "EXEC p; DROP PROCEDURE p")?;
+    let wanted = "ERROR 2812 class 16 state 1 line 1: Could not find stored procedure 'p'.
+DONE(03,0,0)
+ERROR 3701 class 11 state 1 line 1: Cannot drop 'p', because it does not exist.
+DONE(03,0,0)
+DONE(00,0,0)
+";
+    assert!(rt; given.as_str() == wanted, "{given}");
+    let mut port = port_with(&rt, rt.alloc(), TRIGGER, "")?;
+    let fired = reply_to(
+        rt.alloc(),
+        &mut port,
+        "INSERT INTO t VALUES (1, 10); DROP TABLE t",
+    )?;
+    assert!(rt;
+        fired.as_str() == "DONE(11,C3,1)\nDONE(00,0,0)\n",
+        "{fired}"
+    );
     Ok(())
 }
