@@ -56,8 +56,8 @@ abbrev pub IsDefinitionOf : List ℕ → List Value → Option Definition → Ty
 IsDefinitionOf name row (Some definition) = (text : List ℕ) × (row ≡ row_of name text) × Defines name text definition
 IsDefinitionOf name row None = (text : List ℕ) (definition : Definition) → row ≡ row_of name text → Defines name text definition → ⊥
 
--- the name of a row that stands at its own key: the row's first value; keys that compare equal are one key. A row that begins otherwise, or stands
--- at another key, has none.
+-- The name of a row that stands at its own key; keys that compare equal are one key. A row whose first value is no text, or that stands at another
+-- key, has none.
 abbrev pub own_name : List Value → List Value → Option (List ℕ)
 own_name key (Text name ∷ rest) = if same_key (object_key name) key then Some name else None
 own_name key row = None
@@ -66,7 +66,7 @@ abbrev pub IsOfName : Option (List ℕ) → List Value → Option Definition →
 IsOfName (Some name) row outcome = IsDefinitionOf name row outcome
 IsOfName None row outcome = outcome ≡ None
 
--- The same of a row for its own name, beside the key at which it stands.
+-- What a row defines for its own name, said of its key and the row.
 abbrev pub IsDefinitionIn : List Value × List Value → Option Definition → Type 0
 IsDefinitionIn entry outcome = IsOfName (own_name entry.0 entry.1) entry.1 outcome
 

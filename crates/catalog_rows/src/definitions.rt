@@ -69,8 +69,8 @@ fn text_in<'a>(name: &Units, row: &'a Row) -> Option<&'a Units>
     }
 }
 
-/// What a row of `objects` defines for its own name; none where it begins with no name, or stands at another key than its
-/// name's.
+/// What a row of `objects` defines for its own name; none where it begins with no name, stands at another key than its
+/// name's, or its text is no definition of that name.
 #[tactic(auto, using(crate::proofs::Defining::at_name, crate::proofs::Defining::at_none))]
 pub fn definition_in(alloc: Global, key: &Key, row: &Row) -> Result<Option<Definition>, Memory>
     ensures { IfOk result (λ found. spec.IsDefinitionIn (key.now, row.now) found) }

@@ -1,10 +1,9 @@
 //! Rows that are read as rows: of tables, and of `objects`, which has the text of each definition.
 //!
 //! Read `specs/Rows.antt` first: which rows are rows of a table; then `specs/Definitions.antt`: what a row of
-//! `objects` defines. The layers above rely on [`row_fits`] being exactly that test, on [`definition_of`] giving the
-//! definition that the row's text reads as, or none where there is none of the name, and on the laws of
-//! `specs/Laws.antt`. Nothing is asked of the caller. Only tests show that want of memory is not answered where there
-//! is memory.
+//! `objects` defines. The layers above rely on [`row_fits`] being exactly that test, on [`definition_in`] giving the
+//! definition that the text of a row at its own key reads as, or none, and on the laws of `specs/Laws.antt`. Nothing is
+//! asked of the caller. Only tests show that want of memory is not answered where there is memory.
 #![tactic(auto)]
 
 mod definitions;

@@ -50,6 +50,6 @@ module _ (text : List ℕ) where
   told : fetch_reply 1 Last 0 (next_entry renamed.entries (rows_table objects_name) First) ≡ Row (object_key t) (row_of spaced text) 0
   told = refl
 
-  -- and is read as what it defines, since the two keys are one
+  -- and that key is the row's own; that no text defines a name which ends in a space need not be known for it
   read : (definition : Definition) → Defines spaced text definition → IsDefinitionIn (object_key t, row_of spaced text) (Some definition)
   read definition defines = (text, refl, defines)

@@ -117,8 +117,8 @@ fn add_at(
     }
 }
 
-/// The fetch of the rest of its range, behind a key. A key has at least one value, and those of `objects` have one, so
-/// none is passed over.
+/// The fetch of the rest of its range, behind a key. A key has at least one value, and one at which a definition stands has
+/// exactly one, so none of these is passed over.
 fn behind(fetch: Op, key: Key) -> Op
     ensures { result ≡ fetch_behind fetch key }
 {

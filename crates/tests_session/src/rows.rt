@@ -55,10 +55,10 @@ const UNKNOWN: &str = "'u = 't|'CREATE TABLE t (k INT NOT NULL PRIMARY KEY, v IN
 const KNOWN: &str = "'t = 't|'CREATE TABLE t (k INT NOT NULL PRIMARY KEY, v INT NOT NULL)
 't  = 't|'CREATE TABLE t (k INT NOT NULL PRIMARY KEY, v INT NOT NULL)";
 
-/// The row of `objects` that defines a procedure `q`, at the key of another name.
+/// A row of `objects` with the definition of a procedure `q`, at the key of another name.
 const OTHER: &str = "'p = 'q|'CREATE PROCEDURE q AS SELECT 1";
 
-/// Rows of `objects` that define the table `t`, and at the key of another name its trigger.
+/// Rows of `objects`: the definition of the table `t`, and at the key of another name that of a trigger on it.
 const TRIGGER: &str = "'t = 't|'CREATE TABLE t (k INT NOT NULL PRIMARY KEY, v INT NOT NULL)
 'x = 'g|'CREATE TRIGGER g ON t AFTER INSERT AS SELECT 1";
 
