@@ -2,6 +2,7 @@
 -- and what is left where some are taken away.
 use Rattle.std.proofs.Common.{◌≡◌, Bool, true, false, not, ◌&&◌, ◌||◌, if◌then◌else◌, ℕ, ◌+◌, ◌<◌, List, [], ◌∷◌, ◌++◌, filter, drop, length, get_or, refl, sym, ap, ◌∙◌, arith, rules}
 use Rattle.std.proofs.lemmas.List.{drop_more}
+use Rattle.std.proofs.lemmas.Map.Views.{any-filter_same}
 use Rattle.std.specs.Cmp.{IsTotalOrder}
 use Rattle.std.specs.Ordering.{is_eq, ordering_reverse}
 use Rattle.std.specs.declared.cmp.Ordering.{Ordering}
@@ -171,6 +172,13 @@ forgotten test on (x ∷ ls) = by_test (same_resource x.on on) (test x) refl (fo
     by_test true false same rest = rest
     by_test false true same rest = rw same rest
     by_test false false same rest = rest
+
+-- where lists have the same such locks they have them on the same resources
+pub has_same : (test : Lock → Bool) (on : Resource) (xs ys : List Lock) → filter test xs ≡ filter test ys → has_lock test on xs ≡ has_lock test on ys
+has_same test on xs ys same = sym (of_filter xs) ∙ ap (has_lock test on) same ∙ of_filter ys
+  where
+    of_filter : (ls : List Lock) → has_lock test on (filter test ls) ≡ has_lock test on ls
+    of_filter ls = any-filter_same (λ (lock : Lock). same_resource lock.on on && test lock) test true (λ lock is. and_right (same_resource lock.on on) (test lock) is) ls
 
 -- what stays of the locks of each span, where those of the statement are taken away
 pub none_brief : (ls : List Lock) → filter (is_of Statement) (filter (λ lock. is_whole lock.span) ls) ≡ []

@@ -7,12 +7,13 @@ use Rattle.lock_modes.specs.Modes.{none}
 use Rattle.step_model.specs.declared.resource.Resource.{Resource}
 use Rattle.step_model.specs.declared.resource.Span.{Span}
 use Rattle.step_model.specs.declared.resource.Span.TheVariants.{Statement, Transaction}
-use Rattle.step_model.specs.Locks.{Lock, pair_on, has_lock, same_resource, is_whole}
+use Rattle.step_model.specs.Locks.{Lock, pair_on, has_lock, same_resource}
 use Rattle.lock_table.specs.declared.index.Index.{Index}
 use Rattle.lock_table.specs.Table.{of_session, ChangesLocks, KeepsLocks}
 use Rattle.lock_table.specs.BySession.{numbers, list_of, all_from, is_of, same_span, changed_if}
 use Rattle.lock_table.specs.Places.{pair_found, Changes, Keeps, KeepsOthers, Forgets, HasPairsOf, AreOfLists, MaySet}
-use Rattle.lock_table.proofs.Joins.{pair_of_both, pair_of_push, pair_same, none_before, forgotten, none_brief, all_whole}
+use Rattle.lock_table.proofs.Fronts.{whole_of}
+use Rattle.lock_table.proofs.Joins.{pair_of_both, pair_of_push, pair_same, none_before, forgotten, none_brief, all_whole, has_same}
 use Rattle.lock_table.proofs.Numbers.{of_lists}
 
 -- ---- one session's list
@@ -115,6 +116,12 @@ forgets_own : (session : ℕ) (locks : List Lock) (span : Span) (old new : Index
     → (of : Span) (at : Resource) → pair_found new of at session ≡ changed_if (same_span span of && has_lock (is_of span) at locks) (λ p. none) (pair_found old of at session)
 forgets_own session locks span old new forgets of at = forgets of at session ∙ rw (itself session) (here_only (same_span span of) (has_lock (is_of span) at locks) (λ p. none) (pair_found old of at session))
 
+-- a walk over other locks takes the same away, where those of the span are the same
+pub forgets_same : (session : ℕ) (xs ys : List Lock) (span : Span) (old new : Index) → filter (is_of span) xs ≡ filter (is_of span) ys → Forgets session xs span old new → Forgets session ys span old new
+forgets_same session xs ys span old new same forgets of at who =
+    forgets of at who
+    ∙ ap (λ (b : Bool). changed_if (same_span span of && (b && who == session)) (λ p. none) (pair_found old of at who)) (has_same (is_of span) at xs ys same)
+
 -- a turn of the walk: the lock is of the span, and its pair was taken away; or it is not
 pub forget_then : (span : Span) (s w : Bool) (at on : Resource) (xs : List Lock) (i : ℕ) (x : Lock) (old : Pair) → i < length xs → x ≡ get_or xs i x → on ≡ x.on → is_of span x ≡ true
     → changed_if (s && (has_lock (is_of span) at (drop (i + 1) xs) && w)) (λ p. none) (changed_if (s && (same_resource on at && w)) (λ p. none) old) ≡ changed_if (s && (has_lock (is_of span) at (drop i xs) && w)) (λ p. none) old
@@ -138,9 +145,6 @@ forget_else span s w at xs i x old within is of = rw (drop_more xs i x within, �
     by_test : (b h : Bool) → changed_if (s && (h && w)) (λ p. none) old ≡ changed_if (s && ((b && false || h) && w)) (λ p. none) old
     by_test true h = refl
     by_test false h = refl
-
-abbrev whole_of : List Lock → List Lock
-whole_of locks = filter (λ lock. is_whole lock.span) locks
 
 pub relaxed : (lists : List (List Lock)) (index new : Index) (session : ℕ) → session < length lists → AreOfLists lists index
     → Forgets session (list_of session lists) Statement index new → AreOfLists (set lists session (whole_of (list_of session lists))) new

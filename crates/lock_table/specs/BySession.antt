@@ -1,5 +1,6 @@
 -- Own: what is kept by the numbers of sessions: the list of each, and on one resource the pair of each.
-use Rattle.std.specs.Prelude.{◌≡◌, ◌≢◌, ◌<◌, ◌==◌, ◌+◌, not, ℕ, Bool, true, false, List, [], ◌∷◌, ◌++◌, map, slice_index_or, if◌then◌else◌}
+use Rattle.std.specs.Prelude.{◌≡◌, ◌≢◌, ◌<◌, ◌≤◌, ◌==◌, ◌+◌, not, ℕ, Bool, true, false, List, [], ◌∷◌, ◌++◌, map, length, take, slice_index_or, if◌then◌else◌}
+use Rattle.std.specs.List.{All}
 use Rattle.lock_modes.specs.declared.Pair.{Pair}
 use Rattle.lock_modes.specs.Agreement.{pairs_agree}
 use Rattle.step_model.specs.declared.resource.Span.{Span}
@@ -35,6 +36,11 @@ same_span Statement Statement = true
 same_span Transaction Transaction = true
 same_span Statement Transaction = false
 same_span Transaction Statement = false
+
+-- the first n of the locks are kept to the transaction's end
+pub record BeginsWhole (n : ℕ) (locks : List Lock) : Type 0 where
+  pub within : n ≤ length locks
+  pub front : All (λ lock. is_whole lock.span ≡ true) (take n locks)
 
 -- ---- changes of pairs
 

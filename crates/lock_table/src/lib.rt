@@ -3,8 +3,9 @@
 //! Read `specs/Table.antt`. The layers above may rely on each session's locks being a list in the order of their
 //! grants, which changes exactly as each call says, while no other session's does. A caller asks [`LockTable::foe`]
 //! before it grants; the table itself takes what it is given. That calls print nothing and end is the proof's. No
-//! clause says what they cost: a look-up goes down two ordered maps, an end goes over its session's locks alone, and
-//! of a key on which no session has a lock nothing is kept.
+//! clause says what they cost: a look-up goes down two ordered maps, the end of a statement goes over the locks that
+//! its session got since the end of the one before, the end of a transaction over all of its session's, and of a key
+//! on which no session has a lock nothing is kept.
 #![tactic(auto)]
 
 ghost use Rattle.std.specs.Prelude.{◌≡◌, ◌≢◌, ◌<◌, ◌++◌, ◌∷◌, [], ℕ, Ok, None, true, false, filter, IfOk, IfSome, OnOk, OnErr};
@@ -147,7 +148,8 @@ impl LockTable {
     {
         if self.has_list(session) {
             let own = &mut self.by_session[session as usize];
-            self.index.forget(session, own.as_slice(), Span::Statement);
+            self.index
+                .forget(session, own.since_relax(), Span::Statement);
             own.relax();
         }
     }
@@ -158,7 +160,8 @@ impl LockTable {
     {
         if self.has_list(session) {
             let own = &mut self.by_session[session as usize];
-            self.index.forget(session, own.as_slice(), Span::Statement);
+            self.index
+                .forget(session, own.since_relax(), Span::Statement);
             self.index
                 .forget(session, own.as_slice(), Span::Transaction);
             *own = OwnLocks::none(self.alloc);

@@ -2,6 +2,7 @@
 
 ghost use Rattle.std.specs.Prelude.{◌≡◌, ◌++◌, ◌∷◌, ◌&&◌, [], filter, if◌then◌else◌, IfSome, IfNone, OnOk, OnErr};
 ghost use Rattle.lock_modes.specs.Join.{join_pairs};
+ghost use Rattle.step_model.specs.declared.resource.Span.TheVariants.{Statement};
 ghost use Rattle.step_model.specs.Locks.{pair_on as pair_of, same_resource as is_same, is_whole};
 ghost use Rattle.lock_table.specs.Table.{all_but_last};
 ghost use Rattle.lock_table.specs.BySession.{is_of as is_of_span};
@@ -55,19 +56,25 @@ impl Lock {
     }
 }
 
-/// The locks of a session, in the order of their grants.
+/// The locks of a session, in the order of their grants, and how many at the front are known to be kept to the
+/// transaction's end. All that are left at the end of a statement are, so the next one looks behind those alone,
+/// and does not grow with the transaction.
 #[derive(Debug, Drop)]
 pub(crate) struct OwnLocks {
     locks: Vec<Lock>,
+    whole_count: usize,
 }
 
 impl Model for OwnLocks {
     ghost use Rattle.std.specs.Prelude.{List};
     ghost use Rattle.step_model.specs.Locks.{Lock as Kept};
+    ghost use Rattle.lock_table.specs.BySession.{BeginsWhole};
 
     ghost Value = { List Kept };
 
     ghost view = { λ own. own.locks.items };
+
+    ghost invariant = { λ own. BeginsWhole own.whole_count own.locks.items };
 }
 
 impl OwnLocks {
@@ -77,6 +84,7 @@ impl OwnLocks {
     {
         OwnLocks {
             locks: Vec::new(alloc),
+            whole_count: 0,
         }
     }
 
@@ -85,6 +93,13 @@ impl OwnLocks {
         ensures { result.now ≡ self.now }
     {
         self.locks.as_slice()
+    }
+
+    /// The locks granted since the end of the last statement, among which are all of this one.
+    pub(crate) fn since_relax(&self) -> &[Lock]
+        ensures { filter (is_of_span Statement) result.now ≡ filter (is_of_span Statement) self.now }
+    {
+        &self.locks[self.whole_count..]
     }
 
     /// Adds a lock.
@@ -102,7 +117,9 @@ impl OwnLocks {
         ensures none { IfNone result (self.old ≡ []) }
         ensures rest { self.new ≡ all_but_last self.old }
     {
-        self.locks.pop()
+        let lock = self.locks.pop();
+        self.whole_count = self.whole_count.min(self.locks.len());
+        lock
     }
 
     /// The pair that those of a span make together on a resource, by one look at each lock.
@@ -116,10 +133,19 @@ impl OwnLocks {
         pair
     }
 
-    /// Takes those of the statement away.
+    /// Takes those of the statement away. The others that were granted since the end of the last one move up in
+    /// their order; `retain` would do the same, and look at all locks.
     pub(crate) fn relax(&mut self)
         ensures { self.new ≡ filter (λ lock. is_whole lock.span) self.old }
     {
-        self.locks.retain(|lock| lock.is_whole());
+        let mut kept = self.whole_count;
+        for place in self.whole_count..self.locks.len() {
+            if self.locks[place].is_whole() {
+                self.locks.swap(kept, place);
+                kept += 1;
+            }
+        }
+        self.locks.truncate(kept);
+        self.whole_count = kept;
     }
 }

@@ -2,8 +2,9 @@ use Rattle.std.proofs.Common.{◌<◌, List, [], length, set, filter, sym, ap, �
 use Rattle.std.proofs.lemmas.List.{get_or_default}
 use Rattle.step_model.specs.declared.resource.Span.TheVariants.{Statement}
 use Rattle.step_model.specs.Locks.{Lock, is_whole}
-use Rattle.lock_table.specs.Places.{Forgets, AreOfLists}
-use Rattle.lock_table.proofs.Lists.{relaxed, lists_changed}
+use Rattle.lock_table.specs.BySession.{list_of, is_of}
+use Rattle.lock_table.specs.Places.{AreOfLists}
+use Rattle.lock_table.proofs.Lists.{relaxed, forgets_same, lists_changed}
 use Rattle.lock_table.proofs.LockTable.relax.Goals as goal
 
 pub invariant_of-self : goal.invariant_of-self
@@ -12,7 +13,8 @@ invariant_of-self c =
     let own = get_or_default c.self.inside.by_session c.args.session c.index-self-session.result [] within in
     subst (λ (ls : List Lock). AreOfLists (set c.self.inside.by_session c.args.session ls) c.forget.new.self) (sym (c.relax.ensures ∙ ap (λ (ls : List Lock). filter (λ lock. is_whole lock.span) ls) own))
     (relaxed c.self.inside.by_session c.self.inside.index c.forget.new.self c.args.session within c.self.invariant
-    (subst (λ (ls : List Lock). Forgets c.args.session ls Statement c.self.inside.index c.forget.new.self) (c.as_slice.ensures ∙ own) c.forget.ensures))
+    (forgets_same c.args.session c.since_relax.result.now (list_of c.args.session c.self.inside.by_session) Statement c.self.inside.index c.forget.new.self
+    (c.since_relax.ensures ∙ ap (filter (is_of Statement)) own) c.forget.ensures))
 
 pub returns-then-has_list : goal.returns-then-has_list
 returns-then-has_list c =

@@ -1,9 +1,10 @@
-use Rattle.std.proofs.Common.{◌<◌, List, [], length, set, sym, ◌∙◌, subst, arith}
+use Rattle.std.proofs.Common.{◌<◌, List, [], length, set, filter, sym, ap, ◌∙◌, subst, arith}
 use Rattle.std.proofs.lemmas.List.{get_or_default}
 use Rattle.step_model.specs.declared.resource.Span.TheVariants.{Statement, Transaction}
 use Rattle.step_model.specs.Locks.{Lock}
+use Rattle.lock_table.specs.BySession.{list_of, is_of}
 use Rattle.lock_table.specs.Places.{Forgets, AreOfLists}
-use Rattle.lock_table.proofs.Lists.{released, lists_changed}
+use Rattle.lock_table.proofs.Lists.{released, forgets_same, lists_changed}
 use Rattle.lock_table.proofs.LockTable.release.Goals as goal
 
 pub invariant_of-self : goal.invariant_of-self
@@ -12,8 +13,9 @@ invariant_of-self c =
     let own = get_or_default c.self.inside.by_session c.args.session c.index-self-session.result [] within in
     subst (λ (ls : List Lock). AreOfLists (set c.self.inside.by_session c.args.session ls) c.forget-then-has_list.new.self) (sym c.none.ensures)
     (released c.self.inside.by_session c.self.inside.index c.forget.new.self c.forget-then-has_list.new.self c.args.session within c.self.invariant
-    (subst (λ (ls : List Lock). Forgets c.args.session ls Statement c.self.inside.index c.forget.new.self) (c.as_slice.ensures ∙ own) c.forget.ensures)
-    (subst (λ (ls : List Lock). Forgets c.args.session ls Transaction c.forget.new.self c.forget-then-has_list.new.self) (c.as_slice-then-has_list.ensures ∙ own) c.forget-then-has_list.ensures))
+    (forgets_same c.args.session c.since_relax.result.now (list_of c.args.session c.self.inside.by_session) Statement c.self.inside.index c.forget.new.self
+    (c.since_relax.ensures ∙ ap (filter (is_of Statement)) own) c.forget.ensures)
+    (subst (λ (ls : List Lock). Forgets c.args.session ls Transaction c.forget.new.self c.forget-then-has_list.new.self) (c.as_slice.ensures ∙ own) c.forget-then-has_list.ensures))
 
 pub returns-then-has_list : goal.returns-then-has_list
 returns-then-has_list c =

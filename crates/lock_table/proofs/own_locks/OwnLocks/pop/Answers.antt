@@ -1,6 +1,7 @@
-use Rattle.std.proofs.Common.{◌≡◌, ℕ, ◌-◌, List, [], length, take, Option, Some, None, sym, ap, ◌∙◌}
+use Rattle.std.proofs.Common.{◌≡◌, ℕ, ◌-◌, List, [], length, min, take, Option, Some, None, sym, ap, ◌∙◌}
 use Rattle.std.proofs.lemmas.List.{nil_from_length}
 use Rattle.std.specs.Option.{MatchOption, IfNone}
+use Rattle.lock_table.proofs.Fronts.{begins_cut}
 use Rattle.lock_table.proofs.Numbers.{all_but_take}
 use Rattle.lock_table.proofs.own_locks.OwnLocks.pop.Goals as goal
 
@@ -11,7 +12,12 @@ none_taken (Some lock) P Q xs n long some = tt
 
 pub returns-clause-rest : goal.returns-clause-rest
 returns-clause-rest c = rw (← c.self.view_is)
-    (c.pop.ensures.rest ∙ ap (λ (n : ℕ). take (n - 1) c.self.inside.locks.items) c.self.inside.locks.ok.0 ∙ all_but_take c.self.inside.locks.items)
+    (c.pop-lock.ensures.rest ∙ ap (λ (n : ℕ). take (n - 1) c.self.inside.locks.items) c.self.inside.locks.ok.0 ∙ all_but_take c.self.inside.locks.items)
 
 pub returns-clause-none : goal.returns-clause-none
-returns-clause-none c = rw (← c.self.view_is) (none_taken c.pop.result _ _ c.self.inside.locks.items c.self.inside.locks.len c.self.inside.locks.ok.0 c.pop.ensures.cases)
+returns-clause-none c = rw (← c.self.view_is) (none_taken c.pop-lock.result _ _ c.self.inside.locks.items c.self.inside.locks.len c.self.inside.locks.ok.0 c.pop-lock.ensures.cases)
+
+pub invariant_of-self : goal.invariant_of-self
+invariant_of-self c =
+    begins_cut c.self.inside.whole_count c.min-self-inside.result (c.self.inside.locks.len - 1) c.self.inside.locks.items c.pop-lock.new.self.items c.self.invariant c.pop-lock.ensures.rest
+    (c.min-self-inside.ensures ∙ ap (min c.self.inside.whole_count) (c.len.ensures ∙ c.pop-lock.new.self.ok.0))
