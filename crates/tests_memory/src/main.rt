@@ -9,8 +9,6 @@
 mod conversation;
 mod holding;
 mod judging;
-#[cfg(test)]
-mod tests;
 
 use holding::{hold, hold_all};
 use judging::Outcome;
