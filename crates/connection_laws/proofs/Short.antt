@@ -139,7 +139,7 @@ module _ (config : Config) where
   messages_short (message ∷ messages) walk limits so = messages_short messages (with_message config walk message) limits.1
       (message_short walk (λ state. handle config state message) (λ stands. walk_by config walk stands message) (λ state. refl) (λ end. refl) so walk.stands (handled_goes config walk message limits.0 so.reached))
 
-  first_reached : (entry : Entry) → config.entry ≡ entry → IsReached (first_walk config)
+  pub first_reached : (entry : Entry) → config.entry ≡ entry → IsReached (first_walk config)
   first_reached AsksLogin is = inl (ap (λ entry. Ok (first_state entry)) is)
   first_reached Bare is = inr (inr (inl (_, ap (λ entry. Ok (first_state entry)) is)))
 

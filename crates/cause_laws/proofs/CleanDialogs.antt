@@ -1,0 +1,195 @@
+-- The dialogs of reading tables and of writing changes fail by another error than one that the engine has unsaid answered.
+use Rattle.std.proofs.Common.{◌≡◌, refl, ℕ, zero, suc, ℤ, pos, List, [], ◌∷◌, ◌++◌, Option, Some, None, Bool, true, false, Result, Ok, Err, if◌then◌else◌}
+use Rattle.lock_modes.specs.declared.KeyPart.TheVariants.{S}
+use Rattle.value_types.specs.declared.table_name.TableName.{TableName}
+use Rattle.value_types.specs.declared.value.Value.{Value}
+use Rattle.tsql_tree.specs.declared.definition.TableTree.{TableTree}
+use Rattle.bound_tree.specs.declared.write.Bound.{Bound}
+use Rattle.catalog_rows.specs.Definitions.{is_objects, name_in}
+use Rattle.step_model.specs.declared.change.Deed.{Deed}
+use Rattle.step_model.specs.declared.change.Deed.TheVariants as deed
+use Rattle.step_model.specs.declared.change.Planned.{Planned}
+use Rattle.step_model.specs.declared.op.Hold.TheVariants as hold
+use Rattle.step_model.specs.declared.op.Op.{Op}
+use Rattle.step_model.specs.declared.op.Op.TheVariants as ops
+use Rattle.step_model.specs.declared.range.KeyRange.{KeyRange}
+use Rattle.step_model.specs.declared.range.Start.{Start}
+use Rattle.step_model.specs.declared.reply.Reply.{Reply}
+use Rattle.step_model.specs.declared.reply.Reply.TheVariants as replies
+use Rattle.step_model.specs.Dialog as said
+use Rattle.step_model.specs.Dialog.{Dialog, tries}
+use Rattle.step_model.specs.Ranges.{Keeps, Rows, range_limit}
+use Rattle.constraint_check.specs.declared.check_read.CheckRead.{CheckRead}
+use Rattle.constraint_check.specs.Judged.{duplicate, judge}
+use Rattle.constraint_check.specs.Reads.{reads_for, shape_of}
+use Rattle.dml_exec.specs.declared.refusal.Level.{Level}
+use Rattle.dml_exec.specs.declared.refusal.Refusal.{Refusal}
+use Rattle.dml_exec.specs.declared.refusal.Refusal.TheVariants.{Memory}
+use Rattle.dml_exec.specs.declared.written.Attempt.{Attempt}
+use Rattle.dml_exec.specs.declared.written.Written.{Written}
+use Rattle.dml_exec.specs.declared.written.Written.TheVariants as written
+use Rattle.dml_exec.specs.Asking.{with_room, with_room_if}
+use Rattle.dml_exec.specs.Reading.{GivenRows, TableRead, behind_gone, fetch_of, fetches, fits, from, images_from, images_of, is_short, key_width, read_by, reads_of, reads_on, reads_table, rows_from, rows_in, table_fetch, unless_given}
+use Rattle.dml_exec.specs.Writing.{asks_deed, attempts, broken, broken_by, checks_all, checks_one, done_by, ends, halted, is_one_key, marked, no_room, object_present, or_nameless, outcome, present, primary_name, rows_checked, told, where_done, works, writes_all, writes_one}
+use Rattle.batch_meaning.specs.Asking.{number_of}
+use Rattle.cause_laws.specs.Causes.{EngineError, Deadlock, LockTimeout, IsOther, is_answer}
+use Rattle.cause_laws.proofs.Usual.{UsualIf}
+use Rattle.cause_laws.proofs.UsualChanges.{usual_judged}
+use Rattle.cause_laws.proofs.Clean.{CleanDialog, FineOr, dialog_bind, dialog_if, dialog_room, dialog_then, timed_other, usual_other, victim_other}
+
+memory_none : (error : EngineError) → is_answer error replies.Memory ≡ false
+memory_none Deadlock = refl
+memory_none LockTimeout = refl
+
+module _ (error : EngineError) where
+  -- ---- reading
+
+  -- why a reading goes no further is another error
+  abbrev pub OtherRefusal : Refusal → Type 0
+  OtherRefusal refusal = IsOther error (pos (number_of refusal))
+
+  abbrev Reads : {A : Type 0} → Dialog (Result A Refusal) → Type 0
+  Reads dialog = CleanDialog error (FineOr error OtherRefusal) dialog
+
+  memory_other : OtherRefusal Memory
+  memory_other = usual_other error (pos 701) refl
+
+  clean_read : (width : ℕ) (keeps : Keeps) (so_far : Rows) (reply : Reply) → is_answer error reply ≡ false → Reads (read_by width keeps so_far reply)
+  clean_read width keeps so_far (replies.Row key row at) unsaid = dialog_room error OtherRefusal Memory (said.over (Ok _)) memory_other tt
+  clean_read width keeps so_far (replies.Gone key at) unsaid = by_short (is_short width key)
+    where
+      by_short : (b : Bool) → Reads {A = Rows × Option Start} (with_room_if b Memory (said.over (Ok (so_far, Some (behind_gone width key)))))
+      by_short true = dialog_room error OtherRefusal Memory (said.over (Ok (so_far, Some (behind_gone width key)))) memory_other tt
+      by_short false = tt
+  clean_read width keeps so_far (replies.End at) unsaid = tt
+  clean_read width keeps so_far replies.Memory unsaid = memory_other
+  clean_read width keeps so_far (replies.TimedOut holder held wanted on) unsaid = timed_other error holder held wanted on unsaid
+  clean_read width keeps so_far (replies.Victim cycle) unsaid = victim_other error cycle unsaid
+  clean_read width keeps so_far reply unsaid = tt
+
+  clean_fetches : (width : ℕ) (keeps : Keeps) (op : Op) (so_far : Rows) → Reads (fetches width keeps op so_far)
+  clean_fetches width keeps (ops.Fetch table start stop hold part) so_far = clean_read width keeps so_far
+  clean_fetches width keeps op so_far = tt
+
+  clean_rows : (width : ℕ) (keeps : Keeps) (left : ℕ) (fetch : Op) (so_far : Rows) → Reads (rows_from width keeps left fetch so_far)
+  unfolding rows_from
+  clean_rows width keeps zero fetch so_far = usual_other error (pos 49003) refl
+  clean_rows width keeps (suc left) fetch so_far = dialog_bind error OtherRefusal (fetches width keeps fetch so_far) (reads_on (λ more start. rows_from width keeps left (from start fetch) more)) (clean_fetches width keeps fetch so_far)
+      (λ came. by_came (λ more start. clean_rows width keeps left (from start fetch) more) came)
+    where
+      by_came : ((more : Rows) (start : Start) → Reads (rows_from width keeps left (from start fetch) more)) → (came : Rows × Option Start) → Reads (reads_on (λ more start. rows_from width keeps left (from start fetch) more) came)
+      by_came next (more, None) = tt
+      by_came next (more, Some start) = next more start
+
+  clean_range : (shape : Option TableTree) (one : Bool) (fetch : Op) → Reads (rows_in shape one fetch)
+  unfolding rows_in
+  clean_range shape true fetch = dialog_bind error OtherRefusal (fetches (key_width shape) (fits shape) fetch []) (λ came. said.over (Ok came.0)) (clean_fetches (key_width shape) (fits shape) fetch []) (λ came. tt)
+  clean_range shape false fetch = clean_rows (key_width shape) (fits shape) range_limit fetch []
+
+  module _ (given : GivenRows) (shapes : List TableTree) (level : Level) where
+    clean_table : (read : TableRead) → Reads (reads_table given shapes level read)
+    unfolding reads_table
+    clean_table read = by_given (given read.0)
+      where
+        by_given : (found : Option Rows) → Reads (unless_given found (rows_in (shape_of read.0 shapes) false (table_fetch level read)))
+        by_given None = clean_range (shape_of read.0 shapes) false (table_fetch level read)
+        by_given (Some rows) = dialog_room error OtherRefusal Memory (said.over (Ok rows)) memory_other tt
+
+    clean_from : (images : List Rows) (reads : List TableRead) → Reads (images_from given shapes level images reads)
+    unfolding images_from
+    clean_from images [] = tt
+    clean_from images (read ∷ reads) = dialog_bind error OtherRefusal (reads_table given shapes level read) (λ rows. with_room Memory (images_from given shapes level (images ++ rows ∷ []) reads)) (clean_table read)
+        (λ rows. dialog_room error OtherRefusal Memory (images_from given shapes level (images ++ rows ∷ []) reads) memory_other (clean_from (images ++ rows ∷ []) reads))
+
+    pub clean_images : (of : Bound) → Reads (images_of given shapes level of)
+    unfolding images_of
+    clean_images of = dialog_room error OtherRefusal Memory (images_from given shapes level [] (reads_of of)) memory_other (clean_from [] (reads_of of))
+
+  -- ---- writing
+
+  -- What came of changes is another error, if it is one. Why they go no further is seen by what comes of it.
+  abbrev pub OtherWritten : Result Written Refusal → Type 0
+  OtherWritten (Ok (written.Done mark)) = Unit {0}
+  OtherWritten (Ok (written.Refused number name)) = IsOther error number
+  OtherWritten (Err refusal) = OtherRefusal refusal
+
+  present_other : (shapes : List TableTree) (table : TableName) (key : List Value) → OtherWritten (outcome (present shapes table key))
+  present_other shapes table key = by_objects (is_objects table.object)
+    where
+      by_objects : (b : Bool) → OtherWritten (outcome (if b then broken object_present (or_nameless (name_in key)) else broken duplicate (or_nameless (primary_name (shape_of table shapes)))))
+      by_objects true = usual_other error (pos 2714) refl
+      by_objects false = usual_other error (pos 2627) refl
+
+  clean_by : (shapes : List TableTree) (change : Planned) (reply : Reply) → is_answer error reply ≡ false → CleanDialog error (FineOr error (λ why. OtherWritten (outcome why))) (done_by shapes change reply)
+  clean_by shapes change replies.Done unsaid = tt
+  clean_by shapes change replies.Exists unsaid = dialog_room error (λ why. OtherWritten (outcome why)) no_room (said.over (Err (present shapes change.table change.key))) memory_other (present_other shapes change.table change.key)
+  clean_by shapes change replies.Missing unsaid = memory_other
+  clean_by shapes change replies.Memory unsaid = memory_other
+  clean_by shapes change (replies.TimedOut holder held wanted on) unsaid = timed_other error holder held wanted on unsaid
+  clean_by shapes change (replies.Victim cycle) unsaid = victim_other error cycle unsaid
+  clean_by shapes change reply unsaid = tt
+
+  -- the reply that a change comes to is none of the error's
+  abbrev IsNone : Reply → Type 0
+  IsNone reply = is_answer error reply ≡ false
+
+  clean_tries : (op : Op) (quiet : said.IsQuiet op) → CleanDialog error IsNone (tries op quiet said.over)
+  unfolding tries
+  clean_tries op quiet = λ enough. dialog_if error IsNone enough (said.asks op quiet said.over) (said.over replies.Memory) (λ reply unsaid. unsaid) (memory_none error)
+
+  clean_deed : (table : TableName) (key : List Value) (of : Deed) → CleanDialog error IsNone (asks_deed table key of)
+  clean_deed table key deed.Erase = clean_tries (ops.Erase table key) tt
+  clean_deed table key (deed.Replace row) = clean_tries (ops.Replace table key row) tt
+  clean_deed table key (deed.Insert row) = clean_tries (ops.Insert table key row) tt
+
+  clean_writes : (shapes : List TableTree) (changes : List Planned) → CleanDialog error (FineOr error (λ why. OtherWritten (outcome why))) (writes_all shapes changes)
+  unfolding writes_all writes_one
+  clean_writes shapes [] = tt
+  clean_writes shapes (change ∷ changes) = dialog_bind error (λ why. OtherWritten (outcome why)) (writes_one shapes change) (λ done. writes_all shapes changes)
+      (dialog_then error IsNone (FineOr error (λ why. OtherWritten (outcome why))) (asks_deed change.table change.key change.deed) (done_by shapes change) (clean_deed change.table change.key change.deed) (clean_by shapes change))
+      (λ done. clean_writes shapes changes)
+
+  clean_checked : (shapes : List TableTree) (range : KeyRange) → CleanDialog error (FineOr error (λ why. OtherWritten (outcome why))) (rows_checked shapes range)
+  unfolding rows_checked
+  clean_checked shapes range = dialog_room error (λ why. OtherWritten (outcome why)) no_room _ memory_other
+      (dialog_then error (FineOr error OtherRefusal) (FineOr error (λ why. OtherWritten (outcome why))) (rows_in (shape_of range.table shapes) (is_one_key range.start) (fetch_of range hold.Range S)) halted (clean_range (shape_of range.table shapes) (is_one_key range.start) (fetch_of range hold.Range S)) by_came)
+    where
+      by_came : (came : Result Rows Refusal) → FineOr error OtherRefusal came → CleanDialog error (FineOr error (λ why. OtherWritten (outcome why))) (halted came)
+      by_came (Ok rows) fine = tt
+      by_came (Err refusal) fine = fine
+
+  clean_broken : (read : CheckRead) (number : Option ℤ) → UsualIf number → CleanDialog error (FineOr error (λ why. OtherWritten (outcome why))) (broken_by read number)
+  clean_broken read None usual = tt
+  clean_broken read (Some number) usual = dialog_room error (λ why. OtherWritten (outcome why)) no_room (said.over (Err (broken number read.name))) memory_other (usual_other error number usual)
+
+  clean_checks : (shapes : List TableTree) (reads : List CheckRead) → CleanDialog error (FineOr error (λ why. OtherWritten (outcome why))) (checks_all shapes reads)
+  unfolding checks_all checks_one
+  clean_checks shapes [] = tt
+  clean_checks shapes (read ∷ reads) = dialog_bind error (λ why. OtherWritten (outcome why)) (checks_one shapes read) (λ done. checks_all shapes reads)
+      (dialog_bind error (λ why. OtherWritten (outcome why)) (rows_checked shapes read.range) (λ found. broken_by read (judge read found)) (clean_checked shapes read.range) (λ found. clean_broken read (judge read found) (usual_judged read found)))
+      (λ done. clean_checks shapes reads)
+
+  clean_works : (shapes : List TableTree) (changes : List Planned) → CleanDialog error (FineOr error (λ why. OtherWritten (outcome why))) (works shapes changes)
+  unfolding works
+  clean_works shapes changes = dialog_bind error (λ why. OtherWritten (outcome why)) (writes_all shapes changes) (λ done. with_room no_room (checks_all shapes (reads_for changes shapes))) (clean_writes shapes changes)
+      (λ done. dialog_room error (λ why. OtherWritten (outcome why)) no_room (checks_all shapes (reads_for changes shapes)) memory_other (clean_checks shapes (reads_for changes shapes)))
+
+  abbrev pub OtherAttempt : Attempt → Type 0
+  OtherAttempt attempt = OtherWritten attempt.came
+
+  clean_ends : (mark : ℕ) (came : _) → FineOr error (λ why. OtherWritten (outcome why)) came → CleanDialog error OtherAttempt (ends mark came)
+  clean_ends mark (Ok done) fine = tt
+  clean_ends mark (Err why) fine = λ reply unsaid. by_reply reply
+    where
+      by_reply : (reply : Reply) → CleanDialog error OtherAttempt (where_done (said.over (told (Some mark) (outcome why))) reply)
+      by_reply replies.Done = fine
+      by_reply reply = tt
+
+  pub clean_attempts : (shapes : List TableTree) (changes : List Planned) → CleanDialog error OtherAttempt (attempts shapes changes)
+  unfolding attempts
+  clean_attempts shapes changes = λ reply unsaid. by_reply reply
+    where
+      by_reply : (reply : Reply) → CleanDialog error OtherAttempt (marked shapes changes reply)
+      by_reply (replies.Marked mark) = dialog_then error (FineOr error (λ why. OtherWritten (outcome why))) OtherAttempt (works shapes changes) (ends mark) (clean_works shapes changes) (clean_ends mark)
+      by_reply replies.Memory = memory_other
+      by_reply reply = tt

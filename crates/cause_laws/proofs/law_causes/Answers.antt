@@ -1,0 +1,5 @@
+use Rattle.cause_laws.proofs.Causes.{batch_causes}
+use Rattle.cause_laws.proofs.law_causes.Goals as goal
+
+pub returns-clause-batch : goal.returns-clause-batch
+returns-clause-batch c = batch_causes

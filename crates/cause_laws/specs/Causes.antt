@@ -1,0 +1,80 @@
+-- Own: an error of the engine's is told only where the engine has answered so: ERROR 1205 behind the reply Victim, and ERROR 1222 behind the reply
+-- TimedOut. Whatever else a statement fails by has another number: so of these two every answer has its cause.
+use Rattle.std.specs.Prelude.{◌≡◌, ◌≢◌, ℕ, ℤ, pos, Bool, true, false, List, ◌++◌, Option, None, Some}
+use Rattle.std.specs.List.{AllByRecursion}
+use Rattle.tsql_tree.specs.declared.statement.Statement.{Statement}
+use Rattle.step_model.specs.declared.reply.Reply.{Reply}
+use Rattle.step_model.specs.declared.reply.Reply.TheVariants.{TimedOut, Victim}
+use Rattle.step_model.specs.Exchange.{Exchange}
+use Rattle.step_model.specs.Ranges.{deadlock, lock_timeout}
+use Rattle.tds_tokens.specs.declared.token.Token.{Token}
+use Rattle.tds_tokens.specs.declared.token.Token.TheVariants.{Error}
+use Rattle.batch_meaning.specs.declared.exit.Exit.{Exit}
+use Rattle.batch_meaning.specs.declared.exit.Exit.TheVariants.{Raise, RaiseUp}
+use Rattle.batch_meaning.specs.declared.form.ReadText.{ReadText}
+use Rattle.batch_meaning.specs.declared.raised.Raised.{Raised}
+use Rattle.batch_meaning.specs.Doing.{Held}
+use Rattle.batch_meaning.specs.Meaning.{batch, mean_of}
+use Rattle.batch_meaning.specs.Progress.{SessionProgress}
+use Rattle.batch_meaning.specs.Raised.{Around}
+use Rattle.batch_meaning.specs.Statements.{ReadsAs}
+
+-- ---- the errors of the engine
+
+-- the session fell as the victim of a deadlock; a lock of another session stood in the way of one that does not wait
+pub data EngineError : Type 0 where
+  Deadlock : EngineError
+  LockTimeout : EngineError
+
+-- the number by which a client is told it
+abbrev pub number_of : EngineError → ℕ
+number_of Deadlock = deadlock
+number_of LockTimeout = lock_timeout
+
+-- the reply says so
+abbrev pub is_answer : EngineError → Reply → Bool
+is_answer Deadlock (Victim cycle) = true
+is_answer LockTimeout (TimedOut holder held wanted on) = true
+is_answer error reply = false
+
+-- no reply of the exchanges does
+abbrev pub NeverAnswered : EngineError → List Exchange → Type 0
+NeverAnswered error exchanges = AllByRecursion (λ x. is_answer error x.reply ≡ false) exchanges
+
+-- ---- what is told
+
+-- a number is not the error's
+abbrev pub IsOther : EngineError → ℤ → Type 0
+IsOther error number = number ≢ pos (number_of error)
+
+-- a token is no ERROR of its number
+abbrev pub TellsOther : EngineError → Token → Type 0
+TellsOther error (Error told) = IsOther error told.number
+TellsOther error token = Unit {0}
+
+-- none of the tokens is
+abbrev pub TellsNone : EngineError → List Token → Type 0
+TellsNone error tokens = AllByRecursion (TellsOther error) tokens
+
+-- an error that is on its way is another
+abbrev pub LeavesOther : EngineError → Exit → Type 0
+LeavesOther error (Raise raised) = IsOther error raised.number
+LeavesOther error (RaiseUp raised) = IsOther error raised.number
+LeavesOther error exit = Unit {0}
+
+-- so is the one of the CATCH around, which THROW would raise again
+abbrev pub CaughtOther : EngineError → Option Raised → Type 0
+CaughtOther error None = Unit {0}
+CaughtOther error (Some raised) = IsOther error raised.number
+
+-- ---- the laws
+
+-- A statement to which the engine has never answered so sends tokens that don't tell it, and raises another error if any, unless it
+-- stands in the CATCH of that one.
+abbrev pub StatementCauses : Type 0
+StatementCauses = (error : EngineError) (levels : ℕ) (around : Around) (statement : Statement) (old new : SessionProgress) (exchanges : List Exchange) (exit : Exit) → CaughtOther error around.caught → NeverAnswered error exchanges
+    → Held (mean_of levels statement around) old exchanges exit new → LeavesOther error exit × ((sent : List Token) × (new.tokens ≡ old.tokens ++ sent) × TellsNone error sent)
+
+-- A batch, as its text is read, to which the engine has never answered so tells it in no token.
+abbrev pub BatchCauses : Type 0
+BatchCauses = (error : EngineError) (text : List ℕ) (read : ReadText) (old new : SessionProgress) (exchanges : List Exchange) → ReadsAs text read → NeverAnswered error exchanges → Held (batch read) old exchanges tt new → TellsNone error new.tokens
