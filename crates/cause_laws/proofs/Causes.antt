@@ -1,4 +1,4 @@
--- An error of the engine's has its cause: by induction on the levels of statements, over trees that tell it in no token while the engine has unsaid answered so.
+-- An error of a lock has its cause: by induction on the levels of statements, over trees that tell it in no token while the engine has never replied so.
 use Rattle.std.proofs.Common.{refl, sym, subst, ℕ, zero, suc, ℤ, pos, List, [], ◌∷◌, Option, Some, None, Bool, true, false, Result, Ok, Err, is_ok, if◌then◌else◌, ◌==◌}
 use Rattle.std.specs.Prelude.{◌&&◌, nat_le, nat_lt}
 use Rattle.tsql_tree.specs.declared.definition.Definition.{Definition}
@@ -48,13 +48,13 @@ use Rattle.batch_meaning.specs.Transactions.{begins_transaction, commits_transac
 use Rattle.batch_meaning.specs.Values.{Assigned, is_message}
 use Rattle.batch_meaning.specs.Working.{asks_any, binds, composes, enters, known_by, leaves, relaxes, statuses, tests, works}
 use Rattle.batch_meaning.specs.Writes.{Written, change_bound, creates_definition, creates_table, drops}
-use Rattle.cause_laws.specs.Causes.{BatchCauses, CaughtOther, EngineError, IsOther, LeavesOther, StatementCauses, TellsNone}
+use Rattle.cause_laws.specs.Causes.{BatchCauses, CaughtOther, LockError, IsOther, LeavesOther, StatementCauses, TellsNone}
 use Rattle.cause_laws.proofs.UsualValues.{Anything, RefusedUsual, UsualOr, assigned_usual, option_usual, read_usual}
 use Rattle.cause_laws.proofs.Clean.{Clean, OtherOr, clean_comes, clean_done, clean_ended, clean_if, clean_then, held_clean, usual_other}
 use Rattle.cause_laws.proofs.CleanParts.{EffectOther, Effects, Plainly, RaisesOther, WrittenOther, clean_assigns, clean_binds, clean_call, clean_change, clean_closes, clean_composes, clean_drops, clean_enters, clean_leaves, clean_relaxes, clean_statuses, clean_tests, clean_works, messages_other}
 use Rattle.cause_laws.proofs.CleanForms.{clean_begins, clean_commits, clean_create, clean_declares, clean_definition, clean_fetches, clean_opens, clean_removes, clean_rolls, clean_saves, clean_shuts}
 
-module _ (error : EngineError) where
+module _ (error : LockError) where
   -- a statement, or what comes of it
   abbrev Exits : Doing Exit → Type 0
   Exits tree = Clean error (LeavesOther error) tree

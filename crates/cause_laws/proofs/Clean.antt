@@ -1,4 +1,4 @@
--- Trees that tell an error of the engine's in no token, and come to something of which a fact holds, whatever is replied but the answer that is
+-- Trees that tell an error of a lock in no token, and come to something of which a fact holds, whatever is replied but the answer that is
 -- that error. What was held of such a tree has sent none.
 use Rattle.std.proofs.Common.{◌≡◌, refl, sym, ap, ◌∙◌, subst, ℕ, ℤ, pos, List, [], ◌∷◌, ◌++◌, Option, Bool, true, false, Result, Ok, Err, if◌then◌else◌, append-nil, append_assoc}
 use Rattle.std.specs.Prelude.{◌||◌}
@@ -21,7 +21,7 @@ use Rattle.batch_meaning.specs.Doing.{Doing, asks, defines, makes, never, over, 
 use Rattle.batch_meaning.specs.Failures.{naming}
 use Rattle.batch_meaning.specs.Progress.{SessionProgress, SessionStep, asked, begins, made, sends}
 use Rattle.dml_exec.specs.Asking as dialogs
-use Rattle.cause_laws.specs.Causes.{EngineError, Deadlock, LockTimeout, IsOther, NeverAnswered, TellsNone, TellsOther, is_answer}
+use Rattle.cause_laws.specs.Causes.{LockError, Deadlock, LockTimeout, IsOther, NeverAnswered, TellsNone, TellsOther, is_answer}
 use Rattle.cause_laws.proofs.Usual.{IsUsual, differs}
 use Rattle.cause_laws.proofs.UsualValues.{UsualOr}
 
@@ -32,16 +32,16 @@ neither true b is = absurd (let no : true ≡ false = is in cc)
 neither false b is = (refl, is)
 
 -- a usual number is another
-pub usual_other : (error : EngineError) (number : ℤ) → IsUsual number → IsOther error number
+pub usual_other : (error : LockError) (number : ℤ) → IsUsual number → IsOther error number
 usual_other Deadlock number usual = differs number (pos 1205) (neither (int_eq number (pos 1205)) (int_eq number (pos 1222)) usual).0
 usual_other LockTimeout number usual = differs number (pos 1222) (neither (int_eq number (pos 1205)) (int_eq number (pos 1222)) usual).1
 
 -- so is the number of an answer that is not the error
-pub victim_other : (error : EngineError) (cycle : Cycle) → is_answer error (replies.Victim cycle) ≡ false → IsOther error (pos deadlock)
+pub victim_other : (error : LockError) (cycle : Cycle) → is_answer error (replies.Victim cycle) ≡ false → IsOther error (pos deadlock)
 victim_other Deadlock cycle unsaid = absurd (let no : true ≡ false = unsaid in cc)
 victim_other LockTimeout cycle unsaid = differs (pos 1205) (pos 1222) refl
 
-pub timed_other : (error : EngineError) (holder : ℕ) (held wanted : Pair) (on : Resource) → is_answer error (replies.TimedOut holder held wanted on) ≡ false → IsOther error (pos lock_timeout)
+pub timed_other : (error : LockError) (holder : ℕ) (held wanted : Pair) (on : Resource) → is_answer error (replies.TimedOut holder held wanted on) ≡ false → IsOther error (pos lock_timeout)
 timed_other Deadlock holder held wanted on unsaid = differs (pos 1222) (pos 1205) refl
 timed_other LockTimeout holder held wanted on unsaid = absurd (let no : true ≡ false = unsaid in cc)
 
@@ -59,7 +59,7 @@ pub all_behind : {A : Type 0} (P : A → Type 0) (xs ys : List A) → AllByRecur
 all_behind P [] ys all = all
 all_behind P (x ∷ xs) ys all = all_behind P xs ys all.1
 
-module _ (error : EngineError) where
+module _ (error : LockError) where
   -- ---- trees
 
   -- a step that sends none; no batch begins

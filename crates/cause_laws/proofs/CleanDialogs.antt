@@ -32,16 +32,16 @@ use Rattle.dml_exec.specs.Asking.{with_room, with_room_if}
 use Rattle.dml_exec.specs.Reading.{GivenRows, TableRead, behind_gone, fetch_of, fetches, fits, from, images_from, images_of, is_short, key_width, read_by, reads_of, reads_on, reads_table, rows_from, rows_in, table_fetch, unless_given}
 use Rattle.dml_exec.specs.Writing.{asks_deed, attempts, broken, broken_by, checks_all, checks_one, done_by, ends, halted, is_one_key, marked, no_room, object_present, or_nameless, outcome, present, primary_name, rows_checked, told, where_done, works, writes_all, writes_one}
 use Rattle.batch_meaning.specs.Asking.{number_of}
-use Rattle.cause_laws.specs.Causes.{EngineError, Deadlock, LockTimeout, IsOther, is_answer}
+use Rattle.cause_laws.specs.Causes.{LockError, Deadlock, LockTimeout, IsOther, is_answer}
 use Rattle.cause_laws.proofs.Usual.{UsualIf}
 use Rattle.cause_laws.proofs.UsualChanges.{usual_judged}
 use Rattle.cause_laws.proofs.Clean.{CleanDialog, FineOr, dialog_bind, dialog_if, dialog_room, dialog_then, timed_other, usual_other, victim_other}
 
-memory_none : (error : EngineError) → is_answer error replies.Memory ≡ false
+memory_none : (error : LockError) → is_answer error replies.Memory ≡ false
 memory_none Deadlock = refl
 memory_none LockTimeout = refl
 
-module _ (error : EngineError) where
+module _ (error : LockError) where
   -- ---- reading
 
   -- why a reading goes no further is another error

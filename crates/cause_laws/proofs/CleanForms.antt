@@ -1,5 +1,5 @@
--- What CREATE puts into `objects`, and the statements on transactions and cursors, tell an error of the engine's in no token and fail by another one, while the engine
--- has never answered so.
+-- What CREATE puts into `objects`, and the statements on transactions and cursors, tell an error of a lock in no token and fail by another one, while the engine
+-- has never replied so.
 use Rattle.std.proofs.Common.{◌≡◌, refl, ℕ, ℤ, pos, List, [], ◌∷◌, length, Option, Some, None, Bool, true, false, Result, Ok, Err, not, if◌then◌else◌, ◌==◌}
 use Rattle.std.specs.Prelude.{◌||◌, nat_le}
 use Rattle.value_types.specs.Units.{same_units}
@@ -40,13 +40,13 @@ use Rattle.batch_meaning.specs.Transactions.{begins_outermost, begins_over, begi
 use Rattle.batch_meaning.specs.Values.{Assigned, assigned_to, outside_limits}
 use Rattle.batch_meaning.specs.Working.{answers, asks_any, known_by, own, within}
 use Rattle.batch_meaning.specs.Writes.{creates, creates_definition, creates_table, inserted, is_odd_list, puts_definition, unless_objects, where_table}
-use Rattle.cause_laws.specs.Causes.{EngineError, IsOther, TellsNone, TellsOther, is_answer}
+use Rattle.cause_laws.specs.Causes.{LockError, IsOther, TellsNone, TellsOther, is_answer}
 use Rattle.cause_laws.proofs.Usual.{UsualIf}
 use Rattle.cause_laws.proofs.UsualValues.{Anything, AnswersUsual, assigned_usual, commit_usual, rollback_usual, save_usual}
 use Rattle.cause_laws.proofs.Clean.{Clean, OtherOr, clean_begun, clean_bind, clean_comes, clean_done, clean_ended, clean_if, clean_marked, clean_naming, clean_refused, clean_room, timed_other, usual_other, victim_other}
 use Rattle.cause_laws.proofs.CleanParts.{EffectOther, Effects, Parts, clean_answers, clean_binds, clean_bound, clean_left, clean_look, clean_own, clean_within}
 
-module _ (error : EngineError) where
+module _ (error : LockError) where
   -- ---- CREATE
 
   clean_back : (mark : ℕ) (failure : Failure) → IsOther error failure.number → Parts error (takes_back mark failure)

@@ -1,5 +1,5 @@
--- The parts of statements: whatever a statement looks up, binds, reads and writes, and what it does by its form, tells an error of the engine's in no token and
--- fails by another one, while the engine has unsaid answered so.
+-- The parts of statements: whatever a statement looks up, binds, reads and writes, and what it does by its form, tells an error of a lock in no token and
+-- fails by another one, while the engine has never replied so.
 use Rattle.std.proofs.Common.{refl, ℕ, zero, suc, ℤ, pos, List, [], ◌∷◌, length, Option, Some, None, Bool, true, false, Result, Ok, Err, is_ok, if◌then◌else◌}
 use Rattle.std.specs.Prelude.{nat_le, nat_lt}
 use Rattle.value_types.specs.Units.{same_units}
@@ -55,12 +55,12 @@ use Rattle.batch_meaning.specs.Tokens.{done_kind, result_tokens, row_tokens, sta
 use Rattle.batch_meaning.specs.Values.{Assigned, assigned_to, first_of, first_row, given_names, is_message, is_one, outside_limits, rows_assigned, status_of}
 use Rattle.batch_meaning.specs.Working.{answers, asks_any, assigns_rows, binds, closes, composes, composes_bound, computes, enters, given_in, if_it_fits, known_by, leaves, own, prepares, relaxes, select_bound, selects, selects_into, status_bound, statuses, tests, tests_bound, values_bound, within, works, works_bound}
 use Rattle.batch_meaning.specs.Writes.{Written, change_bound, changes, drops, drops_definition, drops_found, drops_table, fired_by, fires_of, shape_or}
-use Rattle.cause_laws.specs.Causes.{EngineError, IsOther, TellsNone, TellsOther}
+use Rattle.cause_laws.specs.Causes.{LockError, IsOther, TellsNone, TellsOther}
 use Rattle.cause_laws.proofs.UsualValues.{Anything, RaisesUsual, UsualOr, UsualRest, answer_usual, assigned_usual, bound_usual, call_usual, dropped_usual, planned_usual, raised_usual, referred_usual, rows_usual, status_usual}
 use Rattle.cause_laws.proofs.Clean.{Clean, FineOr, OtherOr, all_both, clean_begun, clean_bind, clean_comes, clean_done, clean_ended, clean_gives, clean_if, clean_naming, clean_refused, clean_room, clean_then, usual_other}
 use Rattle.cause_laws.proofs.CleanDialogs.{OtherAttempt, OtherRefusal, OtherWritten, clean_attempts, clean_images}
 
-module _ (error : EngineError) where
+module _ (error : LockError) where
   -- a part that may fail, of which nothing is said where it doesn't
   abbrev pub Parts : {A : Type 0} → Doing (Result A Failure) → Type 0
   Parts {A = A} tree = Clean error (OtherOr error {A = A} Anything) tree

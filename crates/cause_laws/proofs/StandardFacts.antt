@@ -10,7 +10,7 @@ use Rattle.batch_meaning.specs.Failures.{plain}
 use Rattle.batch_meaning.specs.Progress.{SessionProgress, asked}
 use Rattle.cause_laws.specs.Causes.{Deadlock, TellsNone, is_answer}
 
--- a session that fell as a deadlock's victim is answered so, and want of memory is no such answer
+-- that the session fell as a deadlock's victim is a cause, and want of memory is none
 victim_answered : (cycle : Cycle) → is_answer Deadlock (replies.Victim cycle) ≡ true
 victim_answered cycle = refl
 

@@ -1,4 +1,4 @@
--- Which numbers of errors are none of the engine's: each that a conversion, an expression or a test gives, and so each that a query answers with.
+-- Which numbers are none of an error of a lock: each that a conversion, an expression or a test gives, and so each that a query answers with.
 use Rattle.std.proofs.Common.{◌≡◌, refl, sym, ap, ◌∙◌, subst, ℕ, zero, suc, ◌+◌, ℤ, pos, List, [], ◌∷◌, ◌++◌, map, get_or, Bool, true, false, Option, Some, None, Result, Ok, Err, if◌then◌else◌}
 use Rattle.std.specs.Prelude.{◌≢◌, ◌||◌, sum_by, replicate, nat_eq, length, int_div}
 use Rattle.std.specs.List.{AllByRecursion, items_where_true}
@@ -40,6 +40,7 @@ use Rattle.bound_tree.specs.Setting.{Setting}
 use Rattle.bound_tree.specs.Meaning.{truth, value}
 use Rattle.bound_tree.proofs.Raised as tree
 use Rattle.bound_tree.proofs.Raised.{Raises}
+use Rattle.step_model.specs.Ranges.{deadlock, lock_timeout}
 use Rattle.join_rows.specs.Joined.{Join, Row, joined, pairs}
 use Rattle.group_rows.specs.Equals.{classes, firsts, same_row}
 use Rattle.group_rows.specs.Totals.{known, numbers_of, sum_of, total, whole}
@@ -51,12 +52,12 @@ use Rattle.query_eval.specs.Ans.{Ans, Answers, answer_of, inner_answer, inner_ro
 
 -- ---- numbers
 
--- the number of an error that the engine answers: the victim of a deadlock, and a lock that stands in the way
-abbrev pub is_engines : ℤ → Bool
-is_engines number = int_eq number (pos 1205) || int_eq number (pos 1222)
+-- the number of an error of a lock: of the victim of a deadlock, or of a lock that stands in the way
+abbrev pub is_lock_error : ℤ → Bool
+is_lock_error number = int_eq number (pos deadlock) || int_eq number (pos lock_timeout)
 
 abbrev pub IsUsual : ℤ → Type 0
-IsUsual number = is_engines number ≡ false
+IsUsual number = is_lock_error number ≡ false
 
 pub differs : (a b : ℤ) → int_eq a b ≡ false → a ≢ b
 differs a b test same = let no : true ≡ false = sym ((Decides-int_eq a b).1 same) ∙ test in absurd (cc)

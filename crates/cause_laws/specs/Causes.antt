@@ -1,5 +1,5 @@
--- Own: an error of the engine's is told only where the engine has answered so: ERROR 1205 behind the reply Victim, and ERROR 1222 behind the reply
--- TimedOut. Whatever else a statement fails by has another number: so of these two every answer has its cause.
+-- Own: `StatementCauses` and `BatchCauses`. A client is told ERROR 1205 only where the engine has replied Victim, and ERROR 1222 only where it has
+-- replied TimedOut. Whatever else a statement fails by has another number.
 use Rattle.std.specs.Prelude.{◌≡◌, ◌≢◌, ℕ, ℤ, pos, Bool, true, false, List, ◌++◌, Option, None, Some}
 use Rattle.std.specs.List.{AllByRecursion}
 use Rattle.tsql_tree.specs.declared.statement.Statement.{Statement}
@@ -19,62 +19,65 @@ use Rattle.batch_meaning.specs.Progress.{SessionProgress}
 use Rattle.batch_meaning.specs.Raised.{Around}
 use Rattle.batch_meaning.specs.Statements.{ReadsAs}
 
--- ---- the errors of the engine
+-- ---- errors of locks
 
--- the session fell as the victim of a deadlock; a lock of another session stood in the way of one that does not wait
-pub data EngineError : Type 0 where
-  Deadlock : EngineError
-  LockTimeout : EngineError
+-- the session fell as the victim of a deadlock; or a lock of another session stood in its way, and it does not wait
+pub data LockError : Type 0 where
+  Deadlock : LockError
+  LockTimeout : LockError
 
--- the number by which a client is told it
-abbrev pub number_of : EngineError → ℕ
+-- the number by which a client is told it; it is not taken from what the law judges
+abbrev pub number_of : LockError → ℕ
 number_of Deadlock = deadlock
 number_of LockTimeout = lock_timeout
 
--- the reply says so
-abbrev pub is_answer : EngineError → Reply → Bool
+-- the reply that is its cause
+abbrev pub is_answer : LockError → Reply → Bool
 is_answer Deadlock (Victim cycle) = true
 is_answer LockTimeout (TimedOut holder held wanted on) = true
 is_answer error reply = false
 
--- no reply of the exchanges does
-abbrev pub NeverAnswered : EngineError → List Exchange → Type 0
+-- no reply of the exchanges is
+abbrev pub NeverAnswered : LockError → List Exchange → Type 0
 NeverAnswered error exchanges = AllByRecursion (λ x. is_answer error x.reply ≡ false) exchanges
 
 -- ---- what is told
 
 -- a number is not the error's
-abbrev pub IsOther : EngineError → ℤ → Type 0
+abbrev pub IsOther : LockError → ℤ → Type 0
 IsOther error number = number ≢ pos (number_of error)
 
 -- a token is no ERROR of its number
-abbrev pub TellsOther : EngineError → Token → Type 0
+abbrev pub TellsOther : LockError → Token → Type 0
 TellsOther error (Error told) = IsOther error told.number
 TellsOther error token = Unit {0}
 
--- none of the tokens is
-abbrev pub TellsNone : EngineError → List Token → Type 0
+-- none of the tokens is one
+abbrev pub TellsNone : LockError → List Token → Type 0
 TellsNone error tokens = AllByRecursion (TellsOther error) tokens
 
 -- an error that is on its way is another
-abbrev pub LeavesOther : EngineError → Exit → Type 0
+abbrev pub LeavesOther : LockError → Exit → Type 0
 LeavesOther error (Raise raised) = IsOther error raised.number
 LeavesOther error (RaiseUp raised) = IsOther error raised.number
 LeavesOther error exit = Unit {0}
 
--- so is the one of the CATCH around, which THROW would raise again
-abbrev pub CaughtOther : EngineError → Option Raised → Type 0
+-- so is the one of the CATCH around, which THROW raises again
+abbrev pub CaughtOther : LockError → Option Raised → Type 0
 CaughtOther error None = Unit {0}
 CaughtOther error (Some raised) = IsOther error raised.number
 
 -- ---- the laws
 
--- A statement to which the engine has never answered so sends tokens that don't tell it, and raises another error if any, unless it
--- stands in the CATCH of that one.
+-- A statement to which the engine has never replied so sends no token that tells it, and raises another error, if any. Of statements in the
+-- CATCH of that error nothing is said, and of those that they call: there THROW raises it again.
 abbrev pub StatementCauses : Type 0
-StatementCauses = (error : EngineError) (levels : ℕ) (around : Around) (statement : Statement) (old new : SessionProgress) (exchanges : List Exchange) (exit : Exit) → CaughtOther error around.caught → NeverAnswered error exchanges
-    → Held (mean_of levels statement around) old exchanges exit new → LeavesOther error exit × ((sent : List Token) × (new.tokens ≡ old.tokens ++ sent) × TellsNone error sent)
+StatementCauses = (error : LockError) (levels : ℕ) (around : Around) (statement : Statement) (old new : SessionProgress)
+    (exchanges : List Exchange) (exit : Exit) → CaughtOther error around.caught → NeverAnswered error exchanges
+    → Held (mean_of levels statement around) old exchanges exit new
+    → LeavesOther error exit × ((sent : List Token) × (new.tokens ≡ old.tokens ++ sent) × TellsNone error sent)
 
--- A batch, as its text is read, to which the engine has never answered so tells it in no token.
+-- A batch, as its text is read, to which the engine has never replied so sends no token that tells it.
 abbrev pub BatchCauses : Type 0
-BatchCauses = (error : EngineError) (text : List ℕ) (read : ReadText) (old new : SessionProgress) (exchanges : List Exchange) → ReadsAs text read → NeverAnswered error exchanges → Held (batch read) old exchanges tt new → TellsNone error new.tokens
+BatchCauses = (error : LockError) (text : List ℕ) (read : ReadText) (old new : SessionProgress) (exchanges : List Exchange)
+    → ReadsAs text read → NeverAnswered error exchanges → Held (batch read) old exchanges tt new → TellsNone error new.tokens

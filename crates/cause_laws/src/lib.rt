@@ -1,15 +1,15 @@
-//! The law of causes: ERROR 1205, of the victim of a deadlock, and ERROR 1222, of a lock that stands in the way, are told to a client only
-//! where the engine has answered so.
+//! The law of causes: a client is told ERROR 1205 only where the engine has replied that its session fell as the victim of a deadlock, and
+//! ERROR 1222 only where it has replied that a lock of another session stood in its way.
 //!
 //! Read `specs/Causes.antt`. The function does nothing: its contract is a law of the trees of `batch_meaning`, for every reply that may
-//! come, and asks nothing of its caller; only the definitions that it cites say what it means. That the engine's answers have their causes
+//! come, and asks nothing of its caller; only the definitions that it cites say what it means. That the engine's replies have their causes
 //! in turn is no part of it (`refusals_caused` of `step_model`), and nothing is said of ERROR 701, since want of memory may come at any time.
 #![tactic(auto)]
 
 ghost use Rattle.cause_laws.specs.Causes.{BatchCauses, StatementCauses};
 
-/// ERROR 1205 and ERROR 1222 are told only where the engine has answered so: where no reply makes the session the victim of a deadlock,
-/// or says that a lock stands in its way, no statement and no batch tells that error.
+/// Where no reply makes the session the victim of a deadlock, or says that a lock stands in its way, no batch tells that error, and no
+/// statement but in the CATCH of that error.
 #[tactic(auto, using(crate::proofs::Causes::statement_causes))]
 pub fn law_causes()
     ensures statement { StatementCauses }

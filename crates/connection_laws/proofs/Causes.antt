@@ -1,6 +1,6 @@
--- In what a connection answers, an error of the engine's has its cause: each response is that of a batch, or has no token that tells it.
-use Rattle.std.proofs.Common.{◌≡◌, inl, inr, ℕ, ℤ, pos, ◌==◌, Bool, true, false, if◌then◌else◌, List, [], ◌∷◌, ◌++◌, fold, map, Option, None, Some, Result, Ok, Err, refl, sym, subst}
-use Rattle.std.specs.List.{All, AllByRecursion}
+-- Each response of a connection is that of a batch, by its own exchanges, or has no token that tells an error of a lock.
+use Rattle.std.proofs.Common.{◌≡◌, inl, inr, ℕ, ℤ, pos, ◌==◌, Bool, true, false, if◌then◌else◌, List, [], ◌∷◌, ◌++◌, fold, map, Option, None, Some, Result, Ok, Err, refl, sym, ap, ◌∙◌, subst, append_assoc, append-nil}
+use Rattle.std.specs.List.{All, AllByRecursion, flat_map}
 use Rattle.std.proofs.lemmas.List.Elements.{All-head, All-tail}
 use Rattle.tds_packets.specs.declared.message.Message.{Message}
 use Rattle.tds_packets.specs.Header.{sql_batch, attention, login7, prelogin}
@@ -18,9 +18,9 @@ use Rattle.batch_meaning.specs.Doing.{Doing, over, ◌then◌, Held}
 use Rattle.batch_meaning.specs.Meaning.{batch, rolls_back_open}
 use Rattle.batch_meaning.specs.Progress.{SessionProgress, first_progress}
 use Rattle.statement_paths.proofs.Apart.{held_apart}
-use Rattle.cause_laws.specs.Causes.{EngineError, IsOther, NeverAnswered, is_answer}
+use Rattle.cause_laws.specs.Causes.{LockError, IsOther, NeverAnswered, is_answer}
 use Rattle.cause_laws.proofs.Causes.{batch_causes}
-use Rattle.cause_laws.proofs.Clean.{all_behind, all_both, all_front, usual_other}
+use Rattle.cause_laws.proofs.Clean.{all_both, all_front, usual_other}
 use Rattle.session_server.specs.declared.end.BatchFault.{BatchFault}
 use Rattle.session_server.specs.declared.end.End.{End}
 use Rattle.session_server.specs.Conversation.{Abandons, IsAsked, closed}
@@ -28,12 +28,17 @@ use Rattle.session_server.specs.Ends.{Cause, no_message, by_message, unsent, unm
 use Rattle.session_server.specs.Response.{Response}
 use Rattle.session_server.specs.Talk.{AreRequests, Handling, IsReadAs, IsRequest, Request, Walk, batch_fault, batch_response, ends, first_walk, handle, handle_batch, handle_login, handle_prelogin, handle_verdict, handling_in, refuses, responds, response_to, runs, talk_of, walk_by, walk_of, walk_on, with_handling, with_message, with_request}
 use Rattle.sound_laws.proofs.Looked.{all_left}
-use Rattle.connection_laws.specs.Causes.{ConnectionCauses, ResponseTellsNone}
+use Rattle.connection_laws.specs.Causes.{AreCaused, ConnectionCauses, HasCauses, ResponseTellsNone}
 use Rattle.connection_laws.proofs.Short.{GoesBy, IsLimited, IsReached, all_limited, first_reached, handled_goes}
 use Rattle.connection_laws.proofs.Talks.{gives_tokens}
 
+-- a stretch more
+flat_more : (parts : List (List Exchange)) (part : List Exchange) → flat_map (λ part. part) (parts ++ part ∷ []) ≡ flat_map (λ part. part) parts ++ part
+flat_more [] part = append-nil part
+flat_more (front ∷ parts) part = ap (λ (rest : List Exchange). front ++ rest) (flat_more parts part) ∙ sym (append_assoc front (flat_map (λ part. part) parts) part)
+
 -- the numbers that refuse a login
-verdict_other : (error : EngineError) (login : Login) (config : Config) (P : Result ℕ ℤ → Type 0) → ((size : ℕ) → P (Ok size)) → ((number : ℤ) → IsOther error number → P (Err number)) → P (judge_login login config)
+verdict_other : (error : LockError) (login : Login) (config : Config) (P : Result ℕ ℤ → Type 0) → ((size : ℕ) → P (Ok size)) → ((number : ℤ) → IsOther error number → P (Err number)) → P (judge_login login config)
 unfolding judge_login
 verdict_other error login config P granted refused = by_tests (has_credentials login config) (is_known login.database)
   where
@@ -42,7 +47,7 @@ verdict_other error login config P granted refused = by_tests (has_credentials l
     by_tests true false = refused unknown_database (usual_other error (pos 49011) refl)
     by_tests false b = refused login_failed (usual_other error (pos 18456) refl)
 
-module _ (error : EngineError) where
+module _ (error : LockError) where
   -- ---- how messages are handled
 
   -- a response that is none of a batch tells it in no token
@@ -113,9 +118,22 @@ module _ (error : EngineError) where
 
   -- ---- responses
 
-  -- a talk whose responses tell it in no token
+  -- the responses of a talk, each by a stretch of what it has asked
+  record IsParted (exchanges : List Exchange) (responses : List Response) : Type 0 where
+    pub parts : List (List Exchange)
+    pub whole : exchanges ≡ flat_map (λ part. part) parts
+    pub caused : AreCaused error parts responses
+
   abbrev TalksOther : Doing (List Response) → Type 0
-  TalksOther talk = (p new : SessionProgress) (exchanges : List Exchange) (responses : List Response) → NeverAnswered error exchanges → Held talk p exchanges responses new → AllByRecursion (ResponseTellsNone error) responses
+  TalksOther talk = (p new : SessionProgress) (exchanges : List Exchange) (responses : List Response) → Held talk p exchanges responses new → IsParted exchanges responses
+
+  -- one response more
+  caused_more : (parts : List (List Exchange)) (responses : List Response) (part : List Exchange) (response : Response) → AreCaused error parts responses → (NeverAnswered error part → ResponseTellsNone error response)
+      → AreCaused error (parts ++ part ∷ []) (responses ++ response ∷ [])
+  caused_more [] [] part response all one = (one, tt)
+  caused_more [] (first ∷ responses) part response all one = absurd all
+  caused_more (first ∷ parts) [] part response all one = absurd all
+  caused_more (front ∷ parts) (first ∷ responses) part response all one = (all.0, caused_more parts responses part response all.1 one)
 
   response_other : (handling : Handling) (read_as : ReadText) (p new : SessionProgress) (exchanges : List Exchange) (response : Response) → HandlesOther handling → IsReadAs handling read_as → NeverAnswered error exchanges → Held (response_to handling read_as) p exchanges response new → ResponseTellsNone error response
   unfolding batch_response Held
@@ -129,15 +147,18 @@ module _ (error : EngineError) where
 
   with_other : (talk : Doing (List Response)) (request : Request) → TalksOther talk → HandlesOther request.handling → IsRequest request → TalksOther (with_request talk request)
   unfolding Held
-  with_other talk request talks other is p new exchanges responses none held =
+  with_other talk request talks other is p new exchanges responses held =
       let tree = response_to request.handling request.read_as in
       let one = held_apart talk (λ earlier. tree then λ response. over (earlier ++ response ∷ [])) p new exchanges responses held in
       let two = held_apart tree (λ response. over (one.came ++ response ∷ [])) one.mid new one.back responses one.rest in
-      let parts : NeverAnswered error (one.front ++ one.back) = subst (NeverAnswered error) one.parts none in
-      let behind : NeverAnswered error (two.front ++ two.back) = subst (NeverAnswered error) two.parts (all_behind (λ (x : Exchange). is_answer error x.reply ≡ false) one.front one.back parts) in
-      subst (AllByRecursion (ResponseTellsNone error)) (sym two.rest.1) (all_both (ResponseTellsNone error) one.came (two.came ∷ [])
-      (talks p one.mid one.front one.came (all_front (λ (x : Exchange). is_answer error x.reply ≡ false) one.front one.back parts) one.held)
-      (response_other request.handling request.read_as one.mid two.mid two.front two.came other is (all_front (λ (x : Exchange). is_answer error x.reply ≡ false) two.front two.back behind) two.held, tt))
+      let earlier = talks p one.mid one.front one.came one.held in
+      let back : one.back ≡ two.front = two.parts ∙ ap (λ (rest : List Exchange). two.front ++ rest) two.rest.0 ∙ append-nil two.front in
+      record {
+        parts = earlier.parts ++ two.front ∷ [];
+        whole = one.parts ∙ ap (λ (front : List Exchange). front ++ one.back) earlier.whole ∙ ap (λ (rest : List Exchange). flat_map (λ part. part) earlier.parts ++ rest) back ∙ sym (flat_more earlier.parts two.front);
+        caused = subst (AreCaused error (earlier.parts ++ two.front ∷ [])) (sym two.rest.1) (caused_more earlier.parts one.came two.front two.came earlier.caused
+            (λ none. response_other request.handling request.read_as one.mid two.mid two.front two.came other is none two.held));
+      }
 
   all_other : (requests : List Request) (talk : Doing (List Response)) → TalksOther talk → AreOther (map handling_in requests) → All IsRequest requests → TalksOther (fold with_request talk requests)
   all_other [] talk talks others are = talks
@@ -145,31 +166,40 @@ module _ (error : EngineError) where
 
   talk_other : (handled : List Handling) (requests : List Request) → AreOther handled → AreRequests handled requests → TalksOther (talk_of requests)
   unfolding talk_of Held
-  talk_other handled requests others are = all_other requests (over []) (λ p new exchanges responses none held. subst (AllByRecursion (ResponseTellsNone error)) (sym held.1) tt) (subst AreOther (sym are.handlings) others) are.are
+  talk_other handled requests others are = all_other requests (over []) (λ p new exchanges responses held. record { parts = []; whole = held.0; caused = subst (AreCaused error []) (sym held.1) tt }) (subst AreOther (sym are.handlings) others) are.are
 
   -- ---- connections
 
-  module _ (config : Config) (messages : List Message) (requests : List Request) (exchanges : List Exchange) (responses : List Response) (limits : AllByRecursion IsLimited messages) (none : NeverAnswered error exchanges) where
-    closed_other : (new : SessionProgress) → AreRequests (walk_of config messages).handled requests → Held (closed (talk_of requests)) first_progress exchanges responses new → AllByRecursion (ResponseTellsNone error) responses
+  module _ (config : Config) (messages : List Message) (requests : List Request) (exchanges : List Exchange) (responses : List Response) (limits : AllByRecursion IsLimited messages) where
+    closed_other : (new : SessionProgress) → AreRequests (walk_of config messages).handled requests → Held (closed (talk_of requests)) first_progress exchanges responses new → HasCauses error exchanges responses
     unfolding Held
     closed_other new are held =
         let one = held_apart (talk_of requests) (λ came. rolls_back_open then λ _. over came) first_progress new exchanges responses held in
         let two = held_apart rolls_back_open (λ _. over one.came) one.mid new one.back responses one.rest in
-        subst (AllByRecursion (ResponseTellsNone error)) (sym two.rest.1)
-        (talk_other (walk_of config messages).handled requests (walk_other config messages limits) are first_progress one.mid one.front one.came (all_front (λ (x : Exchange). is_answer error x.reply ≡ false) one.front one.back (subst (NeverAnswered error) one.parts none)) one.held)
+        let talked = talk_other (walk_of config messages).handled requests (walk_other config messages limits) are first_progress one.mid one.front one.came one.held in
+        record {
+          parts = talked.parts;
+          behind = one.back;
+          whole = one.parts ∙ ap (λ (front : List Exchange). front ++ one.back) talked.whole;
+          caused = subst (AreCaused error talked.parts) (sym two.rest.1) talked.caused;
+        }
 
-    abandoned_other : Abandons config messages requests exchanges responses → AllByRecursion (ResponseTellsNone error) responses
+    abandoned_other : Abandons config messages requests exchanges responses → HasCauses error exchanges responses
     abandoned_other a =
         let each : AllByRecursion IsLimited (a.front ++ a.last ∷ []) = subst (AllByRecursion IsLimited) a.whole limits in
-        let parts : NeverAnswered error ((a.first ++ a.second) ++ a.third) = subst (NeverAnswered error) a.parts none in
-        talk_other (walk_of config a.front).handled requests (walk_other config a.front (all_left IsLimited a.front (a.last ∷ []) each)) a.are first_progress a.talked a.first responses
-        (all_front (λ (x : Exchange). is_answer error x.reply ≡ false) a.first a.second (all_front (λ (x : Exchange). is_answer error x.reply ≡ false) (a.first ++ a.second) a.third parts)) a.talk
+        let talked = talk_other (walk_of config a.front).handled requests (walk_other config a.front (all_left IsLimited a.front (a.last ∷ []) each)) a.are first_progress a.talked a.first responses a.talk in
+        record {
+          parts = talked.parts;
+          behind = a.second ++ a.third;
+          whole = a.parts ∙ append_assoc a.first a.second a.third ∙ ap (λ (front : List Exchange). front ++ (a.second ++ a.third)) talked.whole;
+          caused = talked.caused;
+        }
 
-    asked_other : (cause : Cause) → IsAsked config messages requests exchanges responses cause → AllByRecursion (ResponseTellsNone error) responses
+    asked_other : (cause : Cause) → IsAsked config messages requests exchanges responses cause → HasCauses error exchanges responses
     asked_other unmade asked = abandoned_other asked
     asked_other (no_message fault) asked = closed_other asked.1 asked.0 asked.2
     asked_other (by_message end) asked = closed_other asked.1 asked.0 asked.2
     asked_other (unsent fault) asked = closed_other asked.1 asked.0 asked.2
 
 pub connection_causes : ConnectionCauses
-connection_causes error exchanges c none = asked_other error c.config c.messages c.requests exchanges c.responses (all_limited 0 c.taken c.messages c.rest c.split.joined) none c.cause c.asked
+connection_causes error exchanges c = asked_other error c.config c.messages c.requests exchanges c.responses (all_limited 0 c.taken c.messages c.rest c.split.joined) c.cause c.asked

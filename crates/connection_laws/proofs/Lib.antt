@@ -4,4 +4,4 @@ pub mod Talks  -- what a talk has asked, request by request
 pub mod Shut  -- what a batch that was left has open is rolled back
 pub mod Served  -- what a connection has asked are batches; and so it is of connections one behind another
 pub mod Sound  -- each commit keeps its database intact, and each database of the log is
-pub mod Causes  -- an error of the engine's is told in a response only where it has answered so
+pub mod Causes  -- each response tells an error of a lock only where the engine has replied so

@@ -1,7 +1,8 @@
 //! Laws of connections: what one connection asks of its port are batches, one behind another, and what texts of its messages
 //! keep reads back; a transaction may go over batches, and what is open at the end is rolled back. So each commit of a session
 //! that serves connections keeps its database sound, and in every run of such sessions each database that the commits of the
-//! log leave is sound. And what a connection is answered tells ERROR 1205 and ERROR 1222 only where the engine has answered so.
+//! log leave is sound. And each response tells ERROR 1205 and ERROR 1222 only where the engine has
+//! replied so.
 //!
 //! Read `specs/Batches.antt` first, then `specs/Laws.antt` and `specs/Causes.antt`. The functions do nothing: each one's contract is a law of what
 //! messages ask (`session_server`), for every reply that may come, and of runs of the engine (`step_model`). They ask nothing
@@ -41,8 +42,8 @@ pub fn law_connection_sound()
     ensures { ConnectionSound }
 {}
 
-/// ERROR 1205 and ERROR 1222 are told in a connection only where the engine has answered so: where no reply makes its session the victim
-/// of a deadlock, or says that a lock stands in its way, no response tells that error.
+/// Each response of a connection has its own stretch of what the connection has asked, one behind another. Where no reply in that makes the
+/// session the victim of a deadlock, or says that a lock stands in its way, the response does not tell that error.
 pub fn law_connection_causes()
     ensures { ConnectionCauses }
 {}
