@@ -4,14 +4,11 @@ ghost use Rattle.std.specs.Prelude.{◌≡◌, ◌==◌, ◌+◌, ◌<◌, ◌^�
 ghost use Rattle.std.specs.List.{slice_get};
 ghost use Rattle.std.specs.LinkedList.{linked_list_len};
 ghost use Rattle.std.specs.Option.{option_copied, option_to_list};
-ghost use Rattle.std.specs.Ordering.{is_eq};
-ghost use Rattle.value_types.specs.Order.{table_cmp};
-ghost use Rattle.step_model.specs.Entries.{place_cmp, pending_by, seen_by};
+ghost use Rattle.step_model.specs.Entries.{pending_by, seen_by};
 ghost use Rattle.row_store.specs.Rows.{entry_of};
 ghost use Rattle.row_store.specs.Writes.{state_at, new_stored, written, put_state, is_past, before_mark, back_stored, settled, dropped, is_kept, kept_row, kept_change, change_in};
 
 use std::alloc::Global;
-use std::cmp::Ordering;
 use std::collections::LinkedList;
 use std::marker::Model;
 use step_model::Change;
@@ -302,20 +299,6 @@ impl Stored {
         ensures { result.now ≡ self.now.key }
     {
         &self.key
-    }
-
-    /// Whether it is of a table.
-    pub(crate) fn is_of(&self, table: &TableName) -> bool
-        ensures { result ≡ is_eq (table_cmp self.now.table table.now) }
-    {
-        self.table.cmp(table).is_eq()
-    }
-
-    /// How a key of a table compares with this one.
-    pub(crate) fn order_of(&self, table: &TableName, key: &Key) -> Ordering
-        ensures { result ≡ place_cmp table.now key.now (entry_of self.now) }
-    {
-        table.cmp(&self.table).then_with(|| key.cmp(&self.key))
     }
 
     /// Whether a session has a state pending here.
