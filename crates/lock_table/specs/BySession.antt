@@ -1,4 +1,4 @@
--- Own: what is kept by the numbers of sessions: the list of each, and on one resource the pair of each.
+-- Own: what is kept by the numbers of sessions: the list of each, with how it begins, and on one resource the pair of each.
 use Rattle.std.specs.Prelude.{◌≡◌, ◌≢◌, ◌<◌, ◌≤◌, ◌==◌, ◌+◌, not, ℕ, Bool, true, false, List, [], ◌∷◌, ◌++◌, map, length, take, slice_index_or, if◌then◌else◌}
 use Rattle.std.specs.List.{All}
 use Rattle.lock_modes.specs.declared.Pair.{Pair}

@@ -4,8 +4,8 @@
 //! grants, which changes exactly as each call says, while no other session's does. A caller asks [`LockTable::foe`]
 //! before it grants; the table itself takes what it is given. That calls print nothing and end is the proof's. No
 //! clause says what they cost: a look-up goes down two ordered maps, the end of a statement goes over the locks that
-//! its session got since the end of the one before, the end of a transaction over all of its session's, and of a key
-//! on which no session has a lock nothing is kept.
+//! its session got since the end of the one before, the end of a transaction over all of its session's, and so does a
+//! lock that is taken back for want of memory. Of a key on which no session has a lock nothing is kept.
 #![tactic(auto)]
 
 ghost use Rattle.std.specs.Prelude.{◌≡◌, ◌≢◌, ◌<◌, ◌++◌, ◌∷◌, [], ℕ, Ok, None, true, false, filter, IfOk, IfSome, OnOk, OnErr};

@@ -57,8 +57,8 @@ impl Lock {
 }
 
 /// The locks of a session, in the order of their grants, and how many at the front are known to be kept to the
-/// transaction's end. All that are left at the end of a statement are, so the next one looks behind those alone,
-/// and does not grow with the transaction.
+/// transaction's end. All that are left at the end of a statement are, so the end of the next one looks only at what
+/// stands behind them, and takes no longer in a long transaction.
 #[derive(Debug, Drop)]
 pub(crate) struct OwnLocks {
     locks: Vec<Lock>,
@@ -95,7 +95,8 @@ impl OwnLocks {
         self.locks.as_slice()
     }
 
-    /// The locks granted since the end of the last statement, among which are all of this one.
+    /// The locks granted since the end of the last statement, among which are all of this one. That they are no more
+    /// than those is no part of the clause.
     pub(crate) fn since_relax(&self) -> &[Lock]
         ensures { filter (is_of_span Statement) result.now ≡ filter (is_of_span Statement) self.now }
     {
