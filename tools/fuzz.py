@@ -24,6 +24,7 @@ import sys
 from collections import Counter
 from random import Random
 
+import dist
 import model
 import rows
 
@@ -355,7 +356,8 @@ def compare_files(paths):
 
 
 def compare_conversation(path, conversation):
-    if conversation.is_of_two() or conversation.is_inside() or any(step.text is None for step in conversation.steps):
+    is_other = conversation.is_of_two() or conversation.is_again() or conversation.session() != 1
+    if is_other or any(step.text is None for step in conversation.steps):
         return "passed"
     session = model.Session()
     for step in conversation.steps:
@@ -383,7 +385,7 @@ def compare_step(session, step):
 
 def main():
     words = argparse.ArgumentParser(description=__doc__, formatter_class=argparse.RawDescriptionHelpFormatter)
-    words.add_argument("--bin", default="crates/tsqld/out/tsqld", help="the built program")
+    words.add_argument("--bin", default=dist.current() or dist.BUILT, help="the program, without it that of these sources")
     words.add_argument("--number", type=int, default=500, help="how many conversations")
     words.add_argument("--seed", type=int, default=1)
     words.add_argument("--without", action="append", default=[], choices=("procedures", "triggers", "cursors"))

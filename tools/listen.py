@@ -4,7 +4,7 @@ stays behind. Prints a line for each part, and ends with 1 where one fails.
 
     tools/listen.py [--program P] [--port N]
 
-P is crates/tsqld/out/tsqld where it isn't given; the port is 14341. The parts stand on their own, on one server with 8 workers."""
+P is the program of these sources where it isn't given; the port is 14341. The parts stand on their own, on one server with 8 workers."""
 import argparse
 import os
 import socket
@@ -13,6 +13,8 @@ import subprocess
 import sys
 import threading
 import time
+
+import dist
 
 TOP = os.path.dirname(os.path.dirname(os.path.abspath(__file__)))
 HEADERS = bytes.fromhex("16000000120000000200000000000000000001000000")
@@ -198,7 +200,7 @@ def many(port, pid):
 
 def main():
     asked = argparse.ArgumentParser(description=__doc__.split("\n")[0])
-    asked.add_argument("--program", default=os.path.join(TOP, "crates/tsqld/out/tsqld"), nargs="+")
+    asked.add_argument("--program", default=dist.current() or dist.BUILT, nargs="+")
     asked.add_argument("--port", type=int, default=14341)
     given = asked.parse_args()
     program = given.program if isinstance(given.program, list) else [given.program]

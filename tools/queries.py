@@ -29,6 +29,7 @@ import sys
 from collections import Counter
 from random import Random
 
+import dist
 import rows
 
 TABLES = ("t", "t", "t", "u", "u", "u", "w", "w", "w", "e")
@@ -440,7 +441,7 @@ def show(program, tables, query):
 
 def main():
     words = argparse.ArgumentParser(description=__doc__, formatter_class=argparse.RawDescriptionHelpFormatter)
-    words.add_argument("--bin", default="crates/tsqld/out/tsqld", help="the built program")
+    words.add_argument("--bin", default=dist.current() or dist.BUILT, help="the program, without it that of these sources")
     words.add_argument("--queries", type=int, default=1000)
     words.add_argument("--seed", type=int, default=1)
     said = words.parse_args()
