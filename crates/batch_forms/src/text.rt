@@ -4,7 +4,7 @@ ghost use Rattle.std.specs.Prelude.{◌≡◌, Err, IfOk, pos};
 ghost use Rattle.batch_meaning.specs.Meaning.{vars_in_text};
 ghost use Rattle.batch_meaning.specs.declared.form.ReadText.TheVariants.{Defines, Statements};
 ghost use Rattle.batch_meaning.specs.Statements.{IsRead, ReadsAs, text_of};
-ghost use Rattle.query_parser.specs.declared.fault.ParseFault.TheVariants.{Refused as RefusedFault};
+ghost use Rattle.tsql_grammar.specs.declared.fault.ParseFault.TheVariants.{Refused as RefusedFault};
 
 use crate::variables::vars_of;
 use batch_meaning::ReadText;

@@ -19,7 +19,7 @@ use Rattle.batch_meaning.specs.Raised.{Around, around_batch, error_token, raised
 use Rattle.batch_meaning.specs.Statements.{vars_of}
 use Rattle.batch_meaning.specs.Tokens.{batch_done}
 use Rattle.statement_paths.proofs.Apart.{held_apart}
-use Rattle.reading_laws.proofs.Parts.{from_both}
+use Rattle.write_laws.proofs.Parts.{from_both}
 use Rattle.batch_laws.specs.Committing.{is_plain, Agrees, ArePlain, Commits, Ends, Fires, FiresAmong, IfOn, IsIdle, Leaves, NoneFires, Runs, Stays}
 use Rattle.batch_laws.specs.Laws.{BatchRuns, PlainRun, RefusedEnds}
 use Rattle.batch_laws.proofs.Ending.{Ended}

@@ -40,7 +40,7 @@ use Rattle.statement_paths.proofs.Apart.{bind_failed, held_apart}
 use Rattle.statement_paths.proofs.Still.{Reads}
 use Rattle.statement_paths.proofs.Working.{answers_read}
 use Rattle.statement_paths.proofs.Works.{prepares_reads}
-use Rattle.reading_laws.specs.Reads.{IsFetch}
+use Rattle.statement_paths.specs.Asked.{IsFetch}
 use Rattle.batch_laws.proofs.Idle.{enters_make, leaves_make, own_makes}
 
 module _ (p new : SessionProgress) (exchanges : List Exchange) (came : Result Effect Failure) where

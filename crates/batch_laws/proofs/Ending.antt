@@ -15,7 +15,7 @@ use Rattle.step_model.specs.Own.{Progress as Stand, progress_from}
 use Rattle.txn_rules.specs.declared.state.TxnState.{TxnState}
 use Rattle.txn_rules.specs.State.{after_end}
 use Rattle.tds_tokens.specs.declared.token.Token.{Token}
-use Rattle.reading_laws.proofs.Parts.{from_both}
+use Rattle.write_laws.proofs.Parts.{from_both}
 use Rattle.batch_meaning.specs.declared.exit.Exit.{Exit}
 use Rattle.batch_meaning.specs.declared.exit.Exit.TheVariants.{End}
 use Rattle.batch_meaning.specs.declared.failure.Failure.{Failure}

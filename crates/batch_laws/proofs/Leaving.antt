@@ -31,9 +31,9 @@ use Rattle.dml_exec.specs.declared.refusal.Level.TheVariants.{Serializable}
 use Rattle.dml_exec.specs.declared.written.Written.TheVariants as written
 use Rattle.dml_exec.specs.Reading.{GivenRows, behind_gone, images_of, none_given}
 use Rattle.dml_exec.specs.Writing.{writes}
-use Rattle.reading_laws.specs.Reads.{AskOnly, IsFetch}
-use Rattle.reading_laws.proofs.Parts.{from_both}
-use Rattle.reading_laws.proofs.Writes.{whole_adds}
+use Rattle.statement_paths.specs.Asked.{AskOnly, IsFetch}
+use Rattle.write_laws.proofs.Parts.{from_both}
+use Rattle.write_laws.proofs.Writes.{whole_adds}
 use Rattle.batch_meaning.specs.Asking.{KnownNames, is_table, with_found}
 use Rattle.batch_meaning.specs.Changing.{created, whole}
 use Rattle.batch_meaning.specs.Progress.{SessionProgress}

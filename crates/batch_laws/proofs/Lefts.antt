@@ -18,7 +18,7 @@ use Rattle.step_model.specs.Fits.{commit_of, commits_from, commits_of, committed
 use Rattle.step_model.specs.Net.{Net}
 use Rattle.step_model.specs.Own.{Progress as Stand, none_open, progress_after}
 use Rattle.tds_tokens.specs.declared.token.Token.{Token}
-use Rattle.reading_laws.specs.Reads.{AskOnly}
+use Rattle.statement_paths.specs.Asked.{AskOnly}
 use Rattle.batch_meaning.specs.declared.exit.Exit.{Exit}
 use Rattle.batch_meaning.specs.declared.exit.Exit.TheVariants.{On, Leave, Again, Return, Raise, RaiseUp, End}
 use Rattle.batch_meaning.specs.declared.failure.Failure.{Failure}

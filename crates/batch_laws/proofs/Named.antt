@@ -11,7 +11,7 @@ use Rattle.catalog_rows.specs.Definitions.{is_objects}
 use Rattle.clause_binder.specs.Scope.{is_long}
 use Rattle.step_model.specs.declared.op.Op.{Op}
 use Rattle.step_model.specs.Dialog.{IsQuiet}
-use Rattle.reading_laws.specs.Reads.{IsFetch}
+use Rattle.statement_paths.specs.Asked.{IsFetch}
 use Rattle.batch_meaning.specs.declared.failure.Failure.{Failure}
 use Rattle.batch_meaning.specs.Asking.{◌>>=◌, comes_to, fails, fails_naming, finds_by, look_up}
 use Rattle.batch_meaning.specs.Calls.{Call, call_over}

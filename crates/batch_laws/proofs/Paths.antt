@@ -7,7 +7,7 @@ use Rattle.step_model.specs.declared.op.Op.TheVariants as ops
 use Rattle.step_model.specs.declared.reply.Reply.TheVariants as replies
 use Rattle.step_model.specs.Exchange.{Exchange}
 use Rattle.step_model.specs.Own.{Progress as Stand, none_open, progress_from, progress_of}
-use Rattle.reading_laws.proofs.Parts.{from_both}
+use Rattle.write_laws.proofs.Parts.{from_both}
 use Rattle.batch_meaning.specs.declared.exit.Exit.{Exit}
 use Rattle.batch_meaning.specs.declared.exit.Exit.TheVariants.{On, Leave, Again, Return, Raise, RaiseUp, End}
 use Rattle.batch_meaning.specs.declared.form.ReadText.TheVariants as text

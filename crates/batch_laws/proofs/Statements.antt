@@ -17,8 +17,8 @@ use Rattle.step_model.specs.Fits.{commit_of, commits_from}
 use Rattle.step_model.specs.Net.{Net}
 use Rattle.step_model.specs.Own.{Progress as Stand, none_open, progress_from}
 use Rattle.step_model.specs.Ranges.{no_memory}
-use Rattle.reading_laws.specs.Reads.{AskOnly, IsFetch}
-use Rattle.reading_laws.proofs.Parts.{from_both}
+use Rattle.statement_paths.specs.Asked.{AskOnly, IsFetch}
+use Rattle.write_laws.proofs.Parts.{from_both}
 use Rattle.batch_meaning.specs.declared.failure.Failure.{Failure}
 use Rattle.batch_meaning.specs.declared.home.Home.TheVariants.{Nowhere}
 use Rattle.batch_meaning.specs.Asking.{assigns_all, fails}

@@ -8,7 +8,7 @@ use Rattle.binder.specs.Names.{form_of, looked_up}
 use Rattle.step_model.specs.Exchange.{Exchange}
 use Rattle.step_model.specs.Own.{Progress as Stand}
 use Rattle.step_model.specs.Ranges.{no_memory}
-use Rattle.reading_laws.specs.Reads.{IsFetch}
+use Rattle.statement_paths.specs.Asked.{IsFetch}
 use Rattle.batch_meaning.specs.declared.failure.Failure.{Failure}
 use Rattle.batch_meaning.specs.Asking.{comes_to, fails, if_bytes_left}
 use Rattle.batch_meaning.specs.Doing.{Doing, over, Held}

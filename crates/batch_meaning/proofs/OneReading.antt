@@ -1,8 +1,8 @@
 -- A text is read as one thing.
 use Rattle.std.proofs.Common.{◌≡◌, ℕ, pos, List, Result, Ok, Err, sym, ap, ◌∙◌, subst}
 use Rattle.tsql_tree.specs.declared.statement.Batch.{Batch}
-use Rattle.query_parser.specs.declared.fault.ParseFault.{ParseFault}
-use Rattle.query_parser.specs.declared.fault.ParseFault.TheVariants as fault
+use Rattle.tsql_grammar.specs.declared.fault.ParseFault.{ParseFault}
+use Rattle.tsql_grammar.specs.declared.fault.ParseFault.TheVariants as fault
 use Rattle.stmt_parser.proofs.OneOutcome.{one_batch}
 use Rattle.batch_meaning.specs.declared.form.ReadText.{ReadText}
 use Rattle.batch_meaning.specs.declared.form.ReadText.TheVariants as text

@@ -14,7 +14,7 @@ use sqlite_items::{Boxed, Items};
 use value_types::{SqlType, Value};
 
 /// What is done with two operands of arithmetic.
-#[derive(Clone, Copy, Debug, PartialEq, Eq)]
+#[derive(Clone, Copy, PartialEq, Eq)]
 pub enum InfixOp {
     /// `+`, which joins two texts.
     Add,
@@ -29,7 +29,7 @@ pub enum InfixOp {
 }
 
 /// How two values are compared.
-#[derive(Clone, Copy, Debug, PartialEq, Eq)]
+#[derive(Clone, Copy, PartialEq, Eq)]
 pub enum CompareOp {
     /// `=`
     Equal,

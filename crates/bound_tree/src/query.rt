@@ -5,7 +5,7 @@ use sqlite_items::Items;
 use value_types::{SqlType, TableName, Units};
 
 /// How a reference is joined to those before it.
-#[derive(Clone, Copy, Debug, PartialEq, Eq)]
+#[derive(Clone, Copy, PartialEq, Eq)]
 pub enum JoinKind {
     /// The pairs for which ON is true.
     Inner,
@@ -31,7 +31,7 @@ pub struct Reference {
 }
 
 /// A function over the rows of a class.
-#[derive(Clone, Copy, Debug, PartialEq, Eq)]
+#[derive(Clone, Copy)]
 pub enum SumKind {
     /// `COUNT(*)`
     CountRows,

@@ -8,7 +8,7 @@ use std::marker::Model;
 use value_types::Value;
 
 /// A value of the session.
-#[derive(Clone, Copy, Debug, PartialEq, Eq)]
+#[derive(Clone, Copy, PartialEq, Eq)]
 pub enum SystemValue {
     /// `@@TRANCOUNT`
     TranCount,
@@ -56,7 +56,7 @@ impl SystemValue {
 }
 
 /// The values of the session, one for each [`SystemValue`], in that order, each NULL or of its type.
-#[derive(Debug, Drop)]
+#[derive(Drop)]
 pub struct SystemValues {
     values: Vec<Value>,
 }

@@ -7,7 +7,7 @@ use std::marker::Model;
 use value_types::{Row, SqlType, Units};
 
 /// The rows of a table that were read, in the order of their keys.
-#[derive(Debug, Drop)]
+#[derive(Drop)]
 pub struct Image {
     rows: Vec<Row>,
 }

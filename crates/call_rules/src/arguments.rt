@@ -18,7 +18,7 @@ use value_types::{Memory, SqlType, Units, Value};
 const NO_MATCH: i32 = 49012;
 
 /// A parameter that is written back to a variable of the caller.
-#[derive(Debug, Drop)]
+#[derive(Drop)]
 pub struct Output {
     /// The parameter's place.
     pub place: usize,

@@ -8,7 +8,7 @@ use thiserror::Error;
 use value_types::Memory;
 
 /// Why the arguments of a call are not taken.
-#[derive(Clone, Copy, Debug, PartialEq, Eq, Error)]
+#[derive(Clone, Copy, Debug, Error)]
 pub enum CallFault {
     /// The error of this number refuses them: 49012 where they are not those of the procedure, and else that
     /// of a conversion.

@@ -50,8 +50,8 @@ use Rattle.call_rules.specs.Arguments.{argument_values, matched, taken_by, taken
 use Rattle.tsql_grammar.specs.declared.noted.TextFault.{TextFault}
 use Rattle.tsql_grammar.specs.declared.noted.TextFault.TheVariants.{TooDeep, NotDeclared, DeclaredTwice}
 use Rattle.tsql_grammar.specs.declared.rule.Rule.TheVariants as r
-use Rattle.query_parser.specs.declared.fault.ParseFault.{ParseFault}
-use Rattle.query_parser.specs.declared.fault.ParseFault.TheVariants as faults
+use Rattle.tsql_grammar.specs.declared.fault.ParseFault.{ParseFault}
+use Rattle.tsql_grammar.specs.declared.fault.ParseFault.TheVariants as faults
 use Rattle.stmt_parser.specs.Parsed.{BatchOf, IsUnread, IsWrong, number_of}
 use Rattle.batch_meaning.specs.declared.failure.Failure.{Failure}
 use Rattle.batch_meaning.specs.declared.form.ReadText.{ReadText}

@@ -15,9 +15,9 @@ use Rattle.step_model.specs.State.{Engine}
 use Rattle.history_laws.proofs.Sessions.{apart, same_or_not}
 use Rattle.engine_core.specs.Solo.{asked_by}
 use Rattle.engine_core.proofs.Fitting.{run_known}
-use Rattle.reading_laws.specs.Laws.{HasCommit}
-use Rattle.reading_laws.proofs.Logged.{logged_commits}
-use Rattle.integrity_laws.proofs.Empty.{firm_empty}
+use Rattle.write_laws.specs.Reading.{HasCommit}
+use Rattle.write_laws.proofs.Logged.{logged_commits}
+use Rattle.write_laws.proofs.Empty.{firm_empty}
 use Rattle.sound_laws.specs.Stands.{Intact}
 use Rattle.sound_laws.specs.Tied.{Tied}
 use Rattle.sound_laws.proofs.Runs.{run_sound}

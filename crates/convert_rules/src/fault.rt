@@ -15,7 +15,7 @@ use thiserror::Error;
 use value_types::{Memory, SqlType, Value};
 
 /// Why a value is not converted.
-#[derive(Clone, Copy, Debug, PartialEq, Eq, Error)]
+#[derive(Clone, Copy, Debug, Error)]
 pub enum ConvertFault {
     /// The number is outside the type, or its digits are longer than the type.
     #[error("the number is outside the type")]

@@ -19,7 +19,7 @@ const DIGIT_NINE: u16 = 0x39;
 const MAGNITUDE_LIMIT: u64 = 9223372036854775808;
 
 /// What a text is as a whole number.
-#[derive(Clone, Copy, Debug, PartialEq, Eq)]
+#[derive(Clone, Copy)]
 pub(crate) enum TextNumber {
     /// It spells none.
     NoNumber,

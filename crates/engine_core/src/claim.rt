@@ -18,7 +18,7 @@ use step_model::{Hold, Place, Resource, Span, Stop};
 use value_types::{Key, Memory, TableName, prefix_order};
 
 /// A mode that is asked on a resource, and how long the lock is kept, if it is kept.
-#[derive(Debug, Drop)]
+#[derive(Drop)]
 pub(crate) struct Claim {
     pub(crate) on: Resource,
     pub(crate) pair: Pair,
@@ -95,7 +95,7 @@ impl Claim {
 }
 
 /// A claim in whose way another session's pair stands.
-#[derive(Debug, Drop)]
+#[derive(Drop)]
 pub(crate) struct Foe {
     pub(crate) claim: Claim,
     pub(crate) holder: u32,

@@ -17,7 +17,7 @@ use step_model::{Cycle, Manner, Op, Reply};
 use value_types::Memory;
 
 /// The engine of all sessions.
-#[derive(Debug, Drop)]
+#[derive(Drop)]
 pub struct Engine {
     pub(crate) parts: Parts,
 }

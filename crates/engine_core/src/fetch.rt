@@ -5,15 +5,30 @@ ghost use Rattle.std.specs.Option.{option_copied};
 ghost use Rattle.step_model.specs.Exchange.{IsSession};
 ghost use Rattle.step_model.specs.State.{is_open};
 ghost use Rattle.step_model.specs.Moves.{without_wait};
-ghost use Rattle.step_model.specs.Step.{StepFrom};
+ghost use Rattle.step_model.specs.Step.{StepFrom, entry_reply};
 ghost use Rattle.history_laws.specs.Sane.{Sane};
 ghost use Rattle.engine_core.specs.AtKeys.{fetch_reply_at};
 
 use crate::claim::{fetch_claim_at, includes};
 use crate::parts::Parts;
 use lock_modes::KeyPart;
+use std::alloc::Global;
 use step_model::{Hold, Manner, Op, Reply, Start, Stop};
-use value_types::{Key, Memory, TableName};
+use value_types::{Key, Memory, Row, TableName, beside};
+
+/// The answer of a key that was found, with the row that is seen there, or none.
+fn row_reply(alloc: Global, key: &Key, row: Option<&Row>, at: u64) -> Result<Reply, Memory>
+    ensures { IfOk result (λ reply. reply ≡ entry_reply (option_copied row.entry) key.now at) }
+{
+    let key = key.copy(alloc)?;
+    match row {
+        Some(row) => {
+            let (key, row) = beside(key, row.copy(alloc))?;
+            Ok(Reply::Row { key, row, at })
+        }
+        None => Ok(Reply::Gone { key, at }),
+    }
+}
 
 impl Parts {
     /// Looks for the first key of a range, and locks what is asked there.
@@ -63,15 +78,8 @@ impl Parts {
         let at = self.log.len() as u64;
         match found {
             Some(found) if includes(stop, found) => {
-                let key = found.copy(self.alloc)?;
-                Ok(match self.rows.visible(session, table, found) {
-                    Some(row) => Reply::Row {
-                        key,
-                        row: row.copy(self.alloc)?,
-                        at,
-                    },
-                    None => Reply::Gone { key, at },
-                })
+                let seen = self.rows.visible(session, table, found);
+                row_reply(self.alloc, found, seen, at)
             }
             _ => Ok(Reply::End { at }),
         }

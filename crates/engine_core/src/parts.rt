@@ -19,7 +19,7 @@ use step_model::{Resource, Start};
 use value_types::{Key, Memory, TableName};
 
 /// The entries, the locks, the open transactions and the log.
-#[derive(Debug, Drop)]
+#[derive(Drop)]
 pub(crate) struct Parts {
     pub(crate) rows: RowStore,
     pub(crate) locks: LockTable,

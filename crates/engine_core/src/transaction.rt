@@ -12,7 +12,7 @@ use value_types::Memory;
 
 /// A session that has a transaction open, with how many marks that has made, and those that are live; what it waits
 /// for, and the cycle as whose victim it is marked.
-#[derive(Debug, Drop)]
+#[derive(Drop)]
 pub(crate) struct Transaction {
     session: u32,
     made: u64,

@@ -10,7 +10,7 @@ use step_model::{Edge, Resource};
 use value_types::Memory;
 
 /// What a session waits for, and the priority with which it waits.
-#[derive(Debug, Drop)]
+#[derive(Drop)]
 pub(crate) struct StandingWait {
     pub(crate) on: Resource,
     pub(crate) asked: Pair,

@@ -6,7 +6,7 @@ ghost use Rattle.error_table.specs.Act.{action_of, base_action, base_caught};
 use crate::row::row_of;
 
 /// What an error ends.
-#[derive(Clone, Copy, Debug, PartialEq, Eq)]
+#[derive(Clone, Copy)]
 pub enum Action {
     /// The statement.
     Statement,
@@ -19,7 +19,7 @@ pub enum Action {
 }
 
 /// Which TRY catches an error.
-#[derive(Clone, Copy, Debug, PartialEq, Eq)]
+#[derive(Clone, Copy, PartialEq, Eq)]
 pub enum Caught {
     /// Every TRY around.
     Yes,
@@ -30,7 +30,7 @@ pub enum Caught {
 }
 
 /// Who raised an error.
-#[derive(Clone, Copy, Debug, PartialEq, Eq)]
+#[derive(Clone, Copy, PartialEq, Eq)]
 pub enum RaisedBy {
     /// The server itself.
     Engine,

@@ -7,7 +7,7 @@ ghost use Rattle.error_table.specs.Table.{row_of, line_of, line_among, error_lin
 use crate::action::{Action, Caught};
 
 /// A row of the table of errors.
-#[derive(Clone, Copy, Debug, PartialEq, Eq)]
+#[derive(Clone, Copy)]
 pub struct ErrorRow {
     /// The error's number.
     pub number: i32,

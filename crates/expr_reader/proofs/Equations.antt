@@ -17,15 +17,12 @@ use Rattle.tsql_grammar.specs.declared.kind.Function.TheVariants as f
 use Rattle.tsql_grammar.specs.declared.kind.Kind.TheVariants as k
 use Rattle.tsql_grammar.specs.declared.kind.Reserved.{Reserved}
 use Rattle.tsql_grammar.specs.declared.kind.Reserved.TheVariants as word
-use Rattle.tsql_grammar.specs.declared.kind.Word.{Word}
-use Rattle.tsql_grammar.specs.declared.kind.Word.TheVariants as v
-use Rattle.value_types.specs.declared.sql_type.SqlType.TheVariants as kind
 use Rattle.tsql_grammar.specs.declared.rule.Class.{Class}
 use Rattle.tsql_grammar.specs.declared.rule.Class.TheVariants as c
 use Rattle.tsql_grammar.specs.declared.rule.Rule.TheVariants as r
 use Rattle.tsql_grammar.specs.Lookahead.{adds, multiplies}
 use Rattle.tsql_grammar.specs.Productions.{Tree, way}
-use Rattle.tsql_grammar.specs.Terminals.{Terminal, kind as kind_at, units, number, size}
+use Rattle.tsql_grammar.specs.Terminals.{Terminal, kind as kind_at, units, number}
 use Rattle.tsql_grammar.specs.Trees.{sum, product}
 use Rattle.tsql_grammar.specs.Kinds.{functions}
 use Rattle.grammar_laws.specs.Grammar.Symbol.{lexeme, rule}
@@ -39,9 +36,6 @@ sign a = c.One (k.Sign a)
 
 abbrev reserved : Reserved → Class
 reserved a = c.One (k.Reserved a)
-
-abbrev plain : Word → Class
-plain a = c.One (k.Word a)
 
 unless : {A : Type 0} (a b : A) (it : Bool) → it ≡ false → (if it then a else b) ≡ b
 unless a b true e = absurd (cc)
@@ -172,15 +166,6 @@ after_function_on name a w = ap (applied name) (after_function_is a w) ∙ simp 
 pub after_name_on : (name : List ℕ) (w : List Terminal) → applied name (read r.AfterName w)
     ≡ when (expect (sign s.Dot) w) (λ x. do y ← expect c.Name x.1; Some (expr.Column (Some name) (units y.0), y.1)) (Some (expr.Column None name, w))
 after_name_on name w = ap (applied name) (after_name_is w) ∙ simp (when_bind, bind_assoc)
-
-pub sql_type_is : (w : List Terminal) → read r.Type w
-    ≡ when (expect (plain v.TinyInt) w) (λ x. Some (kind.TinyInt, x.1))
-    (when (expect (plain v.SmallInt) w) (λ x. Some (kind.SmallInt, x.1))
-    (when (expect (plain v.Int) w) (λ x. Some (kind.Int, x.1))
-    (when (expect (plain v.BigInt) w) (λ x. Some (kind.BigInt, x.1))
-    (when (expect (plain v.Bit) w) (λ x. Some (kind.Bit, x.1))
-    (do x ← expect (plain v.NVarChar) w; y ← expect (sign s.Open) x.1; z ← expect (c.One k.Number) y.1; a ← expect (sign s.Close) z.1; Some (kind.NText (size z.0), a.1))))))
-sql_type_is w = by_order [] r.Type w refl
 
 pub arguments_is : (a : Function) (w : List Terminal) → read (r.FunctionArguments a) w ≡ arguments_from a w
 arguments_is f.Cast w = by_order [] (r.FunctionArguments f.Cast) w refl

@@ -10,7 +10,6 @@ ghost use Rattle.lexeme_reader.specs.Reading.{read, sees_any, Gives};
 ghost use Rattle.tsql_grammar.specs.Lookahead.{adds, multiplies};
 
 use crate::nested::{Found, Nested};
-use crate::pairs::beside;
 use crate::reader::Reader;
 use lexeme_reader::{Lexemes, ReadFault};
 use sqlite_items::{Boxed, Items};
@@ -18,6 +17,7 @@ use std::alloc::{AllocError, Global};
 use tsql_grammar::{Class, Kind, Reserved};
 use tsql_lexer::Sign;
 use tsql_tree::{AddSign, Arm, Expr, Factor, MultiplySign, SystemWord, Term};
+use value_types::beside;
 
 /// The signs that an operand may begin with.
 pub const ADDS: [Class; 2] = [

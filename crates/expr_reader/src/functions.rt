@@ -1,21 +1,20 @@
 //! Columns, and functions by their names.
 
-ghost use Rattle.std.specs.Prelude.{◌≡◌, min, nat_abs};
+ghost use Rattle.std.specs.Prelude.{◌≡◌};
 ghost use Rattle.tsql_grammar.specs.declared.rule.Rule.TheVariants as r;
 ghost use Rattle.expr_reader.specs.Nests.{Nests};
 ghost use Rattle.expr_reader.specs.Parts.{cast_from, length_from, count_from, system_from, aggregate_from};
 ghost use Rattle.lexeme_reader.specs.Reading.{read, applied, Gives};
 
 use crate::nested::{Found, Nested};
-use crate::pairs::beside;
 use crate::reader::Reader;
-use lexeme_reader::{Lexemes, ReadFault};
+use lexeme_reader::{Lexemes, ReadFault, sql_type};
 use sqlite_items::Boxed;
 use std::alloc::Global;
-use tsql_grammar::{Class, Function, Kind, Reserved, Word};
+use tsql_grammar::{Class, Function, Kind, Reserved};
 use tsql_lexer::Sign;
 use tsql_tree::{Aggregate, Expr, SystemWord};
-use value_types::{SqlType, Units};
+use value_types::{Units, beside};
 
 impl<F: Fn(Global, &mut Lexemes<'_>, usize, Nested) -> Result<Found, ReadFault>> Reader<F> {
     /// A column or a function.
@@ -176,38 +175,4 @@ fn system(lexemes: &mut Lexemes<'_>, word: SystemWord) -> Result<Expr, ReadFault
     lexemes.want_sign(Sign::Open)?;
     lexemes.want_sign(Sign::Close)?;
     Ok(Expr::System(word))
-}
-
-/// A type.
-#[tactic(auto, using(crate::proofs::Equations::sql_type_is))]
-pub fn sql_type(lexemes: &mut Lexemes<'_>) -> Result<SqlType, ReadFault>
-    ensures { Gives (read r.Type lexemes.old) result lexemes.new }
-{
-    if lexemes.accept(Class::One(Kind::Word(Word::TinyInt))) {
-        return Ok(SqlType::TinyInt);
-    }
-    if lexemes.accept(Class::One(Kind::Word(Word::SmallInt))) {
-        return Ok(SqlType::SmallInt);
-    }
-    if lexemes.accept(Class::One(Kind::Word(Word::Int))) {
-        return Ok(SqlType::Int);
-    }
-    if lexemes.accept(Class::One(Kind::Word(Word::BigInt))) {
-        return Ok(SqlType::BigInt);
-    }
-    if lexemes.accept(Class::One(Kind::Word(Word::Bit))) {
-        return Ok(SqlType::Bit);
-    }
-    lexemes.want(Class::One(Kind::Word(Word::NVarChar)))?;
-    lexemes.want_sign(Sign::Open)?;
-    let size = text_size(lexemes.want_number()?);
-    lexemes.want_sign(Sign::Close)?;
-    Ok(SqlType::NText(size))
-}
-
-/// The size of a text type; above 65,535 it is kept as 65,535.
-fn text_size(number: i64) -> u16
-    ensures { result ≡ min (nat_abs number) 65535 }
-{
-    number.unsigned_abs().min(65535) as u16
 }

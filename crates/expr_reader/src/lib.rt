@@ -13,12 +13,10 @@
 mod expr;
 mod functions;
 mod nested;
-mod pairs;
 mod reader;
 mod test;
 
 pub use expr::ADDS;
-pub use functions::{distinct, sql_type};
+pub use functions::distinct;
 pub use nested::{Found, Nested};
-pub use pairs::beside;
 pub use reader::Reader;

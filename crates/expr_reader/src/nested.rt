@@ -3,12 +3,12 @@
 ghost use Rattle.std.specs.Prelude.{◌≡◌, Ok, Err, IfOk, OnErr};
 ghost use Rattle.lexeme_reader.specs.declared.fault.ReadFault.TheVariants.{NoRoom};
 
-use lexeme_reader::ReadFault;
+use lexeme_reader::{ReadFault, no_room};
 use sqlite_items::{Boxed, Items};
 use tsql_tree::{Expr, Select, Test};
 
 /// What is to be read.
-#[derive(Clone, Copy, Debug, PartialEq, Eq)]
+#[derive(Clone, Copy)]
 pub enum Nested {
     /// An expression.
     Expr,
@@ -52,7 +52,7 @@ impl Found {
     {
         match self {
             Found::Expr(it) => Ok(it),
-            _ => Err(ReadFault::NoRoom),
+            other => Err(no_room(other)),
         }
     }
 
@@ -64,7 +64,7 @@ impl Found {
     {
         match self {
             Found::Exprs(it) => Ok(it),
-            _ => Err(ReadFault::NoRoom),
+            other => Err(no_room(other)),
         }
     }
 
@@ -76,7 +76,7 @@ impl Found {
     {
         match self {
             Found::Test(it) => Ok(it),
-            _ => Err(ReadFault::NoRoom),
+            other => Err(no_room(other)),
         }
     }
 
@@ -88,7 +88,7 @@ impl Found {
     {
         match self {
             Found::Tests(it) => Ok(it),
-            _ => Err(ReadFault::NoRoom),
+            other => Err(no_room(other)),
         }
     }
 
@@ -100,7 +100,7 @@ impl Found {
     {
         match self {
             Found::Select(it) => Ok(it),
-            _ => Err(ReadFault::NoRoom),
+            other => Err(no_room(other)),
         }
     }
 }

@@ -10,7 +10,6 @@ ghost use Rattle.lexeme_reader.specs.declared.fault.ReadFault.TheVariants.{NoRoo
 
 use crate::expr::ADDS;
 use crate::nested::{Found, Nested};
-use crate::pairs::beside;
 use crate::reader::Reader;
 use lexeme_reader::{Lexemes, ReadFault};
 use sqlite_items::{Boxed, Items};
@@ -18,6 +17,7 @@ use std::alloc::{AllocError, Global};
 use tsql_grammar::{Class, Kind, Reserved};
 use tsql_lexer::Sign;
 use tsql_tree::{CompareSign, Expr, Test};
+use value_types::beside;
 
 const COMPARES: [Class; 6] = [
     Class::One(Kind::Sign(Sign::Equal)),

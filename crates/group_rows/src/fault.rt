@@ -7,7 +7,7 @@ use thiserror::Error;
 use value_types::Memory;
 
 /// Why an aggregate has no value.
-#[derive(Clone, Copy, Debug, PartialEq, Eq, Error)]
+#[derive(Clone, Copy, Debug, Error)]
 pub enum GroupFault {
     /// The exact total, or the count, is outside the type of the result.
     #[error("a total is outside its type")]

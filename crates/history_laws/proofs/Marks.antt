@@ -76,18 +76,21 @@ module _ (session : ℕ) (old : Engine) where
       by_who (inr differ) = mark_before who cycle (sym (ap victim_in (changed_other session (set_wait wait) (λ t. refl) who differ (without_wait session old).active)) ∙ is)
 
   -- the marks behind a session that would wait
-  broken_stood : (wait : StandingWait) (broken : List (List Edge)) (last : Engine) → Breaks session (with_wait session wait (without_wait session old)) broken last
-      → (who : ℕ) (cycle : List Edge) → victim_of who last ≡ Some cycle → (victim_of who old ≡ Some cycle) ⊎ Stood session old cycle
-  broken_stood wait broken last breaks who cycle mark = by_mark (break_marks session (with_wait session wait (without_wait session old)) last broken breaks who cycle mark)
+  broken_stood : (op : Op) (manner : Manner) (claim : Claim) (broken : List (List Edge)) (last : Engine) → claim_of (without_wait session old) op ≡ Some claim
+      → Breaks session (with_wait session (wait_for claim manner.priority) (without_wait session old)) broken last
+      → (who : ℕ) (cycle : List Edge) → victim_of who last ≡ Some cycle → (victim_of who old ≡ Some cycle) ⊎ Stood session old op manner cycle
+  broken_stood op manner claim broken last asked breaks who cycle mark =
+      by_mark (break_marks session (with_wait session (wait_for claim manner.priority) (without_wait session old)) last broken breaks who cycle mark)
     where
-      by_mark : (victim_of who (with_wait session wait (without_wait session old)) ≡ Some cycle) ⊎ AllByRecursion (IsEdge (with_wait session wait (without_wait session old))) cycle → (victim_of who old ≡ Some cycle) ⊎ Stood session old cycle
-      by_mark (inl is) = inl (mark_waiting wait who cycle is)
-      by_mark (inr stood) = inr (wait, stood)
+      by_mark : (victim_of who (with_wait session (wait_for claim manner.priority) (without_wait session old)) ≡ Some cycle)
+          ⊎ AllByRecursion (IsEdge (with_wait session (wait_for claim manner.priority) (without_wait session old))) cycle → (victim_of who old ≡ Some cycle) ⊎ Stood session old op manner cycle
+      by_mark (inl is) = inl (mark_waiting (wait_for claim manner.priority) who cycle is)
+      by_mark (inr stood) = inr (claim, asked, stood)
 
-  waits_stood : (new : Engine) (claim : Option Claim) (manner : Manner) (holder : ℕ) → Waits session claim (without_wait session old) manner holder new → (who : ℕ) (cycle : List Edge) → victim_of who new ≡ Some cycle
-      → (victim_of who old ≡ Some cycle) ⊎ Stood session old cycle
-  waits_stood new None manner holder waits who cycle mark = absurd waits
-  waits_stood new (Some claim) manner holder waits who cycle mark = broken_stood (wait_for claim manner.priority) waits.2.broken new waits.2.breaks who cycle mark
+  waits_stood : (new : Engine) (op : Op) (claim : Option Claim) (manner : Manner) (holder : ℕ) → claim_of (without_wait session old) op ≡ claim → Waits session claim (without_wait session old) manner holder new → (who : ℕ) (cycle : List Edge) → victim_of who new ≡ Some cycle
+      → (victim_of who old ≡ Some cycle) ⊎ Stood session old op manner cycle
+  waits_stood new op None manner holder asked waits who cycle mark = absurd waits
+  waits_stood new op (Some claim) manner holder asked waits who cycle mark = broken_stood op manner claim waits.2.broken new asked waits.2.breaks who cycle mark
 
   calm_last : (last : Engine) (who : ℕ) (cycle : List Edge) → victim_of who (without_wait session last) ≡ Some cycle → victim_of who last ≡ Some cycle
   calm_last last who cycle is = by_who (same_or_not who session)
@@ -96,17 +99,19 @@ module _ (session : ℕ) (old : Engine) where
       by_who (inl same) = ap (λ (n : ℕ). victim_of n last) same ∙ sym (calm_mark session last) ∙ ap (λ (n : ℕ). victim_of n (without_wait session last)) (sym same) ∙ is
       by_who (inr differ) = sym (ap victim_in (calm_others session last who differ)) ∙ is
 
-  falls_stood : (new : Engine) (claim : Option Claim) (manner : Manner) (told : List Edge) → FallsAt session claim (without_wait session old) manner told new → (who : ℕ) (cycle : List Edge) → victim_of who new ≡ Some cycle
-      → (victim_of who old ≡ Some cycle) ⊎ Stood session old cycle
-  falls_stood new None manner told falls who cycle mark = absurd falls
-  falls_stood new (Some claim) manner told falls who cycle mark =
-      broken_stood (wait_for claim manner.priority) falls.1.broken falls.1.last falls.1.breaks who cycle (calm_last falls.1.last who cycle (ap (victim_of who) (sym falls.1.left) ∙ mark))
+  falls_stood : (new : Engine) (op : Op) (claim : Option Claim) (manner : Manner) (told : List Edge) → claim_of (without_wait session old) op ≡ claim → FallsAt session claim (without_wait session old) manner told new → (who : ℕ) (cycle : List Edge) → victim_of who new ≡ Some cycle
+      → (victim_of who old ≡ Some cycle) ⊎ Stood session old op manner cycle
+  falls_stood new op None manner told asked falls who cycle mark = absurd falls
+  falls_stood new op (Some claim) manner told asked falls who cycle mark =
+      broken_stood op manner claim falls.1.broken falls.1.last asked falls.1.breaks who cycle (calm_last falls.1.last who cycle (ap (victim_of who) (sym falls.1.left) ∙ mark))
 
   -- the cycle that is told at once
-  fell_stood : (new : Engine) (claim : Option Claim) (manner : Manner) (told : List Edge) → FallsAt session claim (without_wait session old) manner told new → Stood session old told
-  fell_stood new None manner told falls = absurd falls
-  fell_stood new (Some claim) manner told falls = (
-    wait_for claim manner.priority,
+  fell_stood : (new : Engine) (op : Op) (claim : Option Claim) (manner : Manner) (told : List Edge) → claim_of (without_wait session old) op ≡ claim → FallsAt session claim (without_wait session old) manner told new
+      → Stood session old op manner told
+  fell_stood new op None manner told asked falls = absurd falls
+  fell_stood new op (Some claim) manner told asked falls = (
+    claim,
+    asked,
     all_weaker (IsEdge falls.1.last) (IsEdge (with_wait session (wait_for claim manner.priority) (without_wait session old)))
         (edge_stood session (with_wait session (wait_for claim manner.priority) (without_wait session old)) falls.1.last
         (broken_all session (with_wait session (wait_for claim manner.priority) (without_wait session old)) falls.1.last falls.1.broken falls.1.breaks)) told falls.1.falls.closes.among,
@@ -124,9 +129,9 @@ module _ (session : ℕ) (old : Engine) where
       by_who (inr differ) is = mark_before who cycle (sym (ap victim_in (changed_other session drop_victim (λ t. refl) who differ (without_wait session old).active)) ∙ is)
 
   -- an operation that passes marks nobody
-  does_stood : (new : Engine) (op : Op) (reply : Reply) → IsHeard session op (without_wait session old) → Does (without_wait session old) session op reply new → (who : ℕ) (cycle : List Edge) → victim_of who new ≡ Some cycle
-      → (victim_of who old ≡ Some cycle) ⊎ Stood session old cycle
-  does_stood new op reply heard does who cycle mark = inl (by_who (same_or_not who session))
+  does_stood : (new : Engine) (op : Op) (manner : Manner) (reply : Reply) → IsHeard session op (without_wait session old) → Does (without_wait session old) session op reply new → (who : ℕ) (cycle : List Edge) → victim_of who new ≡ Some cycle
+      → (victim_of who old ≡ Some cycle) ⊎ Stood session old op manner cycle
+  does_stood new op manner reply heard does who cycle mark = inl (by_who (same_or_not who session))
     where
       unmarked : (op : Op) → IsHeard session op (without_wait session old) → Does (without_wait session old) session op reply new → victim_of session new ≡ None
       unmarked Rollback heard does = ap (λ (e : Engine). victim_of session e) does.1 ∙ ap victim_in (closed_own session (without_wait session old).active)
@@ -138,23 +143,23 @@ module _ (session : ℕ) (old : Engine) where
       by_who (inr differ) = mark_before who cycle (sym (ap victim_in ((beside_does session (without_wait session old) new op reply does).others who differ)) ∙ mark)
 
   from_stands : (new : Engine) (op : Op) (manner : Manner) (reply : Reply) → IsHeard session op (without_wait session old) → StepFrom (without_wait session old) session op manner reply new → (who : ℕ) (cycle : List Edge) → victim_of who new ≡ Some cycle
-      → (victim_of who old ≡ Some cycle) ⊎ Stood session old cycle
+      → (victim_of who old ≡ Some cycle) ⊎ Stood session old op manner cycle
   from_stands new op manner Memory heard step who cycle mark = inl (mark_before who cycle (ap (victim_of who) (sym step.1) ∙ mark))
   from_stands new op manner (TimedOut holder held asked on) heard step who cycle mark = inl (mark_before who cycle (ap (victim_of who) (sym step.1) ∙ mark))
-  from_stands new op manner (Wait holder) heard step who cycle mark = waits_stood new (claim_of (without_wait session old) op) manner holder step who cycle mark
-  from_stands new op manner (Victim told) heard step who cycle mark = falls_stood new (claim_of (without_wait session old) op) manner told step who cycle mark
-  from_stands new op manner Began heard step who cycle mark = does_stood new op Began heard step.1 who cycle mark
-  from_stands new op manner (Row key row at) heard step who cycle mark = does_stood new op (Row key row at) heard step.1 who cycle mark
-  from_stands new op manner (Gone key at) heard step who cycle mark = does_stood new op (Gone key at) heard step.1 who cycle mark
-  from_stands new op manner (Over at) heard step who cycle mark = does_stood new op (Over at) heard step.1 who cycle mark
-  from_stands new op manner Done heard step who cycle mark = does_stood new op Done heard step.1 who cycle mark
-  from_stands new op manner Exists heard step who cycle mark = does_stood new op Exists heard step.1 who cycle mark
-  from_stands new op manner Missing heard step who cycle mark = does_stood new op Missing heard step.1 who cycle mark
-  from_stands new op manner (Marked number) heard step who cycle mark = does_stood new op (Marked number) heard step.1 who cycle mark
-  from_stands new op manner (Ended place) heard step who cycle mark = does_stood new op (Ended place) heard step.1 who cycle mark
+  from_stands new op manner (Wait holder) heard step who cycle mark = waits_stood new op (claim_of (without_wait session old) op) manner holder refl step who cycle mark
+  from_stands new op manner (Victim told) heard step who cycle mark = falls_stood new op (claim_of (without_wait session old) op) manner told refl step who cycle mark
+  from_stands new op manner Began heard step who cycle mark = does_stood new op manner Began heard step.1 who cycle mark
+  from_stands new op manner (Row key row at) heard step who cycle mark = does_stood new op manner (Row key row at) heard step.1 who cycle mark
+  from_stands new op manner (Gone key at) heard step who cycle mark = does_stood new op manner (Gone key at) heard step.1 who cycle mark
+  from_stands new op manner (Over at) heard step who cycle mark = does_stood new op manner (Over at) heard step.1 who cycle mark
+  from_stands new op manner Done heard step who cycle mark = does_stood new op manner Done heard step.1 who cycle mark
+  from_stands new op manner Exists heard step who cycle mark = does_stood new op manner Exists heard step.1 who cycle mark
+  from_stands new op manner Missing heard step who cycle mark = does_stood new op manner Missing heard step.1 who cycle mark
+  from_stands new op manner (Marked number) heard step who cycle mark = does_stood new op manner (Marked number) heard step.1 who cycle mark
+  from_stands new op manner (Ended place) heard step who cycle mark = does_stood new op manner (Ended place) heard step.1 who cycle mark
 
   hears_stand : (new : Engine) (op : Op) (manner : Manner) (reply : Reply) (told : Option (List Edge)) → told_first op (victim_of session old) ≡ told → Hears told (without_wait session old) session op manner reply new
-      → (who : ℕ) (cycle : List Edge) → victim_of who new ≡ Some cycle → (victim_of who old ≡ Some cycle) ⊎ Stood session old cycle
+      → (who : ℕ) (cycle : List Edge) → victim_of who new ≡ Some cycle → (victim_of who old ≡ Some cycle) ⊎ Stood session old op manner cycle
   hears_stand new op manner reply None is step who cycle mark = from_stands new op manner reply (calm_heard (untold op (victim_of session old) is)) step who cycle mark
     where
       calm_heard : (is_rollback op ≡ true) ⊎ (victim_of session old ≡ None) → IsHeard session op (without_wait session old)
@@ -163,22 +168,22 @@ module _ (session : ℕ) (old : Engine) where
   hears_stand new op manner reply (Some told) is step who cycle mark = inl (told_gone new step.1 who cycle mark)
 
   pub marks_stand : (new : Engine) (op : Op) (manner : Manner) (reply : Reply) → Step old session op manner reply new → (who : ℕ) (cycle : List Edge) → victim_of who new ≡ Some cycle
-      → (victim_of who old ≡ Some cycle) ⊎ Stood session old cycle
+      → (victim_of who old ≡ Some cycle) ⊎ Stood session old op manner cycle
   marks_stand new op manner reply step who cycle mark = hears_stand new op manner reply (told_first op (victim_of session old)) refl step who cycle mark
 
   -- the cycle that is told was the session's mark, or stood
-  from_told : (new : Engine) (op : Op) (manner : Manner) (reply : Reply) → StepFrom (without_wait session old) session op manner reply new → (cycle : List Edge) → reply ≡ Victim cycle → Stood session old cycle
+  from_told : (new : Engine) (op : Op) (manner : Manner) (reply : Reply) → StepFrom (without_wait session old) session op manner reply new → (cycle : List Edge) → reply ≡ Victim cycle → Stood session old op manner cycle
   from_told new op manner (Victim told) step cycle is =
       let same : told ≡ cycle = cc in
-      subst (Stood session old) same (fell_stood new (claim_of (without_wait session old) op) manner told step)
+      subst (Stood session old op manner) same (fell_stood new op (claim_of (without_wait session old) op) manner told refl step)
   from_told new op manner reply step cycle is = cc
 
   hears_told : (new : Engine) (op : Op) (manner : Manner) (reply : Reply) (told : Option (List Edge)) → told_first op (victim_of session old) ≡ told → Hears told (without_wait session old) session op manner reply new
-      → (cycle : List Edge) → reply ≡ Victim cycle → (victim_of session old ≡ Some cycle) ⊎ Stood session old cycle
+      → (cycle : List Edge) → reply ≡ Victim cycle → (victim_of session old ≡ Some cycle) ⊎ Stood session old op manner cycle
   hears_told new op manner reply None is step cycle told = inr (from_told new op manner reply step cycle told)
   hears_told new op manner reply (Some mark) is step cycle told =
       let same : mark ≡ cycle = (let h : Victim mark ≡ Victim cycle = sym step.0 ∙ told in cc) in
       inl (told_is op (victim_of session old) mark is ∙ ap (λ (es : List Edge). Some es) same)
 
-  pub told_stood : (new : Engine) (op : Op) (manner : Manner) (reply : Reply) → Step old session op manner reply new → (cycle : List Edge) → reply ≡ Victim cycle → (victim_of session old ≡ Some cycle) ⊎ Stood session old cycle
+  pub told_stood : (new : Engine) (op : Op) (manner : Manner) (reply : Reply) → Step old session op manner reply new → (cycle : List Edge) → reply ≡ Victim cycle → (victim_of session old ≡ Some cycle) ⊎ Stood session old op manner cycle
   told_stood new op manner reply step cycle is = hears_told new op manner reply (told_first op (victim_of session old)) refl step cycle is

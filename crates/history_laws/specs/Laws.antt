@@ -14,9 +14,10 @@ use Rattle.step_model.specs.Log.{Commit as Logged}
 use Rattle.step_model.specs.Exchange.{Exchange, AsksLock, CanReply}
 use Rattle.step_model.specs.Own.{progress_of, none_open}
 use Rattle.step_model.specs.Fits.{Fits, all_numbers, is_wait, without_waits}
-use Rattle.step_model.specs.State.{Engine, StandingWait, victim_of}
+use Rattle.step_model.specs.State.{Engine, victim_of}
 use Rattle.step_model.specs.Moves.{with_wait, without_wait}
-use Rattle.step_model.specs.Deadlocks.{IsEdge}
+use Rattle.step_model.specs.Claims.{Claim, claim_of}
+use Rattle.step_model.specs.Deadlocks.{IsEdge, wait_for}
 use Rattle.step_model.specs.Step.{Step}
 use Rattle.step_model.specs.Runs.{MayStep, Asked, Run, opening, mine_of}
 use Rattle.history_laws.specs.Knows.{Knows, Ready}
@@ -57,15 +58,18 @@ RunsFit = (asked : List Asked) (engine : Engine) → Run opening asked engine �
 abbrev pub RunsQuiet : Type 0
 RunsQuiet = (asked : List Asked) (engine : Engine) → Run opening asked engine → Quiet engine
 
--- a session was about to wait, and each of these edges stood
-abbrev pub Stood : ℕ → Engine → List Edge → Type 0
-Stood session old cycle = (wait : StandingWait) × AllByRecursion (IsEdge (with_wait session wait (without_wait session old))) cycle
+-- a session was about to wait for what its operation asks to lock, and each of these edges stood
+abbrev pub Stood : ℕ → Engine → Op → Manner → List Edge → Type 0
+Stood session old op manner cycle = (claim : Claim) × (claim_of (without_wait session old) op ≡ Some claim)
+    × AllByRecursion (IsEdge (with_wait session (wait_for claim manner.priority) (without_wait session old))) cycle
 
 -- who is marked as a victim by a step is marked with a cycle whose edges stood, and so is the cycle that is told
 abbrev pub MarksStand : Type 0
 MarksStand = (old new : Engine) (session : ℕ) (exchange : Exchange) → Step old session exchange.op exchange.manner exchange.reply new
-    → ((who : ℕ) (cycle : List Edge) → victim_of who new ≡ Some cycle → (victim_of who old ≡ Some cycle) ⊎ Stood session old cycle)
-    × ((cycle : List Edge) → exchange.reply ≡ Victim cycle → (victim_of session old ≡ Some cycle) ⊎ Stood session old cycle)
+    → ((who : ℕ) (cycle : List Edge) → victim_of who new ≡ Some cycle
+    → (victim_of who old ≡ Some cycle) ⊎ Stood session old exchange.op exchange.manner cycle)
+    × ((cycle : List Edge) → exchange.reply ≡ Victim cycle
+    → (victim_of session old ≡ Some cycle) ⊎ Stood session old exchange.op exchange.manner cycle)
 
 -- from a moment on at which the session had no transaction open, its exchanges fit what the log has grown by
 abbrev pub SinceFits : Type 0

@@ -10,9 +10,8 @@ ghost use Rattle.tsql_grammar.specs.declared.rule.Class.TheVariants as c;
 use crate::{ReadFault, number_of, units_of};
 use std::alloc::Global;
 use std::marker::Model;
-use tsql_grammar::{Class, Kind, Reserved, kind_of};
+use tsql_grammar::{Class, Kind, Reserved, admits, kind_of, same_kind};
 use tsql_lexer::{Sign, Spanned};
-use tsql_recognizer::{admits, same_kind};
 use value_types::Units;
 
 /// The lexemes that are still to be read.

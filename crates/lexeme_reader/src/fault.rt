@@ -7,7 +7,7 @@ use std::alloc::AllocError;
 use value_types::Memory;
 
 /// Why a reader gave no tree.
-#[derive(Clone, Copy, Debug, PartialEq, Eq)]
+#[derive(Clone, Copy)]
 pub enum ReadFault {
     /// Memory was wanting, or the text nests deeper than the reader may follow.
     NoRoom,
@@ -29,4 +29,12 @@ impl From<AllocError> for ReadFault {
     fn from(_error: AllocError) -> Self {
         ReadFault::NoRoom
     }
+}
+
+/// No room, where another value is found than what was to be read. It is dropped here, by one call, and
+/// not case by case where it is found.
+pub fn no_room<T: Drop>(_found: T) -> ReadFault
+    ensures { result ≡ NoRoom }
+{
+    ReadFault::NoRoom
 }

@@ -18,7 +18,7 @@ use step_model::Place;
 use value_types::{Key, Memory};
 
 /// The pairs at the places of one table: at its keys, where some session has a lock, and at its end.
-#[derive(Debug, Drop)]
+#[derive(Drop)]
 pub(crate) struct ByPlace {
     keys: BTreeMap<Key, Pairs>,
     end: Pairs,

@@ -25,7 +25,7 @@ use value_types::{Memory, TableName};
 
 /// The pairs that each session's locks make together on each resource: those of the statement, and those of the
 /// transaction, so that the first are taken away without a look at the others.
-#[derive(Debug, Drop)]
+#[derive(Drop)]
 pub(crate) struct Index {
     statement: BTreeMap<TableName, ByPlace>,
     transaction: BTreeMap<TableName, ByPlace>,

@@ -36,7 +36,7 @@ use step_model::{Resource, Span};
 use value_types::Memory;
 
 /// The locks of all sessions: the list of each, by its number, and what they make together on each resource.
-#[derive(Debug, Drop)]
+#[derive(Drop)]
 pub struct LockTable {
     by_session: [OwnLocks; NUMBERS],
     index: Index,

@@ -14,7 +14,7 @@ use step_model::{Resource, Span, same_resource};
 use value_types::Memory;
 
 /// A lock of a session.
-#[derive(Debug, Drop)]
+#[derive(Drop)]
 pub(crate) struct Lock {
     pub(crate) on: Resource,
     pub(crate) pair: Pair,
@@ -59,7 +59,7 @@ impl Lock {
 /// The locks of a session, in the order of their grants, and how many at the front are known to be kept to the
 /// transaction's end. All that are left at the end of a statement are, so the end of the next one looks only at what
 /// stands behind them, and takes no longer in a long transaction.
-#[derive(Debug, Drop)]
+#[derive(Drop)]
 pub(crate) struct OwnLocks {
     locks: Vec<Lock>,
     whole_count: usize,

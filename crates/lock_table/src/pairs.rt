@@ -14,7 +14,7 @@ use std::marker::Model;
 pub(crate) const NUMBERS: usize = 65;
 
 /// The pair of each session on a resource.
-#[derive(Debug, Drop)]
+#[derive(Drop)]
 pub struct Pairs {
     by_session: [Pair; NUMBERS],
 }

@@ -8,7 +8,7 @@ use thiserror::Error;
 use value_types::Memory;
 
 /// Why a list of words gives no command.
-#[derive(Clone, Copy, Debug, PartialEq, Eq, Error)]
+#[derive(Clone, Copy, Debug, Error)]
 pub enum WordsFault {
     /// The words are no command.
     #[error("the words are no command")]

@@ -17,7 +17,7 @@ const OVERFLOW: i32 = 8115;
 const PAIRS_SPENT: i32 = 49003;
 
 /// Why there is no answer, in two words.
-#[derive(Clone, Copy, Debug, PartialEq, Eq)]
+#[derive(Clone, Copy)]
 pub(crate) enum Stop {
     /// The error of this number.
     Number(i32),

@@ -27,7 +27,7 @@ pub struct ColumnTest {
 }
 
 /// The columns that conjuncts of WHERE compare with constants and variables, in the order of the text.
-pub(crate) fn where_tests(
+pub fn where_tests(
     alloc: Global,
     vars: &Vars,
     filter: &Option<BoundTest>,
@@ -245,7 +245,7 @@ fn rows_of_key(
 ) -> Result<Vec<Row>, Memory>
     ensures { IfOk result (λ rows. rows.items ≡ filter (λ row. list_all (spec.meets row) (spec.key_tests key.now first tests.now)) image.now) }
 {
-    let own = key_tests(alloc, key, first, tests)?;
+    let own = tests_of_key(alloc, key, first, tests)?;
     rows_meeting(alloc, own.as_slice(), image)
 }
 
@@ -263,7 +263,7 @@ fn rows_meeting(alloc: Global, tests: &[ColumnTest], rows: &[Row]) -> Result<Vec
 }
 
 /// Of tests those of a key's columns, with each column counted among the reference's own.
-fn key_tests(
+pub fn tests_of_key(
     alloc: Global,
     key: &[u16],
     first: u32,

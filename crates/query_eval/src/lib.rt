@@ -22,7 +22,7 @@ mod side;
 mod target;
 
 pub use answering::{answer, answer_rows};
-pub use key_tests::ColumnTest;
+pub use key_tests::{ColumnTest, tests_of_key, where_tests};
 pub use laws::{law_images, law_key_tests};
 pub use limit::{PAIR_LIMIT, law_pair_limit};
 pub use references::tables_read;

@@ -1,3 +1,2 @@
-pub mod SelectEquations
 pub mod Whole
 pub mod Runs

@@ -15,8 +15,8 @@ use Rattle.grammar_laws.specs.Grammar.Symbol.{rule}
 use Rattle.grammar_laws.specs.Alternatives.{grammar_of}
 use Rattle.tsql_recognizer.specs.Verdict.{IsVerdict}
 use Rattle.tsql_recognizer.specs.declared.recognizer.Verdict.TheVariants as verdict
-use Rattle.query_parser.specs.declared.fault.ParseFault.{ParseFault}
-use Rattle.query_parser.specs.declared.fault.ParseFault.TheVariants as parse_fault
+use Rattle.tsql_grammar.specs.declared.fault.ParseFault.{ParseFault}
+use Rattle.tsql_grammar.specs.declared.fault.ParseFault.TheVariants as parse_fault
 use Rattle.query_parser.specs.declared.run.Run.{Run}
 use Rattle.query_parser.specs.declared.run.Run.TheVariants as run
 use Rattle.query_parser.specs.Parsed.{IsLongest, ReadsWith, IsRun, run_with, IsSaid, IsParsed}

@@ -22,8 +22,8 @@ use Rattle.tsql_grammar.specs.Words.{kind_of}
 use Rattle.grammar_laws.specs.Grammar.{Matches}
 use Rattle.grammar_laws.specs.Grammar.Symbol.{rule}
 use Rattle.grammar_laws.specs.Alternatives.{grammar_of}
-use Rattle.query_parser.specs.declared.fault.ParseFault.{ParseFault}
-use Rattle.query_parser.specs.declared.fault.ParseFault.TheVariants as fault
+use Rattle.tsql_grammar.specs.declared.fault.ParseFault.{ParseFault}
+use Rattle.tsql_grammar.specs.declared.fault.ParseFault.TheVariants as fault
 use Rattle.query_parser.specs.declared.run.Run.{Run}
 use Rattle.query_parser.specs.declared.run.Run.TheVariants as run
 

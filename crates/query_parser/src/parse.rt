@@ -4,19 +4,17 @@ ghost use Rattle.std.specs.Prelude.{◌≡◌, ◌≤◌, ◌<◌, ◌+◌, true
 ghost use Rattle.tsql_grammar.specs.declared.rule.Rule.TheVariants as r;
 ghost use Rattle.tsql_grammar.specs.Productions.{Tree};
 ghost use Rattle.query_parser.specs.Parsed.{ReadsWith, IsRun, IsSaid, IsParsed, IsParsedSelect, IsUnbegun, begins_select};
-ghost use Rattle.query_parser.specs.declared.fault.ParseFault.TheVariants.{Memory as NoMemory};
+ghost use Rattle.tsql_grammar.specs.declared.fault.ParseFault.TheVariants.{Memory as NoMemory};
 ghost use Rattle.query_parser.specs.declared.run.Run.TheVariants as run;
 ghost use Rattle.std.specs.List.{slice_get};
 
-use crate::ParseFault;
-use crate::knot::{read_expr, read_select, read_test};
 use crate::place::{line_at, near_at};
 use crate::run::{Run, run_of};
 use lexeme_reader::{Lexemes, ReadFault};
+use query_reader::{read_expr, read_select, read_test};
 use std::alloc::Global;
-use tsql_grammar::{Kind, Reserved, Rule, kind_of};
+use tsql_grammar::{Kind, ParseFault, Reserved, Rule, kind_of, same_kind};
 use tsql_lexer::Spanned;
-use tsql_recognizer::same_kind;
 use tsql_tree::{Expr, Select, Test};
 use value_types::{Memory, Units};
 

@@ -14,7 +14,7 @@ use tsql_recognizer::{Verdict, recognize};
 use value_types::Memory;
 
 /// What the longest run is that begins some text of a rule, and how many lexemes it has.
-#[derive(Clone, Copy, Debug, PartialEq, Eq)]
+#[derive(Clone, Copy)]
 pub enum Run {
     /// A text of the rule.
     Reads(usize),

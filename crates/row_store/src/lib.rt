@@ -31,7 +31,7 @@ use step_model::{Change, Start};
 use value_types::{Key, Memory, Row, TableName};
 
 /// The entries of all tables, and at which of them each session has done something.
-#[derive(Debug, Drop)]
+#[derive(Drop)]
 pub struct RowStore {
     parts: Parts,
     owned: Owned,

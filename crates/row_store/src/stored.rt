@@ -11,12 +11,13 @@ ghost use Rattle.row_store.specs.Writes.{state_at, new_stored, written, put_stat
 use std::alloc::Global;
 use std::collections::LinkedList;
 use std::marker::Model;
+use std::mem::replace;
 use step_model::Change;
-use value_types::{Key, Memory, Row, TableName};
+use value_types::{Key, Memory, Row, TableName, beside, letting_go};
 
 /// A state that a session has given a key, as the change that it is: with the key as it was asked last. The log's
 /// copy is made beforehand, so that a commit takes no memory.
-#[derive(Debug, Drop)]
+#[derive(Drop)]
 struct State {
     level: u64,
     change: Change,
@@ -45,16 +46,9 @@ impl State {
     ) -> Result<State, Memory>
         ensures { IfOk result (λ state. state ≡ state_at level table.now key.now (option_copied row.entry)) }
     {
-        let change = Change {
-            table: table.copy(alloc)?,
-            key: key.copy(alloc)?,
-            row: match row {
-                Some(row) => Some(row.copy(alloc)?),
-                None => None,
-            },
-        };
-        let mut logged = LinkedList::new(alloc);
-        logged.push_back(change.copy(alloc)?)?;
+        let change = change_to(alloc, table, key, row)?;
+        let logged = logged_of(alloc, &change);
+        let (change, logged) = beside(change, logged)?;
         Ok(State {
             level,
             change,
@@ -90,8 +84,45 @@ impl State {
     }
 }
 
+/// The change that gives a key this row, or its absence.
+fn change_to(
+    alloc: Global,
+    table: &TableName,
+    key: &Key,
+    row: Option<&Row>,
+) -> Result<Change, Memory>
+    ensures { let row = option_copied row.entry in
+        IfOk result (λ change. change ≡ record { table = table.now; key = key.now; row = row }) }
+{
+    let table = table.copy(alloc)?;
+    let (table, key) = beside(table, key.copy(alloc))?;
+    let (at, row) = beside((table, key), row_copied(alloc, row))?;
+    let (table, key) = at;
+    Ok(Change { table, key, row })
+}
+
+/// A row, or its absence, copied.
+fn row_copied(alloc: Global, row: Option<&Row>) -> Result<Option<Row>, Memory>
+    ensures { IfOk result (λ copy. copy ≡ option_copied row.entry) }
+{
+    match row {
+        Some(row) => Ok(Some(row.copy(alloc)?)),
+        None => Ok(None),
+    }
+}
+
+/// The log's copy of a change.
+fn logged_of(alloc: Global, change: &Change) -> Result<LinkedList<Change>, Memory>
+    ensures { IfOk result (λ logged. logged ≡ change.now ∷ []) }
+{
+    let copy = change.copy(alloc)?;
+    let mut logged = LinkedList::new(alloc);
+    logged.push_back(copy)?;
+    Ok(logged)
+}
+
 /// What an open transaction has done at an entry: whether it made it, and its states, the latest first.
-#[derive(Debug, Drop)]
+#[derive(Drop)]
 struct Work {
     owner: u32,
     is_maker: bool,
@@ -141,10 +172,11 @@ impl Work {
         ensures err { OnErr result (self.new ≡ self.old) }
     {
         match self.states.front_mut() {
-            Some(latest) if !latest.is_below(state.level) => *latest = state,
-            _ => self.states.push_front(state)?,
+            Some(latest) if !latest.is_below(state.level) => {
+                letting_go(replace(latest, state), Ok(()))
+            }
+            _ => Ok(self.states.push_front(state)?),
         }
-        Ok(())
     }
 
     /// Takes the states away that were written at this mark or later.
@@ -168,7 +200,7 @@ impl Work {
 }
 
 /// A key of a table, with its committed row, and what an open transaction has done there.
-#[derive(Debug, Drop)]
+#[derive(Drop)]
 pub(crate) struct Stored {
     table: TableName,
     key: Key,

@@ -1,6 +1,6 @@
 //! Texts joined and measured, conversions, and what a comparison says.
 
-ghost use Rattle.std.specs.Prelude.{◌≡◌, map, Ok};
+ghost use Rattle.std.specs.Prelude.{◌≡◌, if◌then◌else◌, map, None, Ok, Some};
 ghost use Rattle.value_types.specs.Order.{comparison};
 ghost use Rattle.convert_rules.specs.Conversion.{is_text};
 ghost use Rattle.bound_tree.specs.Kinds as kinds;
@@ -11,7 +11,8 @@ ghost use Rattle.bound_tree.specs.Conversions as conversions;
 ghost use Rattle.bound_tree.specs.Comparisons as spec;
 ghost use Rattle.bound_tree.specs.Meaning as meaning;
 ghost use Rattle.scalar_eval.specs.Answers.{Finds};
-ghost use Rattle.scalar_eval.specs.Operands.{FindsOperand};
+ghost use Rattle.scalar_eval.specs.Operands.{FindsOperand, operand_value};
+ghost use Rattle.value_types.specs.declared.value.Value.TheVariants.{Null};
 
 use crate::fault::Stop;
 use crate::numbers::{OVERFLOW, fitted};
@@ -21,7 +22,7 @@ use bound_tree::{CompareOp, Truth, higher};
 use convert_rules::{cast, error_of};
 use std::alloc::Global;
 use std::cmp::Ordering;
-use value_types::{Row, SqlType, Units, Value, compare};
+use value_types::{Row, SqlType, Units, Value, compare, letting_go};
 
 const SPACE: u16 = 0x20;
 
@@ -56,6 +57,27 @@ pub(crate) fn truth_of(holds: bool) -> Truth
     ensures { result ≡ truths.truth_of holds }
 {
     if holds { Truth::True } else { Truth::False }
+}
+
+/// A value, where it isn't NULL.
+pub(crate) fn known(value: Value) -> Option<Value>
+    ensures { result ≡ (if meaning.is_null value then None else Some value) }
+{
+    match value {
+        Value::Null => None,
+        value => Some(value),
+    }
+}
+
+/// NULL where a value equals another, else the value, owned.
+pub(crate) fn null_if(alloc: Global, value: Operand<'_>, equal: Truth) -> Result<Value, Stop>
+    ensures { let value = operand_value value.entry in
+        Finds result (Ok (if truths.is_true equal then Null else value)) }
+{
+    if is_true(equal) {
+        return Ok(Value::Null);
+    }
+    Ok(value.into_value(alloc)?)
 }
 
 /// Two texts joined, and cut where they are too long.
@@ -152,6 +174,14 @@ pub(crate) fn order_of(a: &Value, b: &Value) -> Option<Ordering>
         (Value::Bit(_), Value::Bit(_)) | (Value::Text(_), Value::Text(_)) => compare(a, b),
         _ => None,
     }
+}
+
+/// The same of what two expressions gave.
+pub(crate) fn order_of_operands(a: Operand<'_>, b: Operand<'_>) -> Option<Ordering>
+    ensures { result ≡ spec.order_of (operand_value a.entry) (operand_value b.entry) }
+{
+    let order = order_of(a.get(), b.get());
+    letting_go(a, letting_go(b, order))
 }
 
 /// How two numbers compare, where both are there.

@@ -10,8 +10,8 @@ ghost use Rattle.scalar_eval.specs.Operands.{FindsOperand, computes};
 ghost use Rattle.scalar_eval.specs.Scopes.{setting_of};
 
 use crate::comparison::{
-    are_alike, brought, conversion, in_rows, is_false, is_null, is_text, is_true, joined,
-    length_of, order_of, order_of_numbers, order_truth, truth_of,
+    are_alike, brought, conversion, in_rows, is_false, is_null, is_text, is_true, joined, known,
+    length_of, null_if, order_of, order_of_numbers, order_of_operands, order_truth, truth_of,
 };
 use crate::fault::{EvalFault, Stop, widened};
 use crate::numbers::{arithmetic, negation, number_of, value_of};
@@ -19,7 +19,7 @@ use crate::operand::{Operand, lent_or_null};
 use crate::scope::{Scope, cell, rows, scalar, variable};
 use bound_tree::{BoundArm, BoundExpr, BoundSide, BoundTest, CompareOp, Truth};
 use std::alloc::Global;
-use value_types::{SqlType, Value};
+use value_types::{SqlType, Value, beside, letting_go};
 
 /// What an expression gives.
 pub fn eval(alloc: Global, expr: &BoundExpr, scope: &Scope<'_>) -> Result<Value, EvalFault>
@@ -94,8 +94,9 @@ fn value<'a>(alloc: Global, expr: &'a BoundExpr, scope: &Scope<'a>) -> Result<Va
         BoundExpr::Infix(op, kind, a, b) => {
             if is_text(*kind) {
                 let x = value(alloc, a.get(), scope)?;
-                let y = operand(alloc, b.get(), scope)?;
-                return joined(x, y.get());
+                let (x, y) = beside(x, operand(alloc, b.get(), scope))?;
+                let text = joined(x, y.get());
+                return letting_go(y, text);
             }
             let x = number(alloc, a.get(), scope)?;
             let y = number(alloc, b.get(), scope)?;
@@ -103,7 +104,8 @@ fn value<'a>(alloc: Global, expr: &'a BoundExpr, scope: &Scope<'a>) -> Result<Va
         }
         BoundExpr::Convert(from, to, a) => {
             let a = operand(alloc, a.get(), scope)?;
-            conversion(alloc, *from, *to, a.get())
+            let converted = conversion(alloc, *from, *to, a.get());
+            letting_go(a, converted)
         }
         BoundExpr::Case(arms, other) => match chosen(alloc, arms.as_slice(), scope)? {
             Some(value) => Ok(value),
@@ -112,15 +114,14 @@ fn value<'a>(alloc: Global, expr: &'a BoundExpr, scope: &Scope<'a>) -> Result<Va
         BoundExpr::Coalesce(items) => first_known(alloc, items.as_slice(), scope),
         BoundExpr::NullIf(kind, a, side) => {
             let a = operand(alloc, a.get(), scope)?;
-            let equal = compared(alloc, CompareOp::Equal, *kind, a.get(), side.get(), scope)?;
-            if is_true(equal) {
-                return Ok(Value::Null);
-            }
-            Ok(a.into_value(alloc)?)
+            let equal = compared(alloc, CompareOp::Equal, *kind, a.get(), side.get(), scope);
+            let (a, equal) = beside(a, equal)?;
+            null_if(alloc, a, equal)
         }
         BoundExpr::Length(a) => {
             let a = operand(alloc, a.get(), scope)?;
-            Ok(value_of(length_of(a.get())?))
+            let length = length_of(a.get());
+            Ok(value_of(letting_go(a, length)?))
         }
     }
 }
@@ -168,7 +169,8 @@ fn computed<'a>(alloc: Global, expr: &'a BoundExpr, scope: &Scope<'a>) -> Result
         }
         _ => {
             let value = value(alloc, expr, scope)?;
-            Ok(number_of(&value))
+            let number = number_of(&value);
+            Ok(letting_go(value, number))
         }
     }
 }
@@ -180,9 +182,8 @@ fn first_known<'a>(alloc: Global, items: &'a [BoundExpr], scope: &Scope<'a>) -> 
         Finds result (meaning.first_known (map value items.now)) }
 {
     for item in items {
-        let value = value(alloc, item, scope)?;
-        if !is_null(&value) {
-            return Ok(value);
+        if let Some(known) = known(value(alloc, item, scope)?) {
+            return Ok(known);
         }
     }
     Ok(Value::Null)
@@ -221,8 +222,8 @@ fn compared<'a>(
         return Ok(order_truth(op, order_of(value, y)));
     }
     let x = brought(alloc, kind, side.pair, &*value)?;
-    let y = operand(alloc, &side.expr, scope)?;
-    Ok(order_truth(op, order_of(x.get(), y.get())))
+    let (x, y) = beside(x, operand(alloc, &side.expr, scope))?;
+    Ok(order_truth(op, order_of_operands(x, y)))
 }
 
 /// Whether a value of a type equals one of the sides.
@@ -294,31 +295,35 @@ fn truth_by_parts<'a>(alloc: Global, of: &'a BoundTest, scope: &Scope<'a>) -> Re
         BoundTest::Exists(place) => Ok(truth_of(!rows(scope.inner, *place).is_empty())),
         BoundTest::Compare(op, a, b) => {
             let x = operand(alloc, a.get(), scope)?;
-            let y = operand(alloc, b.get(), scope)?;
-            Ok(order_truth(*op, order_of(x.get(), y.get())))
+            let (x, y) = beside(x, operand(alloc, b.get(), scope))?;
+            Ok(order_truth(*op, order_of_operands(x, y)))
         }
         BoundTest::IsNull(a) => {
             let a = operand(alloc, a.get(), scope)?;
-            Ok(truth_of(is_null(a.get())))
+            let is_null = is_null(a.get());
+            Ok(truth_of(letting_go(a, is_null)))
         }
         BoundTest::Between(kind, a, low, high) => {
             let a = operand(alloc, a.get(), scope)?;
             let least = CompareOp::GreaterEqual;
-            let above = compared(alloc, least, *kind, a.get(), low.get(), scope)?;
+            let above = compared(alloc, least, *kind, a.get(), low.get(), scope);
+            let (a, above) = beside(a, above)?;
             if is_false(above) {
-                return Ok(Truth::False);
+                return Ok(letting_go(a, Truth::False));
             }
             let most = CompareOp::LessEqual;
-            let below = compared(alloc, most, *kind, a.get(), high.get(), scope)?;
-            Ok(above.and(below))
+            let below = compared(alloc, most, *kind, a.get(), high.get(), scope);
+            Ok(above.and(letting_go(a, below)?))
         }
         BoundTest::InList(kind, a, sides) => {
             let a = operand(alloc, a.get(), scope)?;
-            in_sides(alloc, *kind, a.get(), sides.as_slice(), scope)
+            let truth = in_sides(alloc, *kind, a.get(), sides.as_slice(), scope);
+            letting_go(a, truth)
         }
         BoundTest::InQuery(kind, a, other, place) => {
             let a = operand(alloc, a.get(), scope)?;
-            in_rows(alloc, *kind, a.get(), *other, rows(scope.inner, *place))
+            let truth = in_rows(alloc, *kind, a.get(), *other, rows(scope.inner, *place));
+            letting_go(a, truth)
         }
     }
 }

@@ -9,7 +9,7 @@ use thiserror::Error;
 use value_types::{Memory, Units};
 
 /// Why an expression has no value.
-#[derive(Debug, Drop, PartialEq, Eq, Error)]
+#[derive(Debug, Drop, Error)]
 pub enum EvalFault {
     /// The error of this number.
     #[error("error {0}")]
@@ -28,7 +28,7 @@ pub enum EvalFault {
 }
 
 /// The same within an evaluation, in two words.
-#[derive(Clone, Copy, Debug, PartialEq, Eq)]
+#[derive(Clone, Copy)]
 pub(crate) enum Stop {
     /// The error of this number.
     Number(i32),

@@ -5,7 +5,7 @@ ghost use Rattle.std.specs.Vec.{vec_capacity};
 ghost use Rattle.std.specs.List.{All};
 ghost use Rattle.step_model.specs.Log.{State};
 ghost use Rattle.history_laws.specs.Knows.{Knows};
-ghost use Rattle.integrity_laws.specs.Sound.{Sound, Firm};
+ghost use Rattle.write_laws.specs.Sound.{Sound, Firm};
 ghost use Rattle.outside_io.specs.Bytes.{Takes};
 ghost use Rattle.session_server.specs.Conversation.{Completes, CountsFault};
 ghost use Rattle.seat_server.specs.Served.{ServedConnection};

@@ -8,7 +8,7 @@ use std::alloc::AllocFailed;
 use thiserror::Error;
 
 /// Why a call on a cursor is refused.
-#[derive(Clone, Copy, Debug, PartialEq, Eq, Error)]
+#[derive(Clone, Copy, Debug, Error)]
 pub enum CursorFault {
     /// There is no cursor of that name.
     #[error("there is no cursor of that name")]

@@ -52,10 +52,10 @@ fn tokens_of(
 ) -> Result<Vec<Token>, Memory>
     ensures { IfOk result (λ tokens. tokens.items ≡ result_tokens kind no_count columns rows.items) }
 {
-    let ended = statement_done(kind, no_count, COMMAND_SELECT, rows.len() as u64);
+    let count = rows.len() as u64;
     let mut tokens = vec![in alloc; Token::Columns(columns)]?;
     push_rows(&mut tokens, rows)?;
-    tokens.push(ended)?;
+    tokens.push(statement_done(kind, no_count, COMMAND_SELECT, count))?;
     Ok(tokens)
 }
 

@@ -1,6 +1,7 @@
 //! What a statement makes of the values of its expressions.
 
 ghost use Rattle.std.specs.Prelude.{◌≡◌, ◌≤ℤ◌, ◌++◌, ◌∷◌, get_or, slice_get, [], pos, Ok, IfOk, IsTrue};
+ghost use Rattle.value_types.specs.declared.value.Value.TheVariants.{Null};
 ghost use Rattle.convert_rules.specs.Types.{IsOf};
 ghost use Rattle.tsql_tree.specs.declared.statement.Form.{out-Form};
 ghost use Rattle.batch_meaning.specs.Selecting.{assigning_to, made_of, raised_by};
@@ -290,8 +291,7 @@ fn printed(
 ) -> Result<Boxed<Raised>, Failure>
     ensures { IsOrMemory (printed procedure line values.now) result }
 {
-    let null = Value::Null;
-    let text = text_in(alloc, value_at(values, 0, &null))?;
+    let text = text_at(alloc, values, 0)?;
     boxed(
         alloc,
         Raised {
@@ -315,10 +315,9 @@ fn raiserror_of(
 ) -> Result<Boxed<Raised>, Failure>
     ensures { IsOrMemory (raiserror_of procedure line values.now) result }
 {
-    let null = Value::Null;
-    let text = text_in(alloc, value_at(values, 0, &null))?;
-    let class = number_between(alloc, 0, 18, value_at(values, 1, &null))?;
-    let state = number_between(alloc, 0, 255, value_at(values, 2, &null))?;
+    let text = text_at(alloc, values, 0)?;
+    let class = number_at(alloc, 0, 18, values, 1)?;
+    let state = number_at(alloc, 0, 255, values, 2)?;
     boxed(
         alloc,
         Raised {
@@ -342,10 +341,9 @@ fn throw_of(
 ) -> Result<Boxed<Raised>, Failure>
     ensures { IsOrMemory (throw_of procedure line values.now) result }
 {
-    let null = Value::Null;
-    let number = number_between(alloc, 50_000, 2_147_483_647, value_at(values, 0, &null))?;
-    let text = text_in(alloc, value_at(values, 1, &null))?;
-    let state = number_between(alloc, 0, 255, value_at(values, 2, &null))?;
+    let number = number_at(alloc, 50_000, 2_147_483_647, values, 0)?;
+    let text = text_at(alloc, values, 1)?;
+    let state = number_at(alloc, 0, 255, values, 2)?;
     boxed(
         alloc,
         Raised {
@@ -379,6 +377,14 @@ fn narrowed(number: i64) -> i32
     number as i32
 }
 
+/// The value at a place as a text; where there is none it is NULL.
+fn text_at(alloc: Global, values: &[Value], at: usize) -> Result<Units, Failure>
+    ensures { IsOrMemory (text_in (get_or values.now at Null)) result }
+{
+    let null = Value::Null;
+    text_in(alloc, value_at(values, at, &null))
+}
+
 /// A value as a text, which is empty where it is NULL.
 fn text_in(alloc: Global, value: &Value) -> Result<Units, Failure>
     ensures { IsOrMemory (text_in value.now) result }
@@ -387,6 +393,21 @@ fn text_in(alloc: Global, value: &Value) -> Result<Units, Failure>
         Value::Text(units) => Ok(units),
         _ => Ok(Units::new(alloc)),
     }
+}
+
+/// The value at a place as a whole number between these; where there is none it is NULL.
+fn number_at(
+    alloc: Global,
+    least: i64,
+    most: i64,
+    values: &[Value],
+    at: usize,
+) -> Result<i64, Failure>
+    ensures came { IsOrMemory (number_between least most (get_or values.now at Null)) result }
+    ensures within { IfOk result (λ number. (least ≤ℤ number) × (number ≤ℤ most)) }
+{
+    let null = Value::Null;
+    number_between(alloc, least, most, value_at(values, at, &null))
 }
 
 /// A value as a whole number between these.

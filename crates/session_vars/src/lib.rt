@@ -19,7 +19,7 @@ use thiserror::Error;
 use value_types::{Memory, SqlType, Units, Value};
 
 /// A variable.
-#[derive(Debug, Drop)]
+#[derive(Drop)]
 pub struct Variable {
     /// Its name, with the `@`.
     pub name: Units,
@@ -30,7 +30,7 @@ pub struct Variable {
 }
 
 /// Why a variable is not declared.
-#[derive(Clone, Copy, Debug, PartialEq, Eq, Error)]
+#[derive(Clone, Copy, Debug, Error)]
 pub enum VarFault {
     /// There is one of that name.
     #[error("there is a variable of that name")]

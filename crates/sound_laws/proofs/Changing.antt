@@ -23,10 +23,11 @@ use Rattle.dml_exec.specs.declared.refusal.Level.TheVariants.{Serializable}
 use Rattle.dml_exec.specs.declared.refusal.Refusal.{Refusal}
 use Rattle.dml_exec.specs.Planning.{table_written}
 use Rattle.dml_exec.specs.Reading.{GivenRows, fetches_any, fits, images_of, none_given, reads_of}
-use Rattle.write_laws.specs.Laws.{HaveColumns, rows_before}
-use Rattle.write_laws.proofs.Images.{rows_read}
-use Rattle.reading_laws.specs.Reads.{AreImages, AskOnly, IsFetch, IsRead, KeysHave, at_place}
-use Rattle.reading_laws.proofs.Images.{images_fetch, images_read}
+use Rattle.write_laws.specs.Planning.{HaveColumns, rows_before}
+use Rattle.write_laws.proofs.TargetImages.{rows_read}
+use Rattle.statement_paths.specs.Asked.{AskOnly, IsFetch}
+use Rattle.write_laws.specs.Reads.{AreImages, IsRead, KeysHave, at_place}
+use Rattle.write_laws.proofs.Images.{images_fetch, images_read}
 use Rattle.batch_meaning.specs.declared.failure.Failure.{Failure}
 use Rattle.batch_meaning.specs.Raised.{Around, Fired}
 use Rattle.batch_meaning.specs.Asking.{applies, comes_to, fails, reads_at, reads_definitions, reads_images, touches_if, unless_stopped, with_room, ◌>>=◌, ◌gives◌}
@@ -43,13 +44,13 @@ use Rattle.statement_paths.proofs.Looking.{definitions_apart, definitions_read, 
 use Rattle.statement_paths.proofs.Only.{AnyStep, IsTouch, only_comes, only_if, only_room}
 use Rattle.statement_paths.proofs.Still.{Reads}
 use Rattle.statement_paths.proofs.Working.{at_level_reads, images_read as images_fetched}
-use Rattle.integrity_laws.specs.Laws.{AreDefinitions, IsNoTable}
-use Rattle.integrity_laws.specs.Plans.{IsDropPlanned, IsPlanned}
-use Rattle.integrity_laws.specs.Sound.{IsTableOf}
-use Rattle.integrity_laws.proofs.Drops.{firm_drop_planned}
-use Rattle.integrity_laws.proofs.Erased.{firm_erased}
-use Rattle.integrity_laws.proofs.Keys.{keys_sized}
-use Rattle.integrity_laws.proofs.Writes.{firm_planned, planned_readable}
+use Rattle.write_laws.specs.Keeping.{AreDefinitions, IsNoTable}
+use Rattle.write_laws.specs.Plans.{IsDropPlanned, IsPlanned}
+use Rattle.write_laws.specs.Sound.{IsTableOf}
+use Rattle.write_laws.proofs.Drops.{firm_drop_planned}
+use Rattle.write_laws.proofs.Erased.{firm_erased}
+use Rattle.write_laws.proofs.KeySizes.{keys_sized}
+use Rattle.write_laws.proofs.PlannedWrites.{firm_planned, planned_readable}
 use Rattle.sound_laws.specs.Stands.{Intact, Brings, Stands}
 use Rattle.sound_laws.specs.Tied.{Tied}
 use Rattle.sound_laws.proofs.Defined.{definitions_hold}

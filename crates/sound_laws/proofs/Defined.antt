@@ -18,14 +18,15 @@ use Rattle.catalog_rows.specs.Definitions.{objects_name}
 use Rattle.constraint_check.specs.Reads.{rows_table}
 use Rattle.dml_exec.specs.Reading.{behind_gone}
 use Rattle.batch_meaning.specs.Asking.{with_found}
-use Rattle.reading_laws.specs.Reads.{AskOnly, FindsBy, HoldsIt, KeysHave, Walks, at_place}
-use Rattle.reading_laws.proofs.Walks.{walk_read}
+use Rattle.statement_paths.specs.Asked.{AskOnly}
+use Rattle.write_laws.specs.Reads.{FindsBy, HoldsIt, KeysHave, Walks, at_place}
+use Rattle.write_laws.proofs.Walks.{walk_read}
 use Rattle.statement_paths.specs.Paths.{AddsBy, AreDefined}
-use Rattle.integrity_laws.specs.Found.{Entry, ReadAs}
-use Rattle.integrity_laws.specs.Laws.{AreDefinitions}
-use Rattle.integrity_laws.specs.Sound.{Firm}
-use Rattle.integrity_laws.proofs.Found.{found_definitions}
-use Rattle.integrity_laws.proofs.Keys.{keys_sized}
+use Rattle.write_laws.specs.Found.{Entry, ReadAs}
+use Rattle.write_laws.specs.Keeping.{AreDefinitions}
+use Rattle.write_laws.specs.Sound.{Firm}
+use Rattle.write_laws.proofs.Found.{found_definitions}
+use Rattle.write_laws.proofs.KeySizes.{keys_sized}
 use Rattle.sound_laws.proofs.Here.{hold_fetches}
 use Rattle.sound_laws.proofs.Trees.{front_place}
 

@@ -11,7 +11,7 @@ use Rattle.catalog_rows.specs.Definitions.{defined_name, is_objects}
 use Rattle.step_model.specs.Database.{Database}
 use Rattle.step_model.specs.Exchange.{Exchange}
 use Rattle.step_model.specs.Log.{Commit as Logged}
-use Rattle.reading_laws.specs.Reads.{at_place}
+use Rattle.write_laws.specs.Reads.{at_place}
 use Rattle.batch_meaning.specs.declared.failure.Failure.{Failure}
 use Rattle.batch_meaning.specs.Asking.{fails, fails_naming, look_up, ◌>>=◌}
 use Rattle.batch_meaning.specs.Changing.{object_present, unknown_table}
@@ -20,9 +20,9 @@ use Rattle.batch_meaning.specs.Selecting.{Effect, not_bound_so}
 use Rattle.batch_meaning.specs.Values.{outside_limits}
 use Rattle.batch_meaning.specs.Working.{own}
 use Rattle.batch_meaning.specs.Writes.{creates, creates_definition, is_odd_list, puts_definition, where_table}
-use Rattle.integrity_laws.specs.Laws.{CanBeDefined}
-use Rattle.integrity_laws.specs.Sound.{HasTable}
-use Rattle.integrity_laws.proofs.Puts.{firm_put}
+use Rattle.write_laws.specs.Keeping.{CanBeDefined}
+use Rattle.write_laws.specs.Sound.{HasTable}
+use Rattle.write_laws.proofs.Puts.{firm_put}
 use Rattle.statement_paths.proofs.Only.{AnyStep, only_naming}
 use Rattle.text_laws.specs.Laws.{KeepsDefinition}
 use Rattle.text_laws.specs.Placeless.{AreLike}

@@ -8,7 +8,8 @@ use Rattle.step_model.specs.declared.reply.Reply.TheVariants as replies
 use Rattle.step_model.specs.Exchange.{Exchange}
 use Rattle.step_model.specs.Fits.{NoneEnds, is_ended, place_of, place_or}
 use Rattle.constraint_check.proofs.Lists.{all_more}
-use Rattle.reading_laws.specs.Reads.{AskOnly, HoldsIt, IsFetch}
+use Rattle.statement_paths.specs.Asked.{AskOnly, IsFetch}
+use Rattle.write_laws.specs.Reads.{HoldsIt}
 
 not_ended : (reply : Reply) (behind : ℕ) → is_ended reply ≡ false → place_or reply behind ≡ behind
 not_ended (replies.Ended place) behind is = absurd (let no : true ≡ false = is in cc)

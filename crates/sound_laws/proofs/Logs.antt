@@ -1,8 +1,8 @@
 -- Where each commit is one of a batch, each database of the log is intact; and so it is sound.
 use Rattle.std.proofs.Common.{◌≡◌, ℕ, zero, suc, ◌+◌, ◌-◌, ◌≤◌, ◌<◌, List, length, take, subst, arith}
 use Rattle.step_model.specs.Log.{Commit as Logged, State}
-use Rattle.integrity_laws.proofs.Empty.{firm_empty}
-use Rattle.integrity_laws.proofs.Whole.{firm_sound}
+use Rattle.write_laws.proofs.Empty.{firm_empty}
+use Rattle.write_laws.proofs.Whole.{firm_sound}
 use Rattle.sound_laws.specs.Laws.{IntactSound, IsOfBatch, LogSound, WholeLogSound}
 use Rattle.sound_laws.specs.Stands.{Intact}
 use Rattle.sound_laws.proofs.Serving.{served_keep}

@@ -13,10 +13,11 @@ use Rattle.step_model.specs.Fits.{AnswersIn}
 use Rattle.catalog_rows.specs.Definitions.{defined_name, is_objects, tables_of}
 use Rattle.batch_meaning.specs.Asking.{KnownNames, definition_fetch, with_found}
 use Rattle.write_laws.proofs.Changes.{all_both}
-use Rattle.reading_laws.specs.Reads.{AskOnly, HoldsIt}
+use Rattle.statement_paths.specs.Asked.{AskOnly}
+use Rattle.write_laws.specs.Reads.{HoldsIt}
 use Rattle.statement_paths.specs.Paths.{AreLookedUp, IsFound, IsFoundBy, IsLookedUp}
-use Rattle.integrity_laws.specs.Sound.{IsDefined, Firm}
-use Rattle.integrity_laws.proofs.Found.{found_defined}
+use Rattle.write_laws.specs.Sound.{IsDefined, Firm}
+use Rattle.write_laws.proofs.Found.{found_defined}
 
 abbrev pub DefinedIn : Database → Definition → Type 0
 DefinedIn db definition = IsDefined db (defined_name definition) definition

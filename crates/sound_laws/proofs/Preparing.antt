@@ -12,8 +12,8 @@ use Rattle.step_model.specs.declared.manner.Manner.{Manner}
 use Rattle.step_model.specs.Database.{Database}
 use Rattle.step_model.specs.Exchange.{Exchange}
 use Rattle.step_model.specs.Log.{Commit as Logged}
-use Rattle.reading_laws.specs.Reads.{at_place}
-use Rattle.reading_laws.proofs.Parts.{answers}
+use Rattle.write_laws.specs.Reads.{at_place}
+use Rattle.write_laws.proofs.Parts.{answers}
 use Rattle.batch_meaning.specs.declared.failure.Failure.{Failure}
 use Rattle.batch_meaning.specs.Asking.{KnownNames, comes_to, finds_by, is_table, looks_up, with_found, ◌>>=◌}
 use Rattle.batch_meaning.specs.Doing.{Doing, reads, Held}
@@ -26,7 +26,7 @@ use Rattle.statement_paths.proofs.Apart.{bind_apart, comes_apart}
 use Rattle.statement_paths.proofs.Looking.{finds_apart, finds_read, looks_apart, looks_read, ok_same}
 use Rattle.statement_paths.proofs.Only.{IsTouch, only_bind, only_comes}
 use Rattle.statement_paths.proofs.Still.{Reads}
-use Rattle.reading_laws.specs.Reads.{IsFetch}
+use Rattle.statement_paths.specs.Asked.{IsFetch}
 use Rattle.sound_laws.specs.Stands.{Intact, Brings, Stands}
 use Rattle.sound_laws.specs.Tied.{Tied}
 use Rattle.sound_laws.proofs.Here.{hold_fetches}

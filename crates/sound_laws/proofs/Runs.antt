@@ -13,10 +13,10 @@ use Rattle.step_model.specs.Runs.{Asked, Run, mine_of, opening}
 use Rattle.step_model.specs.State.{Engine}
 use Rattle.constraint_check.specs.Laws.{behind}
 use Rattle.history_laws.proofs.Laws.{law_runs}
-use Rattle.reading_laws.specs.Laws.{HasCommit}
-use Rattle.reading_laws.proofs.Commits.{commit_leaves}
-use Rattle.reading_laws.proofs.States.{every_state}
-use Rattle.integrity_laws.proofs.Empty.{firm_empty}
+use Rattle.write_laws.specs.Reading.{HasCommit}
+use Rattle.write_laws.proofs.Commits.{commit_leaves}
+use Rattle.write_laws.proofs.States.{every_state}
+use Rattle.write_laws.proofs.Empty.{firm_empty}
 use Rattle.sound_laws.specs.Runs.{RunSound, ServeBatches}
 use Rattle.sound_laws.specs.Stands.{Intact}
 use Rattle.sound_laws.specs.Tied.{Tied}

@@ -13,7 +13,7 @@ use Rattle.batch_meaning.specs.Asking.{where_ended}
 use Rattle.batch_meaning.specs.Doing.{Doing, Held, asks, over}
 use Rattle.batch_meaning.specs.Meaning.{batch, rolls_back_open}
 use Rattle.batch_meaning.specs.Progress.{SessionProgress, asked}
-use Rattle.reading_laws.proofs.Parts.{from_both}
+use Rattle.write_laws.proofs.Parts.{from_both}
 use Rattle.statement_paths.proofs.Only.{AnyStep, NoCommit, Only, held_asks, only_if}
 use Rattle.sound_laws.specs.Laws.{BatchAgrees, ShutStands}
 use Rattle.sound_laws.specs.Runs.{AreDone, AreServed, IsCut, IsServed, IsWhole}

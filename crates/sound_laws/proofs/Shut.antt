@@ -6,7 +6,7 @@ use Rattle.step_model.specs.declared.reply.Reply.{Reply}
 use Rattle.step_model.specs.declared.reply.Reply.TheVariants as replies
 use Rattle.step_model.specs.Exchange.{Exchange, MayCome}
 use Rattle.step_model.specs.Own.{Progress, none_open, progress_after, progress_from, progress_of, standing_at}
-use Rattle.reading_laws.proofs.Parts.{from_both}
+use Rattle.write_laws.proofs.Parts.{from_both}
 use Rattle.batch_meaning.specs.Doing.{Doing, over, reads, makes, defines, asks, room, never, Held, Left}
 use Rattle.batch_meaning.specs.Progress.{SessionProgress, SessionStep, begins, counts, touches, sends, tells_rows, tells_error, assigns, sets, opens, closes_one, saves, dooms, declares, fills, fetches, shuts, removes, tells_fetch, asked, is_open_after, made, stands_with, fires_from, fired_from}
 use Rattle.sound_laws.specs.Tied.{may_come}

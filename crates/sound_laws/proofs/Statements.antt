@@ -41,12 +41,13 @@ use Rattle.batch_meaning.specs.Working.{answers, asks_any, assigns_rows, binds, 
 use Rattle.batch_meaning.specs.Writes.{Written, change_bound, changes, creates, creates_table, drops, drops_definition, drops_found, drops_table, unless_objects}
 use Rattle.statement_paths.proofs.Only.{AnyStep, IsTouch, only_bind, only_comes, only_if, only_naming, only_room, only_then}
 use Rattle.statement_paths.proofs.Working.{images_read as images_fetched}
-use Rattle.reading_laws.specs.Reads.{IsFetch, at_place}
-use Rattle.integrity_laws.specs.Sound.{IsTableOf}
-use Rattle.integrity_laws.proofs.Bound.{bound_stands}
-use Rattle.integrity_laws.specs.Laws.{IsNoTable}
-use Rattle.integrity_laws.proofs.Created.{firm_created}
-use Rattle.integrity_laws.proofs.Erased.{no_table}
+use Rattle.statement_paths.specs.Asked.{IsFetch}
+use Rattle.write_laws.specs.Reads.{at_place}
+use Rattle.write_laws.specs.Sound.{IsTableOf}
+use Rattle.write_laws.proofs.Bound.{bound_stands}
+use Rattle.write_laws.specs.Keeping.{IsNoTable}
+use Rattle.write_laws.proofs.Created.{firm_created}
+use Rattle.write_laws.proofs.Erased.{no_table}
 use Rattle.sound_laws.specs.Stands.{Carries, Intact, Keeps, Brings, Stands, base_of}
 use Rattle.text_laws.specs.Laws.{ReadsBackAs}
 use Rattle.sound_laws.specs.Tied.{Tied}

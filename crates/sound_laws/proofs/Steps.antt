@@ -14,8 +14,8 @@ use Rattle.step_model.specs.Log.{Commit as Logged, State}
 use Rattle.step_model.specs.Own.{MarkedAt, Progress, none_open, own_at, progress_after, progress_of, standing_at}
 use Rattle.constraint_check.specs.Laws.{behind}
 use Rattle.write_laws.proofs.Changes.{all_both}
-use Rattle.reading_laws.proofs.Commits.{commit_leaves}
-use Rattle.reading_laws.proofs.Parts.{from_both}
+use Rattle.write_laws.proofs.Commits.{commit_leaves}
+use Rattle.write_laws.proofs.Parts.{from_both}
 use Rattle.sound_laws.specs.Stands.{Intact, Keeps, Stands, StandsAt, base_of}
 use Rattle.sound_laws.specs.Tied.{Tied}
 

@@ -39,8 +39,8 @@ use Rattle.dml_exec.specs.Reading.{deleted_name, inserted_name}
 use Rattle.step_model.specs.Database.{Database}
 use Rattle.step_model.specs.Ranges.{Rows}
 use Rattle.write_laws.proofs.Planned.{shape_named}
-use Rattle.integrity_laws.specs.Sound.{IsTableOf}
-use Rattle.integrity_laws.proofs.Written.{of_found}
+use Rattle.write_laws.specs.Sound.{IsTableOf}
+use Rattle.write_laws.proofs.Written.{of_found}
 use Rattle.batch_meaning.specs.Raised.{Around, Fired}
 use Rattle.batch_meaning.specs.Selecting.{bound_as, bound_over}
 use Rattle.batch_meaning.specs.Working.{given_in, is_of_trigger, is_read_by, known_by, known_in, table_called}

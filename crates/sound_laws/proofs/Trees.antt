@@ -10,8 +10,9 @@ use Rattle.step_model.specs.Exchange.{Exchange}
 use Rattle.step_model.specs.Fits.{place_of}
 use Rattle.step_model.specs.Log.{Commit as Logged, State}
 use Rattle.step_model.specs.Own.{change_of, progress_of}
-use Rattle.reading_laws.specs.Reads.{AskOnly, IsFetch, at_place}
-use Rattle.reading_laws.proofs.Parts.{fetches_leave}
+use Rattle.statement_paths.specs.Asked.{AskOnly, IsFetch}
+use Rattle.write_laws.specs.Reads.{at_place}
+use Rattle.write_laws.proofs.Parts.{fetches_leave}
 use Rattle.batch_meaning.specs.declared.failure.Failure.{Failure}
 use Rattle.batch_meaning.specs.Asking.{assigns_all, unless_refused, ◌>>=◌}
 use Rattle.batch_meaning.specs.Doing.{Doing, over, reads, makes, defines, asks, room, never, Held}

@@ -26,11 +26,12 @@ use Rattle.dml_exec.specs.declared.written.Written.{Written}
 use Rattle.dml_exec.specs.declared.written.Written.TheVariants as written
 use Rattle.dml_exec.specs.Asking.{with_room}
 use Rattle.dml_exec.specs.Writing.{asks_deed, attempts, checks_all, done_by, ends, marked, no_room, outcome, present, told, where_done, works, writes, writes_all, writes_one}
-use Rattle.reading_laws.specs.Reads.{AskOnly, HaveParents, HoldsIt, RowsFit, at_place}
-use Rattle.reading_laws.proofs.Checks.{all_fetches}
-use Rattle.reading_laws.proofs.Dialogs.{held_both}
-use Rattle.reading_laws.proofs.Parts.{AsksOnly, all_asked, asks_more, asks_ok, asks_room, asks_then}
-use Rattle.reading_laws.proofs.Writes.{writes_leave, writes_pass}
+use Rattle.statement_paths.specs.Asked.{AskOnly}
+use Rattle.write_laws.specs.Reads.{HaveParents, HoldsIt, RowsFit, at_place}
+use Rattle.write_laws.proofs.Checks.{all_fetches}
+use Rattle.write_laws.proofs.Dialogs.{held_both}
+use Rattle.write_laws.proofs.Parts.{AsksOnly, all_asked, asks_more, asks_ok, asks_room, asks_then}
+use Rattle.write_laws.proofs.Writes.{writes_leave, writes_pass}
 use Rattle.batch_meaning.specs.declared.failure.Failure.{Failure}
 use Rattle.batch_meaning.specs.Asking.{applies, unless_broken}
 use Rattle.batch_meaning.specs.Doing.{Held}

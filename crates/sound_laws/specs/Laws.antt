@@ -14,7 +14,7 @@ use Rattle.batch_meaning.specs.Meaning.{batch, mean_of, rolls_back_open}
 use Rattle.batch_meaning.specs.Doing.{Held, Left}
 use Rattle.batch_meaning.specs.Progress.{SessionProgress}
 use Rattle.batch_meaning.specs.Raised.{Around}
-use Rattle.integrity_laws.specs.Sound.{Sound}
+use Rattle.write_laws.specs.Sound.{Sound}
 use Rattle.sound_laws.specs.Stands.{Carries, Intact, Stands}
 use Rattle.text_laws.specs.Laws.{Everywhere, ReadsBack, TextReadsBack}
 use Rattle.sound_laws.specs.Tied.{Tied}

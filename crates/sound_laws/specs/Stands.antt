@@ -14,7 +14,7 @@ use Rattle.step_model.specs.Own.{Progress, progress_of}
 use Rattle.constraint_check.specs.Laws.{behind}
 use Rattle.batch_meaning.specs.Doing.{Doing, Held, Left}
 use Rattle.batch_meaning.specs.Progress.{SessionProgress}
-use Rattle.integrity_laws.specs.Sound.{Firm}
+use Rattle.write_laws.specs.Sound.{Firm}
 use Rattle.sound_laws.specs.Tied.{Tied}
 
 -- ---- a database

@@ -1,5 +1,5 @@
 //! Laws of soundness: what a statement or a batch asks, with the procedures and triggers that it runs, keeps what stands in its
-//! transaction, and each commit that it asks keeps its database firm (`integrity_laws`), and so sound; and so is each database that
+//! transaction, and each commit that it asks keeps its database firm (`write_laws`), and so sound; and so is each database that
 //! the commits of the log leave.
 //!
 //! Read `specs/Tied.antt` first: what is asked of the exchanges of a session, and of its statements; then `specs/Stands.antt`:

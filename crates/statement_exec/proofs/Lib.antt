@@ -1,3 +1,4 @@
+pub mod AtHome
 pub mod Beginning
 pub mod BoundFirst
 pub mod Changes

@@ -48,16 +48,21 @@ pub does_on : {past after : PortPast} {A B : Type 0} (meant : Result A Failure) 
     → IsOrMemory meant (Ok a) → Did past after (go a) p result new → Did past after (with_room (over meant) >>= go) p result new
 does_on meant go is does = does_then (with_room (over meant)) (on_ok go) (does_result meant _ is) does
 
--- two things that are made at once, each by itself
-pub left_of : {A B : Type 0} (meant : A × B) (made : A × B) → IsOrMemory (Ok meant) (Ok made) → made.0 ≡ meant.0
-left_of {A = A} {B = B} meant made (inl same) = ap (λ (r : A × B). r.0) (let is : made ≡ meant = cc in is)
-left_of meant made (inr none) = absurd cc
+-- three things that are made at once, each by itself
+pub first_of : {A B C : Type 0} (a : A) (b : B) (c : C) (made : A × B × C) → IsOrMemory (Ok (a, b, c)) (Ok made) → made.0 ≡ a
+first_of {A = A} {B = B} {C = C} a b c made (inl same) = ap (λ (r : A × B × C). r.0) (let is : made ≡ (a, b, c) = cc in is)
+first_of a b c made (inr none) = absurd cc
 
-pub right_of : {A B : Type 0} (a : A) (b : B) (made : A × B) → IsOrMemory (Ok (a, b)) (Ok made) → IsOrMemory (Ok b) (Ok made.1)
-right_of {A = A} {B = B} a b made (inl same) = inl (let is : made ≡ (a, b) = cc in ap (λ (r : A × B). Ok r.1) is)
-right_of a b made (inr none) = absurd cc
+pub second_of : {A B C : Type 0} (a : A) (b : B) (c : C) (made : A × B × C) → IsOrMemory (Ok (a, b, c)) (Ok made) → IsOrMemory (Ok b) (Ok made.1)
+second_of {A = A} {B = B} {C = C} a b c made (inl same) = inl (let is : made ≡ (a, b, c) = cc in ap (λ (r : A × B × C). Ok r.1) is)
+second_of a b c made (inr none) = absurd cc
 
-pub wanting_of : {A B : Type 0} (a : A) (b : B) (failure : Failure) → IsOrMemory {A = A × B} (Ok (a, b)) (Err failure) → IsOrMemory {A = B} (Ok b) (Err failure)
+pub third_of : {A B C : Type 0} (a : A) (b : B) (c : C) (made : A × B × C) → IsOrMemory (Ok (a, b, c)) (Ok made) → IsOrMemory (Ok c) (Ok made.2)
+third_of {A = A} {B = B} {C = C} a b c made (inl same) = inl (let is : made ≡ (a, b, c) = cc in ap (λ (r : A × B × C). Ok r.2) is)
+third_of a b c made (inr none) = absurd cc
+
+-- where memory was wanting for one thing, it was for another
+pub wanting_of : {A B : Type 0} (a : A) (b : B) (failure : Failure) → IsOrMemory {A = A} (Ok a) (Err failure) → IsOrMemory {A = B} (Ok b) (Err failure)
 wanting_of a b failure (inl same) = absurd cc
 wanting_of a b failure (inr none) = inr (let is : failure ≡ plain no_memory = cc in ap Err is)
 

@@ -11,8 +11,11 @@ ghost use Rattle.batch_meaning.specs.Raised.{Around as Stands};
 ghost use Rattle.batch_meaning.specs.Meaning.{Meaning, writes, writes_in, written_with};
 ghost use Rattle.batch_meaning.specs.Progress.{Ready};
 ghost use Rattle.batch_meaning.specs.Working.{asks_any, binds, enters, given_in, known_by};
-ghost use Rattle.batch_meaning.specs.Writes.{change_bound, changes};
-ghost use Rattle.statement_exec.specs.Changed.{HasWritten, MayFire, effect_in};
+ghost use Rattle.batch_meaning.specs.Writes.{change_bound, changes, fired_by, fires_of, shape_or};
+ghost use Rattle.catalog_rows.specs.Definitions.{tables_of};
+ghost use Rattle.constraint_check.specs.Reads.{shape_of};
+ghost use Rattle.dml_exec.specs.Planning.{table_written};
+ghost use Rattle.statement_exec.specs.Changed.{HasWritten, MayFire, changes_planned, changes_read, effect_in};
 ghost use Rattle.statement_exec.specs.Selected.{IsLive, asks_bound};
 ghost use Rattle.session_state.specs.Parts.{IsOrMemory};
 
@@ -38,8 +41,8 @@ use std::alloc::Global;
 use std::marker::Model;
 use step_model::{Planned, Port};
 use tds_tokens::{COMMAND_DELETE, COMMAND_INSERT, COMMAND_UPDATE, DoneKind};
-use tsql_tree::{Event, Statement, TableTree, TriggerTree};
-use value_types::Units;
+use tsql_tree::{Definition, Event, Statement, TableTree, TriggerTree};
+use value_types::{Units, beside};
 
 /// What a write has done: what it tells, its statement's mark, the triggers that it fires, in the order of their names,
 /// and what they see.
@@ -234,13 +237,46 @@ fn change_rows<P: Port>(
     let level = session.settings().level;
     let given = around.fired();
     let images = read(alloc, session, port, given, level, shapes.as_slice(), of)?;
+    let read = Read {
+        definitions,
+        shapes,
+        images,
+    };
+    change_read(alloc, session, port, around, read, write)
+}
+
+/// What a write has read: all definitions, and the shapes and rows of the tables that it names.
+#[derive(Drop)]
+struct Read {
+    definitions: Vec<Definition>,
+    shapes: Items<TableTree>,
+    images: Items<Image>,
+}
+
+/// Plans what a write changes by what it has read, and asks that where it can be told.
+fn change_read<P: Port>(
+    alloc: Global,
+    session: &mut SessionState,
+    port: &mut P,
+    around: &Around<'_, '_>,
+    read: Read,
+    write: &BoundWrite,
+) -> Result<Written, Failure>
+    requires ready { Ready session.old (P.past port.old) }
+    requires begun { session.old.is_open ≡ true }
+    ensures does { (shape : Shape) (others : List Shape) → read.shapes ≡ shape ∷ others → Did (P.past port.old) (P.past port.new) (changes_read around.now shape others write.now read.definitions.items read.images) session.old (Ok result) session.new }
+    ensures ready { Ready session.new (P.past port.new) }
+    ensures begun { session.new.is_open ≡ true }
+    ensures live { IfOk result (λ written. IsLive written.mark (P.past port.new)) }
+    ensures none { IfOk result (λ written. written.effect.sets ≡ []) }
+{
     let planned = plan(
         alloc,
         session,
         around,
-        shapes.as_slice(),
+        read.shapes.as_slice(),
         write,
-        images.as_slice(),
+        read.images.as_slice(),
     )?;
     let effect = told(
         alloc,
@@ -250,15 +286,60 @@ fn change_rows<P: Port>(
         planned.as_slice(),
     )?;
     let fitting = if_it_fits(session, effect)?;
-    let (tables, fires) = fired_among(alloc, around, definitions, write)?;
-    let fired = seen_by_triggers(alloc, shapes, images, planned.as_slice(), write)?;
-    let mark = apply(alloc, session, port, tables.as_slice(), planned.as_slice())?;
+    change_planned(alloc, session, port, around, read, planned, fitting, write)
+}
+
+/// Asks what a write has planned; what its triggers see is there before.
+fn change_planned<P: Port>(
+    alloc: Global,
+    session: &mut SessionState,
+    port: &mut P,
+    around: &Around<'_, '_>,
+    read: Read,
+    planned: Items<Planned>,
+    effect: Effect,
+    write: &BoundWrite,
+) -> Result<Written, Failure>
+    requires ready { Ready session.old (P.past port.old) }
+    requires begun { session.old.is_open ≡ true }
+    requires none { effect.sets ≡ [] }
+    ensures does { (shape : Shape) (others : List Shape) → read.shapes ≡ shape ∷ others → Did (P.past port.old) (P.past port.new) (changes_planned around.now shape others write.now read.definitions.items read.images planned effect) session.old (Ok result) session.new }
+    ensures ready { Ready session.new (P.past port.new) }
+    ensures begun { session.new.is_open ≡ true }
+    ensures live { IfOk result (λ written. IsLive written.mark (P.past port.new)) }
+    ensures none { IfOk result (λ written. written.effect.sets ≡ []) }
+{
+    let came = fired_by_write(alloc, around, read, planned.as_slice(), write);
+    let (told, (tables, fires, seen)) = beside(effect, came)?;
+    let marked = apply(alloc, session, port, tables.as_slice(), planned.as_slice());
+    let (parts, mark) = beside((told, seen), marked)?;
+    let (effect, fired) = parts;
     Ok(Written {
-        effect: fitting,
+        effect,
         mark,
         fires,
         fired,
     })
+}
+
+/// All tables, the triggers that a write fires, and what they see.
+fn fired_by_write(
+    alloc: Global,
+    around: &Around<'_, '_>,
+    read: Read,
+    planned: &[Planned],
+    write: &BoundWrite,
+) -> Result<(Items<TableTree>, Items<TriggerTree>, Fired), Failure>
+    ensures { (first : Shape) → IsOrMemory (Ok (tables_of read.definitions.items, fires_of around.now read.definitions.items write.now, fired_by (shape_or first (shape_of (table_written write.now) read.shapes)) write.now read.images planned.now)) result }
+{
+    let Read {
+        definitions,
+        shapes,
+        images,
+    } = read;
+    let (tables, fires) = fired_among(alloc, around, definitions, write)?;
+    let fired = seen_by_triggers(alloc, shapes, images, planned, write)?;
+    Ok((tables, fires, fired))
 }
 
 /// The event that a write is.

@@ -1,7 +1,6 @@
 //! The statements on cursors.
 
 ghost use Rattle.std.specs.Prelude.{◌≡◌, [], map, true, All, Ok, IfOk, Some};
-ghost use Rattle.binder.specs.Names.{looked_up};
 ghost use Rattle.bound_tree.specs.declared.write.Bound.TheVariants.{Query};
 ghost use Rattle.session_cursors.specs.Answers.{HasKinds};
 ghost use Rattle.session_cursors.specs.Cursors as list;
@@ -10,18 +9,16 @@ ghost use Rattle.batch_meaning.specs.Cursors.{assigns_row, closes_cursor, declar
 ghost use Rattle.batch_meaning.specs.Doing.{Did, makes, over};
 ghost use Rattle.batch_meaning.specs.Progress.{Ready, fills};
 ghost use Rattle.batch_meaning.specs.Selecting.{no_effect};
-ghost use Rattle.batch_meaning.specs.Working.{asks_any, binds, given_in, known_by, own, within};
+ghost use Rattle.batch_meaning.specs.Working.{given_in, within};
 ghost use Rattle.statement_exec.specs.Selected.{IsBoundOver, IsSelect, asks_bound};
 ghost use Rattle.statement_exec.specs.CursorAnswers.{IsCounted, IsKept, IsRefused};
 ghost use Rattle.session_state.specs.Parts.{SetsFit, Stepped};
 
 use crate::discard::discard;
-use crate::home::{enter, leave};
-use crate::known::asks_any;
-use crate::prepare::{bind_first, prepare};
+use crate::home::leave;
+use crate::prepare::{bind_first, prepare_home};
 use crate::query::answer;
 use batch_meaning::Failure;
-use binder::names_of;
 use bound_tree::{Bound, BoundQuery, Item};
 use session_cursors::CursorFault;
 use session_state::{
@@ -156,55 +153,7 @@ fn fill<P: Port>(
     ensures ready { Ready session.new (P.past port.new) }
     ensures none { IfOk result (λ effect. effect.sets ≡ []) }
 {
-    match names_of(alloc, select) {
-        Ok(names) => fill_named(alloc, session, port, select, names.as_slice(), name, around),
-        Err(_) => Err(no_memory()),
-    }
-}
-
-/// The same of one that looks these names up.
-fn fill_named<P: Port>(
-    alloc: Global,
-    session: &mut SessionState,
-    port: &mut P,
-    select: &Statement,
-    names: &[Units],
-    name: &Units,
-    around: &Around<'_, '_>,
-) -> Result<Effect, Failure>
-    requires ready { Ready session.old (P.past port.old) }
-    requires select { IsSelect select.now }
-    requires names { names.now ≡ looked_up select.now }
-    ensures does { Did (P.past port.old) (P.past port.new) (own (asks_any (known_by around.now select.now) names.now) (binds around.now select.now (opens_bound around.now name.now))) session.old (Ok result) session.new }
-    ensures ready { Ready session.new (P.past port.new) }
-    ensures none { IfOk result (λ effect. effect.sets ≡ []) }
-{
-    let home = enter(session, port, asks_any(around, &select.form, names))?;
-    let came = fill_in(alloc, session, port, select, names, name, around);
-    leave(session, port, home, came.is_ok());
-    came
-}
-
-/// The same within its transaction.
-fn fill_in<P: Port>(
-    alloc: Global,
-    session: &mut SessionState,
-    port: &mut P,
-    select: &Statement,
-    names: &[Units],
-    name: &Units,
-    around: &Around<'_, '_>,
-) -> Result<Effect, Failure>
-    requires ready { Ready session.old (P.past port.old) }
-    requires begun { asks_any (known_by around.now select.now) names.now ≡ true → session.old.is_open ≡ true }
-    requires select { IsSelect select.now }
-    requires names { names.now ≡ looked_up select.now }
-    ensures does { Did (P.past port.old) (P.past port.new) (binds around.now select.now (opens_bound around.now name.now)) session.old (Ok result) session.new }
-    ensures ready { Ready session.new (P.past port.new) }
-    ensures kept { session.new.is_open ≡ session.old.is_open }
-    ensures none { IfOk result (λ effect. effect.sets ≡ []) }
-{
-    let (shapes, of) = prepare(alloc, session, port, around, select, names)?;
+    let (home, (shapes, of)) = prepare_home(alloc, session, port, around, select)?;
     let came = fill_bound(
         alloc,
         session,
@@ -216,6 +165,7 @@ fn fill_in<P: Port>(
         around,
     );
     discard(of);
+    leave(session, port, home, came.is_ok());
     came
 }
 

@@ -6,15 +6,19 @@ ghost use Rattle.catalog_rows.specs.Definitions.{tables_of as tables_defined};
 ghost use Rattle.batch_meaning.specs.Doing.{Did};
 ghost use Rattle.batch_meaning.specs.Progress.{Ready};
 ghost use Rattle.batch_meaning.specs.Selecting.{bound_over};
+ghost use Rattle.batch_meaning.specs.declared.home.Home.TheVariants.{Nowhere};
 ghost use Rattle.batch_meaning.specs.Working.{asks_any, given_in, known_by, prepares};
 ghost use Rattle.statement_exec.specs.Selected.{IsBoundFirst, IsBoundOver, asks_bound};
+ghost use Rattle.statement_exec.specs.Prepared.{prepares_home, prepares_named};
 ghost use Rattle.session_state.specs.Parts.{IsOrMemory};
 
 use crate::dialogs::fetches;
 use crate::discard::discard;
+use crate::home::{enter, leave};
+use crate::known::asks_any;
 use crate::look_up::look_up_all;
-use batch_meaning::Failure;
-use binder::bind;
+use batch_meaning::{Failure, Home};
+use binder::{bind, names_of};
 use bound_tree::Bound;
 use catalog_rows::tables_of;
 use session_state::{Around, Fired, SessionState, no_memory, unbound_by};
@@ -24,6 +28,56 @@ use std::alloc::Global;
 use step_model::Port;
 use tsql_tree::{Definition, Statement, TableTree};
 use value_types::Units;
+
+/// Where a statement works, the tables that it names, and what it is bound to over them. Where it is not bound, its
+/// own transaction has ended.
+#[inline(never)]
+pub(crate) fn prepare_home<P: Port>(
+    alloc: Global,
+    session: &mut SessionState,
+    port: &mut P,
+    around: &Around<'_, '_>,
+    statement: &Statement,
+) -> Result<(Home, (Items<TableTree>, Bound)), Failure>
+    requires ready { Ready session.old (P.past port.old) }
+    ensures does { Did (P.past port.old) (P.past port.new) (prepares_home around.now statement.now) session.old (Ok result) session.new }
+    ensures ready { Ready session.new (P.past port.new) }
+    ensures home { IfOk result (λ made. (made.0 ≡ Nowhere → ⊥) → session.new.is_open ≡ true) }
+    ensures begun { IfOk result (λ made. asks_bound (given_in around.now.fired) made.1.1 ≡ true → session.new.is_open ≡ true) }
+    ensures bound { IfOk result (λ made. IsBoundOver made.1.0 session.new.vars statement.now made.1.1) }
+{
+    match names_of(alloc, statement) {
+        Ok(names) => prepare_named(alloc, session, port, around, statement, names.as_slice()),
+        Err(_) => Err(no_memory()),
+    }
+}
+
+/// The same of one that looks these names up.
+fn prepare_named<P: Port>(
+    alloc: Global,
+    session: &mut SessionState,
+    port: &mut P,
+    around: &Around<'_, '_>,
+    statement: &Statement,
+    names: &[Units],
+) -> Result<(Home, (Items<TableTree>, Bound)), Failure>
+    requires ready { Ready session.old (P.past port.old) }
+    requires names { names.now ≡ looked_up statement.now }
+    ensures does { Did (P.past port.old) (P.past port.new) (prepares_named around.now statement.now names.now) session.old (Ok result) session.new }
+    ensures ready { Ready session.new (P.past port.new) }
+    ensures home { IfOk result (λ made. (made.0 ≡ Nowhere → ⊥) → session.new.is_open ≡ true) }
+    ensures begun { IfOk result (λ made. asks_bound (given_in around.now.fired) made.1.1 ≡ true → session.new.is_open ≡ true) }
+    ensures bound { IfOk result (λ made. IsBoundOver made.1.0 session.new.vars statement.now made.1.1) }
+{
+    let home = enter(session, port, asks_any(around, &statement.form, names))?;
+    match prepare(alloc, session, port, around, statement, names) {
+        Ok(made) => Ok((home, made)),
+        Err(failure) => {
+            leave(session, port, home, false);
+            Err(failure)
+        }
+    }
+}
 
 /// The tables that a statement names, and what it is bound to over them.
 pub(crate) fn prepare<P: Port>(

@@ -1,7 +1,7 @@
 //! What a statement does within a transaction, and how it comes to one.
 
 ghost use Rattle.std.specs.Prelude.{◌≡◌, true, Ok, IfOk};
-ghost use Rattle.binder.specs.Names.{form_of, looked_up};
+ghost use Rattle.binder.specs.Names.{form_of};
 ghost use Rattle.tsql_tree.specs.declared.statement.Form.{out-Form};
 ghost use Rattle.batch_meaning.specs.Asking.{if_bytes_left, with_room};
 ghost use Rattle.batch_meaning.specs.Doing.{Did, over};
@@ -9,18 +9,16 @@ ghost use Rattle.batch_meaning.specs.Progress.{Ready};
 ghost use Rattle.batch_meaning.specs.Selecting.{messages, raised_by};
 ghost use Rattle.batch_meaning.specs.Values.{first_row};
 ghost use Rattle.batch_meaning.specs.Meaning.{line_of};
-ghost use Rattle.batch_meaning.specs.Working.{asks_any, binds, composes, composes_bound, computes, given_in, known_by, own, status_bound, statuses, tests, tests_bound, values_bound, works, works_bound};
+ghost use Rattle.batch_meaning.specs.Working.{composes, composes_bound, computes, given_in, status_bound, statuses, tests, tests_bound, values_bound, works, works_bound};
 ghost use Rattle.statement_exec.specs.Selected.{IsBoundOver, asks_bound};
 ghost use Rattle.session_state.specs.Parts.{IsOrMemory, SetsFit, Stepped};
 ghost use Rattle.dml_exec.specs.Asking.{seen};
 
 use crate::discard::discard;
-use crate::home::{enter, leave};
-use crate::known::asks_any;
-use crate::prepare::prepare;
+use crate::home::leave;
+use crate::prepare::prepare_home;
 use crate::query::{answer, select_bound};
 use batch_meaning::{Failure, Raised};
-use binder::names_of;
 use bound_tree::Bound;
 use session_state::{
     Around, Effect, OUTSIDE_LIMITS, RESULT_FULL, SessionState, first_row, is_true, made_of,
@@ -30,7 +28,7 @@ use sqlite_items::Boxed;
 use std::alloc::Global;
 use step_model::Port;
 use tsql_tree::{Form, Statement, TableTree};
-use value_types::{Memory, Row, Units};
+use value_types::{Memory, Row};
 
 // ---- statements that are done with their effect
 
@@ -48,51 +46,7 @@ pub fn work<P: Port>(
     ensures ready { Ready session.new (P.past port.new) }
     ensures fits { IfOk result (λ effect. SetsFit session.new.vars effect.sets) }
 {
-    match names_of(alloc, statement) {
-        Ok(names) => work_named(alloc, session, port, statement, names.as_slice(), around),
-        Err(_) => Err(no_memory()),
-    }
-}
-
-/// The same of one that looks these names up.
-fn work_named<P: Port>(
-    alloc: Global,
-    session: &mut SessionState,
-    port: &mut P,
-    statement: &Statement,
-    names: &[Units],
-    around: &Around<'_, '_>,
-) -> Result<Effect, Failure>
-    requires ready { Ready session.old (P.past port.old) }
-    requires names { names.now ≡ looked_up statement.now }
-    ensures does { Did (P.past port.old) (P.past port.new) (own (asks_any (known_by around.now statement.now) names.now) (binds around.now statement.now (works_bound around.now (form_of statement.now)))) session.old (Ok result) session.new }
-    ensures ready { Ready session.new (P.past port.new) }
-    ensures fits { IfOk result (λ effect. SetsFit session.new.vars effect.sets) }
-{
-    let home = enter(session, port, asks_any(around, &statement.form, names))?;
-    let came = work_in(alloc, session, port, statement, names, around);
-    leave(session, port, home, came.is_ok());
-    came
-}
-
-/// The same within its transaction.
-fn work_in<P: Port>(
-    alloc: Global,
-    session: &mut SessionState,
-    port: &mut P,
-    statement: &Statement,
-    names: &[Units],
-    around: &Around<'_, '_>,
-) -> Result<Effect, Failure>
-    requires ready { Ready session.old (P.past port.old) }
-    requires begun { asks_any (known_by around.now statement.now) names.now ≡ true → session.old.is_open ≡ true }
-    requires names { names.now ≡ looked_up statement.now }
-    ensures does { Did (P.past port.old) (P.past port.new) (binds around.now statement.now (works_bound around.now (form_of statement.now))) session.old (Ok result) session.new }
-    ensures ready { Ready session.new (P.past port.new) }
-    ensures kept { session.new.is_open ≡ session.old.is_open }
-    ensures fits { IfOk result (λ effect. SetsFit session.new.vars effect.sets) }
-{
-    let (shapes, of) = prepare(alloc, session, port, around, statement, names)?;
+    let (home, (shapes, of)) = prepare_home(alloc, session, port, around, statement)?;
     let came = work_bound(
         alloc,
         session,
@@ -103,6 +57,7 @@ fn work_in<P: Port>(
         &of,
     );
     discard(of);
+    leave(session, port, home, came.is_ok());
     came
 }
 
@@ -190,51 +145,10 @@ pub fn test<P: Port>(
     ensures ready { Ready session.new (P.past port.new) }
     ensures left { session.new.statements_left ≡ session.old.statements_left }
 {
-    match names_of(alloc, statement) {
-        Ok(names) => test_named(alloc, session, port, statement, names.as_slice(), around),
-        Err(_) => Err(no_memory()),
-    }
-}
-
-/// The same of one that looks these names up.
-fn test_named<P: Port>(
-    alloc: Global,
-    session: &mut SessionState,
-    port: &mut P,
-    statement: &Statement,
-    names: &[Units],
-    around: &Around<'_, '_>,
-) -> Result<bool, Failure>
-    requires ready { Ready session.old (P.past port.old) }
-    requires names { names.now ≡ looked_up statement.now }
-    ensures does { Did (P.past port.old) (P.past port.new) (own (asks_any (known_by around.now statement.now) names.now) (binds around.now statement.now (tests_bound around.now))) session.old (Ok result) session.new }
-    ensures ready { Ready session.new (P.past port.new) }
-{
-    let home = enter(session, port, asks_any(around, &statement.form, names))?;
-    let came = test_in(alloc, session, port, statement, names, around);
-    leave(session, port, home, came.is_ok());
-    came
-}
-
-/// The same within its transaction.
-fn test_in<P: Port>(
-    alloc: Global,
-    session: &mut SessionState,
-    port: &mut P,
-    statement: &Statement,
-    names: &[Units],
-    around: &Around<'_, '_>,
-) -> Result<bool, Failure>
-    requires ready { Ready session.old (P.past port.old) }
-    requires begun { asks_any (known_by around.now statement.now) names.now ≡ true → session.old.is_open ≡ true }
-    requires names { names.now ≡ looked_up statement.now }
-    ensures does { Did (P.past port.old) (P.past port.new) (binds around.now statement.now (tests_bound around.now)) session.old (Ok result) session.new }
-    ensures ready { Ready session.new (P.past port.new) }
-    ensures kept { session.new.is_open ≡ session.old.is_open }
-{
-    let (shapes, of) = prepare(alloc, session, port, around, statement, names)?;
+    let (home, (shapes, of)) = prepare_home(alloc, session, port, around, statement)?;
     let came = test_bound(alloc, session, port, around, shapes.as_slice(), &of);
     discard(of);
+    leave(session, port, home, came.is_ok());
     came
 }
 
@@ -272,49 +186,7 @@ pub fn compose<P: Port>(
     ensures does { Did (P.past port.old) (P.past port.new) (composes around.now statement.now) session.old (Ok result) session.new }
     ensures ready { Ready session.new (P.past port.new) }
 {
-    match names_of(alloc, statement) {
-        Ok(names) => compose_named(alloc, session, port, statement, names.as_slice(), around),
-        Err(_) => Err(no_memory()),
-    }
-}
-
-/// The same of one that looks these names up.
-fn compose_named<P: Port>(
-    alloc: Global,
-    session: &mut SessionState,
-    port: &mut P,
-    statement: &Statement,
-    names: &[Units],
-    around: &Around<'_, '_>,
-) -> Result<Boxed<Raised>, Failure>
-    requires ready { Ready session.old (P.past port.old) }
-    requires names { names.now ≡ looked_up statement.now }
-    ensures does { Did (P.past port.old) (P.past port.new) (own (asks_any (known_by around.now statement.now) names.now) (binds around.now statement.now (composes_bound around.now statement.now))) session.old (Ok result) session.new }
-    ensures ready { Ready session.new (P.past port.new) }
-{
-    let home = enter(session, port, asks_any(around, &statement.form, names))?;
-    let came = compose_in(alloc, session, port, statement, names, around);
-    leave(session, port, home, came.is_ok());
-    came
-}
-
-/// The same within its transaction.
-fn compose_in<P: Port>(
-    alloc: Global,
-    session: &mut SessionState,
-    port: &mut P,
-    statement: &Statement,
-    names: &[Units],
-    around: &Around<'_, '_>,
-) -> Result<Boxed<Raised>, Failure>
-    requires ready { Ready session.old (P.past port.old) }
-    requires begun { asks_any (known_by around.now statement.now) names.now ≡ true → session.old.is_open ≡ true }
-    requires names { names.now ≡ looked_up statement.now }
-    ensures does { Did (P.past port.old) (P.past port.new) (binds around.now statement.now (composes_bound around.now statement.now)) session.old (Ok result) session.new }
-    ensures ready { Ready session.new (P.past port.new) }
-    ensures kept { session.new.is_open ≡ session.old.is_open }
-{
-    let (shapes, of) = prepare(alloc, session, port, around, statement, names)?;
+    let (home, (shapes, of)) = prepare_home(alloc, session, port, around, statement)?;
     let came = compose_bound(
         alloc,
         session,
@@ -325,6 +197,7 @@ fn compose_in<P: Port>(
         &of,
     );
     discard(of);
+    leave(session, port, home, came.is_ok());
     came
 }
 
@@ -407,51 +280,10 @@ pub fn status<P: Port>(
     ensures does { Did (P.past port.old) (P.past port.new) (statuses around.now statement.now) session.old (Ok result) session.new }
     ensures ready { Ready session.new (P.past port.new) }
 {
-    match names_of(alloc, statement) {
-        Ok(names) => status_named(alloc, session, port, statement, names.as_slice(), around),
-        Err(_) => Err(no_memory()),
-    }
-}
-
-/// The same of one that looks these names up.
-fn status_named<P: Port>(
-    alloc: Global,
-    session: &mut SessionState,
-    port: &mut P,
-    statement: &Statement,
-    names: &[Units],
-    around: &Around<'_, '_>,
-) -> Result<i32, Failure>
-    requires ready { Ready session.old (P.past port.old) }
-    requires names { names.now ≡ looked_up statement.now }
-    ensures does { Did (P.past port.old) (P.past port.new) (own (asks_any (known_by around.now statement.now) names.now) (binds around.now statement.now (status_bound around.now))) session.old (Ok result) session.new }
-    ensures ready { Ready session.new (P.past port.new) }
-{
-    let home = enter(session, port, asks_any(around, &statement.form, names))?;
-    let came = status_in(alloc, session, port, statement, names, around);
-    leave(session, port, home, came.is_ok());
-    came
-}
-
-/// The same within its transaction.
-fn status_in<P: Port>(
-    alloc: Global,
-    session: &mut SessionState,
-    port: &mut P,
-    statement: &Statement,
-    names: &[Units],
-    around: &Around<'_, '_>,
-) -> Result<i32, Failure>
-    requires ready { Ready session.old (P.past port.old) }
-    requires begun { asks_any (known_by around.now statement.now) names.now ≡ true → session.old.is_open ≡ true }
-    requires names { names.now ≡ looked_up statement.now }
-    ensures does { Did (P.past port.old) (P.past port.new) (binds around.now statement.now (status_bound around.now)) session.old (Ok result) session.new }
-    ensures ready { Ready session.new (P.past port.new) }
-    ensures kept { session.new.is_open ≡ session.old.is_open }
-{
-    let (shapes, of) = prepare(alloc, session, port, around, statement, names)?;
+    let (home, (shapes, of)) = prepare_home(alloc, session, port, around, statement)?;
     let came = status_bound(alloc, session, port, around, shapes.as_slice(), &of);
     discard(of);
+    leave(session, port, home, came.is_ok());
     came
 }
 

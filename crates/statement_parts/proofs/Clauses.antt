@@ -1,20 +1,12 @@
 -- What reading by descent is at each rule of a statement's parts.
-use Rattle.std.specs.Prelude.{◌≡◌, ℕ, Bool, true, false, ◌&&◌, not, List, [], ◌∷◌, ◌++◌, Some, None, neg_ℤ, if◌then◌else◌, refl}
+use Rattle.std.specs.Prelude.{◌≡◌, ℕ, Bool, true, false, ◌&&◌, not, List, [], ◌∷◌, ◌++◌, Some, None, if◌then◌else◌, refl}
 use Rattle.std.proofs.Common.{ap, ◌∙◌, append-nil, append_assoc}
 use Rattle.tsql_lexer.specs.declared.lexeme.Sign.{Sign}
 use Rattle.tsql_lexer.specs.declared.lexeme.Sign.TheVariants as s
-use Rattle.value_types.specs.declared.value.Value.TheVariants as value
-use Rattle.tsql_tree.specs.declared.definition.Event.{Event}
-use Rattle.tsql_tree.specs.declared.definition.Event.TheVariants as event
-use Rattle.tsql_tree.specs.declared.definition.Parameter.{Parameter}
-use Rattle.tsql_tree.specs.declared.option.IsolationLevel.TheVariants as level
-use Rattle.tsql_tree.specs.declared.option.PriorityWord.TheVariants as priority
 use Rattle.tsql_tree.specs.declared.query.Expr.{Expr}
-use Rattle.tsql_tree.specs.declared.statement.Argument.{Argument}
-use Rattle.tsql_tree.specs.declared.statement.ArgumentValue.TheVariants as argument
 use Rattle.tsql_tree.specs.declared.statement.Assignment.{Assignment}
 use Rattle.tsql_tree.specs.declared.statement.Declaration.{Declaration}
-use Rattle.tsql_tree.specs.declared.statement.DropKind.TheVariants as drops
+use Rattle.tsql_tree.specs.declared.option.SessionOption.TheVariants as option
 use Rattle.tsql_tree.specs.declared.statement.Form.TheVariants as form
 use Rattle.tsql_tree.specs.declared.statement.InsertRows.TheVariants as rows
 use Rattle.tsql_grammar.specs.declared.kind.Kind.TheVariants as k
@@ -26,12 +18,13 @@ use Rattle.tsql_grammar.specs.declared.rule.Around.{Around}
 use Rattle.tsql_grammar.specs.declared.rule.Class.{Class}
 use Rattle.tsql_grammar.specs.declared.rule.Class.TheVariants as c
 use Rattle.tsql_grammar.specs.declared.rule.Rule.TheVariants as r
-use Rattle.tsql_grammar.specs.Lookahead.{begins_expr, first_classes}
-use Rattle.tsql_grammar.specs.Terminals.{Terminal, units, number}
+use Rattle.tsql_grammar.specs.Lookahead.{begins_expr}
+use Rattle.tsql_grammar.specs.Terminals.{Terminal, units}
 use Rattle.lexeme_reader.proofs.Front.{front_bind, front_when, when_bind, bind_assoc}
 use Rattle.lexeme_reader.specs.Reading.{read, expect, sees_any, ◌>>=◌, when, applied, front}
-use Rattle.statement_parts.specs.Forms.{throw_form, declare_form, declare_cursor_form}
-use Rattle.statement_parts.proofs.Ways.{by_order}
+use Rattle.statement_parts.specs.Forms.{throw_form, declare_form, declare_cursor_form, set_variable_form}
+use Rattle.statement_words.specs.Forms.{fixed_option_form, other_option_form}
+use Rattle.lexeme_reader.proofs.Ways.{by_order}
 
 abbrev sign : Sign → Class
 sign a = c.One (k.Sign a)
@@ -45,67 +38,43 @@ plain a = c.One (k.Word a)
 abbrev variable : Class
 variable = c.One k.Variable
 
--- ---- names
-
-pub names_is : (w : List Terminal) → read r.Names w ≡ (do x ← expect c.Name w; y ← read r.MoreNames x.1; Some (units x.0 ∷ y.0, y.1))
-names_is w = by_order r.Names w refl
-
-pub more_names_on : (done : List (List ℕ)) (w : List Terminal) → front done (read r.MoreNames w)
-    ≡ when (expect (sign s.Comma) w) (λ x. do y ← expect c.Name x.1; front (done ++ units y.0 ∷ []) (read r.MoreNames y.1)) (Some (done, w))
-more_names_on done w = ap (front done) (by_order r.MoreNames w refl) ∙ simp (front_when, front_bind, append_assoc, append-nil)
-
-pub optional_name_is : (w : List Terminal) → read r.OptionalName w ≡ when (expect c.Name w) (λ x. Some (Some (units x.0), x.1)) (Some (None, w))
-optional_name_is w = by_order r.OptionalName w refl
-
-pub variables_is : (w : List Terminal) → read r.Variables w ≡ (do x ← expect variable w; y ← read r.MoreVariables x.1; Some (units x.0 ∷ y.0, y.1))
-variables_is w = by_order r.Variables w refl
-
-pub more_variables_on : (done : List (List ℕ)) (w : List Terminal) → front done (read r.MoreVariables w)
-    ≡ when (expect (sign s.Comma) w) (λ x. do y ← expect variable x.1; front (done ++ units y.0 ∷ []) (read r.MoreVariables y.1)) (Some (done, w))
-more_variables_on done w = ap (front done) (by_order r.MoreVariables w refl) ∙ simp (front_when, front_bind, append_assoc, append-nil)
-
 -- ---- statements that write
 
 pub into_is : (w : List Terminal) → read r.Into w ≡ when (expect (reserved word.Into) w) (λ x. Some (tt, x.1)) (Some (tt, w))
-into_is w = by_order r.Into w refl
+into_is w = by_order [] r.Into w refl
 
 pub after_insert_table_on : (table : List ℕ) (w : List Terminal) → applied table (read r.AfterInsertTable w)
     ≡ when (expect (sign s.Open) w) (λ x. do y ← read r.Names x.1; z ← expect (sign s.Close) y.1; given ← read r.InsertRows z.1; Some (form.Insert table y.0 given.0, given.1))
     (do given ← read r.InsertRows w; Some (form.Insert table [] given.0, given.1))
-after_insert_table_on table w = ap (applied table) (by_order r.AfterInsertTable w refl) ∙ simp (when_bind, bind_assoc)
+after_insert_table_on table w = ap (applied table) (by_order [] r.AfterInsertTable w refl) ∙ simp (when_bind, bind_assoc)
 
 pub insert_rows_is : (w : List Terminal) → read r.InsertRows w
     ≡ when (expect (reserved word.Values) w) (λ x. do first ← read r.ValueRow x.1; more ← read r.MoreValueRows first.1; Some (rows.Values (first.0 ∷ more.0), more.1))
     (do x ← expect (reserved word.Select) w; y ← read r.Select x.1; Some (rows.Query y.0, y.1))
-insert_rows_is w = by_order r.InsertRows w refl
+insert_rows_is w = by_order [] r.InsertRows w refl
 
 pub value_row_is : (w : List Terminal) → read r.ValueRow w ≡ (do x ← expect (sign s.Open) w; y ← read r.Exprs x.1; z ← expect (sign s.Close) y.1; Some (y.0, z.1))
-value_row_is w = by_order r.ValueRow w refl
+value_row_is w = by_order [] r.ValueRow w refl
 
 pub more_value_rows_on : (done : List (List Expr)) (w : List Terminal) → front done (read r.MoreValueRows w)
     ≡ when (expect (sign s.Comma) w) (λ x. do y ← read r.ValueRow x.1; front (done ++ y.0 ∷ []) (read r.MoreValueRows y.1)) (Some (done, w))
-more_value_rows_on done w = ap (front done) (by_order r.MoreValueRows w refl) ∙ simp (front_when, front_bind, append_assoc, append-nil)
+more_value_rows_on done w = ap (front done) (by_order [] r.MoreValueRows w refl) ∙ simp (front_when, front_bind, append_assoc, append-nil)
 
 pub assignment_is : (w : List Terminal) → read r.Assignment w
     ≡ (do x ← expect c.Name w; y ← expect (sign s.Equal) x.1; z ← read r.Expr y.1; Some (record { name = units x.0; value = z.0 }, z.1))
-assignment_is w = by_order r.Assignment w refl
+assignment_is w = by_order [] r.Assignment w refl
 
 pub more_assignments_on : (done : List Assignment) (w : List Terminal) → front done (read r.MoreAssignments w)
     ≡ when (expect (sign s.Comma) w) (λ x. do y ← read r.Assignment x.1; front (done ++ y.0 ∷ []) (read r.MoreAssignments y.1)) (Some (done, w))
-more_assignments_on done w = ap (front done) (by_order r.MoreAssignments w refl) ∙ simp (front_when, front_bind, append_assoc, append-nil)
+more_assignments_on done w = ap (front done) (by_order [] r.MoreAssignments w refl) ∙ simp (front_when, front_bind, append_assoc, append-nil)
 
 pub delete_from_is : (w : List Terminal) → read r.DeleteFrom w ≡ when (expect (reserved word.From) w) (λ x. Some (tt, x.1)) (Some (tt, w))
-delete_from_is w = by_order r.DeleteFrom w refl
-
-pub drop_kind_is : (w : List Terminal) → read r.DropKind w
-    ≡ when (expect (reserved word.Table) w) (λ x. Some (drops.Table, x.1)) (when (expect (reserved word.Procedure) w) (λ x. Some (drops.Procedure, x.1))
-    (do x ← expect (reserved word.Trigger) w; Some (drops.Trigger, x.1)))
-drop_kind_is w = by_order r.DropKind w refl
+delete_from_is w = by_order [] r.DeleteFrom w refl
 
 -- ---- control
 
 pub optional_expr_is : (w : List Terminal) → read r.OptionalExpr w ≡ (if sees_any begins_expr w then (do x ← read r.Expr w; Some (Some x.0, x.1)) else Some (None, w))
-optional_expr_is w = by_order r.OptionalExpr w refl
+optional_expr_is w = by_order [] r.OptionalExpr w refl
 
 turned : {A : Type 0} (x y : A) (b : Bool) → (if b then x else y) ≡ (if not b then y else x)
 turned x y true = refl
@@ -113,135 +82,49 @@ turned x y false = refl
 
 throw_by : (x y : Bool) (w : List Terminal) → read (r.ThrowArguments (record { in_while = x; in_catch = y })) w
     ≡ (if y && not (sees_any begins_expr w) then Some (form.ThrowAgain, w) else throw_form w)
-throw_by x false w = by_order (r.ThrowArguments (record { in_while = x; in_catch = false })) w refl
-throw_by x true w = by_order (r.ThrowArguments (record { in_while = x; in_catch = true })) w refl ∙ turned (throw_form w) (Some (form.ThrowAgain, w)) (sees_any begins_expr w)
+throw_by x false w = by_order [] (r.ThrowArguments (record { in_while = x; in_catch = false })) w refl
+throw_by x true w = by_order [] (r.ThrowArguments (record { in_while = x; in_catch = true })) w refl ∙ turned (throw_form w) (Some (form.ThrowAgain, w)) (sees_any begins_expr w)
 
 pub throw_arguments_is : (a : Around) (w : List Terminal) → read (r.ThrowArguments a) w
     ≡ (if a.in_catch && not (sees_any begins_expr w) then Some (form.ThrowAgain, w) else throw_form w)
 throw_arguments_is a w = throw_by a.in_while a.in_catch w
 
--- ---- transactions and cursors
-
-pub transaction_word_is : (w : List Terminal) → read r.TransactionWord w
-    ≡ when (expect (reserved word.Tran) w) (λ x. Some (tt, x.1)) (do x ← expect (reserved word.Transaction) w; Some (tt, x.1))
-transaction_word_is w = by_order r.TransactionWord w refl
-
-pub transaction_end_is : (w : List Terminal) → read r.TransactionEnd w
-    ≡ (if sees_any (reserved word.Tran ∷ reserved word.Transaction ∷ []) w then (do x ← read r.TransactionWord w; y ← read r.OptionalName x.1; Some (y.0, y.1)) else Some (None, w))
-transaction_end_is w = by_order r.TransactionEnd w refl
+-- ---- cursors
 
 pub cursor_scope_is : (w : List Terminal) → read r.CursorScope w
     ≡ when (expect (plain v.Local) w) (λ x. Some (tt, x.1)) (when (expect (plain v.Global) w) (λ x. Some (tt, x.1)) (Some (tt, w)))
-cursor_scope_is w = by_order r.CursorScope w refl
+cursor_scope_is w = by_order [] r.CursorScope w refl
 
 pub cursor_static_is : (w : List Terminal) → read r.CursorStatic w ≡ when (expect (plain v.Static) w) (λ x. Some (tt, x.1)) (Some (tt, w))
-cursor_static_is w = by_order r.CursorStatic w refl
+cursor_static_is w = by_order [] r.CursorStatic w refl
 
 pub cursor_read_only_is : (w : List Terminal) → read r.CursorReadOnly w ≡ when (expect (plain v.ReadOnly) w) (λ x. Some (tt, x.1)) (Some (tt, w))
-cursor_read_only_is w = by_order r.CursorReadOnly w refl
-
-pub next_is : (w : List Terminal) → read r.Next w ≡ when (expect (plain v.Next) w) (λ x. Some (tt, x.1)) (Some (tt, w))
-next_is w = by_order r.Next w refl
+cursor_read_only_is w = by_order [] r.CursorReadOnly w refl
 
 -- ---- DECLARE and SET
 
 pub after_declare_is : (w : List Terminal) → read r.AfterDeclare w ≡ (if sees_any (variable ∷ []) w then declare_form w else declare_cursor_form w)
-after_declare_is w = by_order r.AfterDeclare w refl
+after_declare_is w = by_order [] r.AfterDeclare w refl
 
 pub declaration_is : (w : List Terminal) → read r.Declaration w
     ≡ (do x ← expect variable w; y ← read r.OptionalAs x.1; kind ← read r.Type y.1; z ← read r.Initial kind.1; Some (record { name = units x.0; kind = kind.0; initial = z.0 }, z.1))
-declaration_is w = by_order r.Declaration w refl
+declaration_is w = by_order [] r.Declaration w refl
 
 pub more_declarations_on : (done : List Declaration) (w : List Terminal) → front done (read r.MoreDeclarations w)
     ≡ when (expect (sign s.Comma) w) (λ x. do y ← read r.Declaration x.1; front (done ++ y.0 ∷ []) (read r.MoreDeclarations y.1)) (Some (done, w))
-more_declarations_on done w = ap (front done) (by_order r.MoreDeclarations w refl) ∙ simp (front_when, front_bind, append_assoc, append-nil)
+more_declarations_on done w = ap (front done) (by_order [] r.MoreDeclarations w refl) ∙ simp (front_when, front_bind, append_assoc, append-nil)
 
 pub optional_as_is : (w : List Terminal) → read r.OptionalAs w ≡ when (expect (reserved word.As) w) (λ x. Some (tt, x.1)) (Some (tt, w))
-optional_as_is w = by_order r.OptionalAs w refl
+optional_as_is w = by_order [] r.OptionalAs w refl
 
 pub initial_is : (w : List Terminal) → read r.Initial w ≡ when (expect (sign s.Equal) w) (λ x. do y ← read r.Expr x.1; Some (Some y.0, y.1)) (Some (None, w))
-initial_is w = by_order r.Initial w refl
+initial_is w = by_order [] r.Initial w refl
 
-pub on_off_is : (w : List Terminal) → read r.OnOff w ≡ when (expect (reserved word.On) w) (λ x. Some (true, x.1)) (do x ← expect (plain v.Off) w; Some (false, x.1))
-on_off_is w = by_order r.OnOff w refl
-
-pub level_is : (w : List Terminal) → read r.Level w
-    ≡ when (expect (plain v.Read) w) (λ x. do y ← read r.AfterRead x.1; Some (y.0, y.1))
-    (when (expect (plain v.Repeatable) w) (λ x. do y ← expect (plain v.Read) x.1; Some (level.RepeatableRead, y.1))
-    (when (expect (plain v.Snapshot) w) (λ x. Some (level.Snapshot, x.1)) (do x ← expect (plain v.Serializable) w; Some (level.Serializable, x.1))))
-level_is w = by_order r.Level w refl
-
-pub after_read_is : (w : List Terminal) → read r.AfterRead w
-    ≡ when (expect (plain v.Committed) w) (λ x. Some (level.ReadCommitted, x.1)) (do x ← expect (plain v.Uncommitted) w; Some (level.ReadUncommitted, x.1))
-after_read_is w = by_order r.AfterRead w refl
-
-pub signed_number_is : (w : List Terminal) → read r.SignedNumber w
-    ≡ when (expect (c.One k.Number) w) (λ x. Some (number x.0, x.1)) (do x ← expect (sign s.Minus) w; y ← expect (c.One k.Number) x.1; Some (neg_ℤ (number y.0), y.1))
-signed_number_is w = by_order r.SignedNumber w refl
-
-pub priority_is : (w : List Terminal) → read r.Priority w
-    ≡ when (expect (plain v.Low) w) (λ x. Some (priority.Low, x.1)) (when (expect (plain v.Normal) w) (λ x. Some (priority.Normal, x.1))
-    (when (expect (plain v.High) w) (λ x. Some (priority.High, x.1)) (do x ← read r.SignedNumber w; Some (priority.Number x.0, x.1))))
-priority_is w = by_order r.Priority w refl
-
--- ---- EXEC
-
-pub after_execute_is : (w : List Terminal) → read r.AfterExecute w
-    ≡ when (expect variable w) (λ x. do y ← expect (sign s.Equal) x.1; name ← read r.Object y.1; z ← read r.Arguments name.1; Some (form.Execute (Some (units x.0)) name.0 z.0, z.1))
-    (do name ← read r.Object w; z ← read r.Arguments name.1; Some (form.Execute None name.0 z.0, z.1))
-after_execute_is w = by_order r.AfterExecute w refl
-
-pub arguments_is : (w : List Terminal) → read r.Arguments w
-    ≡ (if sees_any (first_classes r.Arguments) w then (do x ← read r.Argument w; y ← read r.MoreArguments x.1; Some (x.0 ∷ y.0, y.1)) else Some ([], w))
-arguments_is w = by_order r.Arguments w refl
-
-pub more_arguments_on : (done : List Argument) (w : List Terminal) → front done (read r.MoreArguments w)
-    ≡ when (expect (sign s.Comma) w) (λ x. do y ← read r.Argument x.1; front (done ++ y.0 ∷ []) (read r.MoreArguments y.1)) (Some (done, w))
-more_arguments_on done w = ap (front done) (by_order r.MoreArguments w refl) ∙ simp (front_when, front_bind, append_assoc, append-nil)
-
-pub argument_is : (w : List Terminal) → read r.Argument w
-    ≡ when (expect variable w) (λ x. applied (units x.0) (read r.AfterArgumentVariable x.1))
-    (do x ← read r.Constant w; y ← read r.Output x.1; Some (record { name = None; value = x.0; output = y.0 }, y.1))
-argument_is w = by_order r.Argument w refl
-
-pub after_argument_variable_on : (name : List ℕ) (w : List Terminal) → applied name (read r.AfterArgumentVariable w)
-    ≡ when (expect (sign s.Equal) w) (λ x. do y ← read r.ArgumentValue x.1; z ← read r.Output y.1; Some (record { name = Some name; value = y.0; output = z.0 }, z.1))
-    (do z ← read r.Output w; Some (record { name = None; value = argument.Variable name; output = z.0 }, z.1))
-after_argument_variable_on name w = ap (applied name) (by_order r.AfterArgumentVariable w refl) ∙ simp (when_bind, bind_assoc)
-
-pub argument_value_is : (w : List Terminal) → read r.ArgumentValue w
-    ≡ when (expect variable w) (λ x. Some (argument.Variable (units x.0), x.1)) (do x ← read r.Constant w; Some (x.0, x.1))
-argument_value_is w = by_order r.ArgumentValue w refl
-
-pub constant_is : (w : List Terminal) → read r.Constant w
-    ≡ (if sees_any (first_classes r.SignedNumber) w then (do x ← read r.SignedNumber w; Some (argument.Constant (value.Whole x.0), x.1)) else
-    when (expect (c.One k.Text) w) (λ x. Some (argument.Constant (value.Text (units x.0)), x.1)) (do x ← expect (reserved word.Null) w; Some (argument.Constant value.Null, x.1)))
-constant_is w = by_order r.Constant w refl
-
--- ---- what stands before bodies
-
-pub params_is : (w : List Terminal) → read r.Params w ≡ (if sees_any (variable ∷ []) w then (do x ← read r.Param w; y ← read r.MoreParams x.1; Some (x.0 ∷ y.0, y.1)) else Some ([], w))
-params_is w = by_order r.Params w refl
-
-pub param_is : (w : List Terminal) → read r.Param w
-    ≡ (do x ← expect variable w; kind ← read r.Type x.1; y ← read r.Output kind.1; Some (record { name = units x.0; kind = kind.0; output = y.0 }, y.1))
-param_is w = by_order r.Param w refl
-
-pub more_params_on : (done : List Parameter) (w : List Terminal) → front done (read r.MoreParams w)
-    ≡ when (expect (sign s.Comma) w) (λ x. do y ← read r.Param x.1; front (done ++ y.0 ∷ []) (read r.MoreParams y.1)) (Some (done, w))
-more_params_on done w = ap (front done) (by_order r.MoreParams w refl) ∙ simp (front_when, front_bind, append_assoc, append-nil)
-
-pub output_is : (w : List Terminal) → read r.Output w ≡ when (expect (plain v.Output) w) (λ x. Some (true, x.1)) (Some (false, w))
-output_is w = by_order r.Output w refl
-
-pub trigger_time_is : (w : List Terminal) → read r.TriggerTime w ≡ when (expect (plain v.After) w) (λ x. Some (tt, x.1)) (do x ← expect (reserved word.For) w; Some (tt, x.1))
-trigger_time_is w = by_order r.TriggerTime w refl
-
-pub event_is : (w : List Terminal) → read r.Event w
-    ≡ when (expect (reserved word.Insert) w) (λ x. Some (event.Insert, x.1)) (when (expect (reserved word.Update) w) (λ x. Some (event.Update, x.1))
-    (do x ← expect (reserved word.Delete) w; Some (event.Delete, x.1)))
-event_is w = by_order r.Event w refl
-
-pub more_events_on : (done : List Event) (w : List Terminal) → front done (read r.MoreEvents w)
-    ≡ when (expect (sign s.Comma) w) (λ x. do y ← read r.Event x.1; front (done ++ y.0 ∷ []) (read r.MoreEvents y.1)) (Some (done, w))
-more_events_on done w = ap (front done) (by_order r.MoreEvents w refl) ∙ simp (front_when, front_bind, append_assoc, append-nil)
+pub after_set_is : (w : List Terminal) → read r.AfterSet w
+    ≡ when (expect (c.One k.Variable) w) (λ x. set_variable_form (units x.0) x.1)
+    (when (expect (plain v.XactAbort) w) (λ x. do on ← read r.OnOff x.1; Some (form.SetOption (option.XactAbort on.0), on.1))
+    (when (expect (plain v.NoCount) w) (λ x. do on ← read r.OnOff x.1; Some (form.SetOption (option.NoCount on.0), on.1))
+    (when (expect (plain v.ImplicitTransactions) w) (λ x. do on ← read r.OnOff x.1; Some (form.SetOption (option.ImplicitTransactions on.0), on.1))
+    (other_option_form w))))
+unfolding fixed_option_form
+after_set_is w = by_order [] r.AfterSet w refl

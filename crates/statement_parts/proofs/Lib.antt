@@ -1,4 +1,1 @@
-pub mod Ways
-pub mod Lists
 pub mod Clauses
-pub mod Options

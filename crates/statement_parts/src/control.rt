@@ -6,7 +6,7 @@ ghost use Rattle.lexeme_reader.specs.Reading.{read, Gives};
 ghost use Rattle.statement_parts.specs.Forms.{print_form, raise_error_form, return_form, throw_form};
 
 use lexeme_reader::{Lexemes, ReadFault};
-use query_parser::read_expr;
+use query_reader::read_expr;
 use sqlite_items::Boxed;
 use std::alloc::Global;
 use tsql_grammar::{Around, Class, Kind, Reserved};

@@ -1,18 +1,18 @@
-//! Queries, and statements that write rows or drop objects, behind their first words.
+//! Queries, and statements that write rows, behind their first words.
 
 ghost use Rattle.std.specs.Prelude.{◌≡◌};
 ghost use Rattle.tsql_grammar.specs.declared.rule.Rule.TheVariants as r;
 ghost use Rattle.lexeme_reader.specs.Reading.{read, applied, Gives};
-ghost use Rattle.statement_parts.specs.Forms.{select_form, insert_form, update_form, delete_form, drop_form};
+ghost use Rattle.statement_parts.specs.Forms.{select_form, insert_form, update_form, delete_form};
 
-use crate::names_list::names;
-use lexeme_reader::{Lexemes, ReadFault};
-use query_parser::{object, read_expr, read_exprs, read_filter, read_select};
+use lexeme_reader::{Lexemes, ReadFault, object};
+use query_reader::{read_expr, read_exprs, read_filter, read_select};
 use sqlite_items::{Boxed, Items};
+use statement_words::names;
 use std::alloc::Global;
 use tsql_grammar::{Class, Reserved};
 use tsql_lexer::Sign;
-use tsql_tree::{Assignment, DropKind, Expr, Form, InsertRows};
+use tsql_tree::{Assignment, Expr, Form, InsertRows};
 use value_types::Units;
 
 /// A SELECT behind that word.
@@ -90,7 +90,7 @@ fn value_row(alloc: Global, lexemes: &mut Lexemes<'_>) -> Result<Items<Expr>, Re
 }
 
 /// Further rows, each behind a comma.
-#[tactic(auto, using(crate::proofs::Clauses::more_value_rows_on, crate::proofs::Lists::begins))]
+#[tactic(auto, using(crate::proofs::Clauses::more_value_rows_on, lexeme_reader::proofs::Front::front_begin))]
 fn more_value_rows(
     alloc: Global,
     lexemes: &mut Lexemes<'_>,
@@ -133,7 +133,7 @@ fn assignment(alloc: Global, lexemes: &mut Lexemes<'_>) -> Result<Assignment, Re
 }
 
 /// Further assignments, each behind a comma.
-#[tactic(auto, using(crate::proofs::Clauses::more_assignments_on, crate::proofs::Lists::begins))]
+#[tactic(auto, using(crate::proofs::Clauses::more_assignments_on, lexeme_reader::proofs::Front::front_begin))]
 fn more_assignments(
     alloc: Global,
     lexemes: &mut Lexemes<'_>,
@@ -170,28 +170,4 @@ fn delete_from(lexemes: &mut Lexemes<'_>) -> Result<(), ReadFault>
         return Ok(());
     }
     Ok(())
-}
-
-/// A DROP behind that word.
-pub fn drop_object(alloc: Global, lexemes: &mut Lexemes<'_>) -> Result<Form, ReadFault>
-    ensures { Gives (drop_form lexemes.old) result lexemes.new }
-{
-    let kind = drop_kind(lexemes)?;
-    let name = object(alloc, lexemes)?;
-    Ok(Form::Drop(kind, name))
-}
-
-/// TABLE, PROCEDURE or TRIGGER.
-#[tactic(auto, using(crate::proofs::Clauses::drop_kind_is))]
-fn drop_kind(lexemes: &mut Lexemes<'_>) -> Result<DropKind, ReadFault>
-    ensures { Gives (read r.DropKind lexemes.old) result lexemes.new }
-{
-    if lexemes.accept_word(Reserved::Table) {
-        return Ok(DropKind::Table);
-    }
-    if lexemes.accept_word(Reserved::Procedure) {
-        return Ok(DropKind::Procedure);
-    }
-    lexemes.want_word(Reserved::Trigger)?;
-    Ok(DropKind::Trigger)
 }

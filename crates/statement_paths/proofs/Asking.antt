@@ -27,7 +27,7 @@ use Rattle.dml_exec.specs.declared.refusal.Refusal.TheVariants as refusal
 use Rattle.dml_exec.specs.Asking.{on_ok, with_room, with_room_if}
 use Rattle.dml_exec.specs.Reading.{GivenRows, TableRead, fetch_of, fetches, fits, from, images_from, images_of, is_short, key_width, read_by, reads_of, reads_on, reads_table, rows_from, rows_in, table_fetch, unless_given}
 use Rattle.dml_exec.specs.Writing.{asks_deed, broken_by, checks_all, checks_one, done_by, halted, is_one_key, no_room, rows_checked, works, writes_all, writes_one}
-use Rattle.reading_laws.specs.Reads.{IsFetch}
+use Rattle.statement_paths.specs.Asked.{IsFetch}
 use Rattle.statement_paths.specs.Paths.{IsForward}
 use Rattle.statement_paths.proofs.Only.{Says, says_then}
 

@@ -14,7 +14,7 @@ use Rattle.step_model.specs.Ranges.{Rows}
 use Rattle.constraint_check.specs.Reads.{shape_of}
 use Rattle.dml_exec.specs.Planning.{table_written}
 use Rattle.dml_exec.specs.Reading.{GivenRows}
-use Rattle.reading_laws.specs.Reads.{AskOnly, IsFetch}
+use Rattle.statement_paths.specs.Asked.{AskOnly, IsFetch}
 use Rattle.batch_meaning.specs.declared.failure.Failure.{Failure}
 use Rattle.batch_meaning.specs.Raised.{Around, Fired}
 use Rattle.batch_meaning.specs.Asking.{◌>>=◌, applies, comes_to, fails, reads_definitions, reads_images, with_room}

@@ -13,7 +13,7 @@ use Rattle.step_model.specs.Dialog.{IsQuiet}
 use Rattle.session_cursors.specs.declared.fault.CursorFault.{CursorFault}
 use Rattle.session_cursors.specs.declared.fault.CursorFault.TheVariants.{NoSuch, Present, AlreadyFilled, NotFilled, Memory}
 use Rattle.session_cursors.specs.Cursors as list
-use Rattle.reading_laws.specs.Reads.{IsFetch}
+use Rattle.statement_paths.specs.Asked.{IsFetch}
 use Rattle.batch_meaning.specs.declared.failure.Failure.{Failure}
 use Rattle.batch_meaning.specs.Raised.{Around}
 use Rattle.batch_meaning.specs.Asking.{comes_to, fails, with_room}

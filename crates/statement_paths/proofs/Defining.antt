@@ -12,7 +12,7 @@ use Rattle.step_model.specs.declared.change.Planned.{Planned}
 use Rattle.step_model.specs.Dialog.{IsQuiet}
 use Rattle.step_model.specs.Exchange.{Exchange}
 use Rattle.step_model.specs.Ranges.{no_memory}
-use Rattle.reading_laws.specs.Reads.{AskOnly, IsFetch}
+use Rattle.statement_paths.specs.Asked.{AskOnly, IsFetch}
 use Rattle.batch_meaning.specs.declared.failure.Failure.{Failure}
 use Rattle.batch_meaning.specs.Asking.{◌>>=◌, fails, fails_naming, look_up, with_room}
 use Rattle.batch_meaning.specs.Changing.{object_present, unknown_table}

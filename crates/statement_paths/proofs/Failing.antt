@@ -20,7 +20,7 @@ use Rattle.dml_exec.specs.declared.refusal.Refusal.{Refusal}
 use Rattle.dml_exec.specs.declared.written.Written.{Written as WriteEnd}
 use Rattle.dml_exec.specs.declared.written.Written.TheVariants as written
 use Rattle.dml_exec.specs.Writing.{attempts}
-use Rattle.reading_laws.specs.Reads.{AskOnly, IsFetch}
+use Rattle.statement_paths.specs.Asked.{AskOnly, IsFetch}
 use Rattle.batch_meaning.specs.declared.failure.Failure.{Failure}
 use Rattle.batch_meaning.specs.Raised.{Around}
 use Rattle.batch_meaning.specs.Changing.{created, object_present}

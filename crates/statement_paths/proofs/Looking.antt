@@ -12,7 +12,7 @@ use Rattle.step_model.specs.declared.reply.Reply.TheVariants as replies
 use Rattle.step_model.specs.Exchange.{Exchange, CanReply}
 use Rattle.dml_exec.specs.Reading.{behind_gone}
 use Rattle.step_model.specs.Ranges.{range_limit}
-use Rattle.reading_laws.specs.Reads.{IsFetch}
+use Rattle.statement_paths.specs.Asked.{IsFetch}
 use Rattle.batch_meaning.specs.declared.failure.Failure.{Failure}
 use Rattle.batch_meaning.specs.Progress.{SessionProgress, asked}
 use Rattle.batch_meaning.specs.Doing.{over, asks, defines, Held}

@@ -9,7 +9,7 @@ use Rattle.step_model.specs.declared.reply.Reply.{Reply}
 use Rattle.step_model.specs.Exchange.{Exchange, CanReply}
 use Rattle.step_model.specs.Dialog as said
 use Rattle.step_model.specs.Dialog.{Dialog, IsQuiet}
-use Rattle.reading_laws.specs.Reads.{AskOnly}
+use Rattle.statement_paths.specs.Asked.{AskOnly}
 use Rattle.batch_meaning.specs.declared.failure.Failure.{Failure}
 use Rattle.batch_meaning.specs.Progress.{SessionProgress, SessionStep, touches, made, asked}
 use Rattle.batch_meaning.specs.Doing.{Doing, over, reads, makes, defines, asks, room, never, ◌then◌, Held, Left}

@@ -7,7 +7,7 @@ use Rattle.step_model.specs.declared.reply.Reply.TheVariants as replies
 use Rattle.step_model.specs.Dialog.{IsQuiet}
 use Rattle.step_model.specs.Exchange.{Exchange, CanReply}
 use Rattle.step_model.specs.Ranges.{no_memory}
-use Rattle.reading_laws.specs.Reads.{AskOnly}
+use Rattle.statement_paths.specs.Asked.{AskOnly}
 use Rattle.batch_meaning.specs.declared.failure.Failure.{Failure}
 use Rattle.batch_meaning.specs.declared.home.Home.{Home}
 use Rattle.batch_meaning.specs.declared.home.Home.TheVariants.{Nowhere, Open, Own}

@@ -13,7 +13,7 @@ use Rattle.step_model.specs.declared.op.Op.TheVariants as ops
 use Rattle.step_model.specs.declared.reply.Reply.TheVariants as replies
 use Rattle.step_model.specs.Exchange.{Exchange}
 use Rattle.step_model.specs.Ranges.{no_memory}
-use Rattle.reading_laws.specs.Reads.{AskOnly, IsFetch}
+use Rattle.statement_paths.specs.Asked.{AskOnly, IsFetch}
 use Rattle.batch_meaning.specs.declared.failure.Failure.{Failure}
 use Rattle.batch_meaning.specs.Failures.{plain}
 use Rattle.batch_meaning.specs.Raised.{Around}

@@ -9,7 +9,7 @@ use Rattle.step_model.specs.declared.op.Op.TheVariants as ops
 use Rattle.step_model.specs.declared.reply.Reply.{Reply}
 use Rattle.step_model.specs.declared.reply.Reply.TheVariants as replies
 use Rattle.step_model.specs.Exchange.{Exchange, CanReply}
-use Rattle.reading_laws.specs.Reads.{AskOnly, IsFetch}
+use Rattle.statement_paths.specs.Asked.{AskOnly, IsFetch}
 use Rattle.batch_meaning.specs.Progress.{SessionProgress, SessionStep, touches, made, asked, asked_all}
 use Rattle.batch_meaning.specs.Doing.{Doing, Held}
 use Rattle.constraint_check.specs.Reads.{reads_for}

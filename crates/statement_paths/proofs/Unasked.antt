@@ -17,7 +17,7 @@ use Rattle.catalog_rows.specs.Definitions.{is_objects, tables_of}
 use Rattle.step_model.specs.declared.manner.Manner.{Manner}
 use Rattle.step_model.specs.Exchange.{Exchange}
 use Rattle.step_model.specs.Ranges.{no_memory}
-use Rattle.reading_laws.specs.Reads.{AskOnly}
+use Rattle.statement_paths.specs.Asked.{AskOnly}
 use Rattle.batch_meaning.specs.declared.failure.Failure.{Failure}
 use Rattle.batch_meaning.specs.declared.home.Home.TheVariants.{Nowhere}
 use Rattle.batch_meaning.specs.Failures.{plain}

@@ -30,7 +30,7 @@ use Rattle.dml_exec.specs.declared.written.Written.TheVariants as written
 use Rattle.dml_exec.specs.Planning.{table_written}
 use Rattle.dml_exec.specs.Reading.{none_given}
 use Rattle.dml_exec.specs.Writing.{attempts}
-use Rattle.reading_laws.specs.Reads.{IsFetch}
+use Rattle.statement_paths.specs.Asked.{IsFetch}
 use Rattle.batch_meaning.specs.declared.failure.Failure.{Failure}
 use Rattle.batch_meaning.specs.Raised.{Around}
 use Rattle.batch_meaning.specs.Changing.{created, definition_erased, dropped, not_there, object_present, planned_over, told_by, unless_referred, whole}

@@ -16,8 +16,8 @@ use Rattle.tsql_grammar.specs.Trees.{statement}
 use Rattle.lexeme_reader.proofs.Front.{front_bind, front_when, front_if, bind_assoc, bind_same}
 use Rattle.lexeme_reader.specs.declared.fault.ReadFault.{ReadFault}
 use Rattle.lexeme_reader.specs.Reading.{Outcome, read, read_in, ahead, expect, sees_any, Gives, ◌>>=◌, when, front}
-use Rattle.statement_parts.specs.Forms.{begin_form}
-use Rattle.statement_parts.proofs.Ways.{by_order, by_order_in, by_certain_in, Skips}
+use Rattle.statement_words.specs.Forms.{begin_form}
+use Rattle.lexeme_reader.proofs.Ways.{by_order, by_certain, Skips}
 use Rattle.statement_reader.specs.Parts.{begins_statement, begins_in_while, begins_outside, create_table_from, form_from, formed, try_form, block_form}
 
 abbrev reserved : Reserved → Class
@@ -43,11 +43,11 @@ pub body_on : (text : List ℕ) (a : Around) (done : List Statement) (w : List T
     ≡ when (expect c.Semicolon w) (λ x. front done (read_in text (r.Body a) x.1))
     (if begins_statement a w then (do y ← read_in text (r.Statement a) w; front (done ++ y.0 ∷ []) (read_in text (r.Body a) y.1)) else Some (done, w))
 unfolding begins_statement
-body_on text a done w = ap (front done) (by_order_in text (r.Body a) w refl) ∙ simp (front_when, front_if, front_bind, bind_same, append_assoc, append-nil)
+body_on text a done w = ap (front done) (by_order text (r.Body a) w refl) ∙ simp (front_when, front_if, front_bind, bind_same, append_assoc, append-nil)
 
 pub statement_is : (text : List ℕ) (a : Around) (w : List Terminal) → read_in text (r.Statement a) w
     ≡ when (expect (reserved word.Create) w) (λ x. create_table_from text (line x.0) x.0.spanned.start x.1) (read_in text (r.OtherStatement a) w)
-statement_is text a w = by_order_in text (r.Statement a) w refl ∙ simp bind_same
+statement_is text a w = by_order text (r.Statement a) w refl ∙ simp bind_same
 
 -- a statement of a form, or another
 abbrev or_formed : List ℕ → Around → Reserved → List Terminal → Outcome Statement → Outcome Statement
@@ -66,8 +66,8 @@ chain_last text true y w = or_formed text (around true y) word.Execute w (or_for
 chain_last text false y w = formed text (around false y) word.Execute w
 
 other_is : (text : List ℕ) (x y : Bool) (w : List Terminal) → read_in text (r.OtherStatement (around x y)) w ≡ chain text (around x y) w (chain_last text x y w)
-other_is text true y w = by_order_in text (r.OtherStatement (around true y)) w refl ∙ simp bind_assoc
-other_is text false y w = by_order_in text (r.OtherStatement (around false y)) w refl ∙ simp bind_assoc
+other_is text true y w = by_order text (r.OtherStatement (around true y)) w refl ∙ simp bind_assoc
+other_is text false y w = by_order text (r.OtherStatement (around false y)) w refl ∙ simp bind_assoc
 
 formed_at : (text : List ℕ) (x y : Bool) (b : Reserved) (t : Terminal) (w : List Terminal) → kind_at t ≡ k.Reserved b → chain text (around x y) (t ∷ w) (chain_last text x y (t ∷ w)) ≡ formed text (around x y) b (t ∷ w)
 unfolding expect
@@ -89,10 +89,10 @@ reserved_gives text a b w result rest e g = subst (λ (o : Outcome Statement). G
 pub else_is : (text : List ℕ) (a : Around) (w : List Terminal) → read_in text (r.Else a) w
     ≡ when (expect (reserved word.Else) w) (λ x. do y ← read_in text (r.Statement a) x.1; Some (Some y.0, y.1))
     (when (expect (c.One k.BeforeElse) w) (λ x. do e ← expect (reserved word.Else) x.1; y ← read_in text (r.Statement a) e.1; Some (Some y.0, y.1)) (Some (None, w)))
-else_is text a w = by_order_in text (r.Else a) w refl
+else_is text a w = by_order text (r.Else a) w refl
 
 semicolons_by : (w : List Terminal) → read r.Semicolons w ≡ when (expect c.Semicolon w) (λ x. do y ← read r.Semicolons x.1; Some (tt, y.1)) (Some (tt, w))
-semicolons_by w = by_order r.Semicolons w refl
+semicolons_by w = by_order [] r.Semicolons w refl
 
 pub semicolons_is : (w : List Terminal) → read r.Semicolons w ≡ when (expect c.Semicolon w) (λ x. read r.Semicolons x.1) (Some (tt, w))
 semicolons_is w = semicolons_by w ∙ simp bind_same
@@ -107,8 +107,8 @@ skips_semicolons text (t ∷ w) e = (tt, semicolons_is (t ∷ w) ∙ rw (or_no _
     or_no false e = refl
 
 pub optional_semicolon_is : (w : List Terminal) → read r.OptionalSemicolon w ≡ when (expect c.Semicolon w) (λ x. Some (tt, x.1)) (Some (tt, w))
-optional_semicolon_is w = by_order r.OptionalSemicolon w refl
+optional_semicolon_is w = by_order [] r.OptionalSemicolon w refl
 
 pub after_begin_is : (text : List ℕ) (a : Around) (w : List Terminal) → read_in text (r.AfterBegin a) w
     ≡ (if sees_any (reserved word.Tran ∷ reserved word.Transaction ∷ []) w then begin_form w else when (expect (plain v.Try) w) (λ x. try_form text a x.1) (block_form text a w))
-after_begin_is text a w = by_certain_in text (r.AfterBegin a) w (refl, (refl, (inr (skips_semicolons text, inl refl), refl)))
+after_begin_is text a w = by_certain text (r.AfterBegin a) w (refl, (refl, (inr (skips_semicolons text, inl refl), refl)))

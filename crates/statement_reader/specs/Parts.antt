@@ -20,8 +20,9 @@ use Rattle.tsql_grammar.specs.Productions.{outside, within_while, within_catch}
 use Rattle.tsql_grammar.specs.Terminals.{Terminal}
 use Rattle.tsql_grammar.specs.Trees.{slice, statement}
 use Rattle.lexeme_reader.specs.Reading.{Outcome, read, read_in, expect, sees_any, ◌>>=◌}
-use Rattle.statement_parts.specs.Forms.{select_form, insert_form, update_form, delete_form, drop_form, print_form, raise_error_form, return_form, commit_form, rollback_form, save_form, open_cursor_form, fetch_form, close_cursor_form, deallocate_form}
-use Rattle.statement_parts.specs.Signatures.{events_from}
+use Rattle.statement_parts.specs.Forms.{select_form, insert_form, update_form, delete_form, print_form, raise_error_form, return_form}
+use Rattle.statement_words.specs.Forms.{drop_form, commit_form, rollback_form, save_form, open_cursor_form, fetch_form, close_cursor_form, deallocate_form}
+use Rattle.statement_words.specs.Signatures.{events_from}
 
 -- ---- statements
 

@@ -10,9 +10,9 @@ ghost use Rattle.statement_reader.specs.Parts.{if_form, while_form, try_form, bl
 use crate::nested::{FoundInner, Inner};
 use crate::reader::Reader;
 use lexeme_reader::{Lexemes, ReadFault};
-use query_parser::read_test;
+use query_reader::read_test;
 use sqlite_items::{Boxed, Items};
-use statement_parts::begin_transaction;
+use statement_words::begin_transaction;
 use std::alloc::Global;
 use tsql_grammar::{Around, Class, Kind, Reserved, Word};
 use tsql_tree::{Form, Statement};

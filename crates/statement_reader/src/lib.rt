@@ -1,8 +1,8 @@
 //! Statements, batches and definitions read by descent, by the grammar of `tsql_grammar`.
 //!
 //! Read `specs/Parts.antt` first: what is read behind the first word of a statement, and of a batch.
-//! [`read_batch`] and [`read_definition`] go along [`Lexemes`](query_parser::Lexemes) and give what
-//! reading by descent is, as `Gives` of `query_parser` says it; the layer above relies on exactly that.
+//! [`read_batch`] and [`read_definition`] go along [`Lexemes`](lexeme_reader::Lexemes) and give what
+//! reading by descent is, as `Gives` of `lexeme_reader` says it; the layer above relies on exactly that.
 //! Trees keep parts of the batch's text, which readers are given. Nothing is asked of the caller. Memory
 //! may be wanting at any time; the same is said of a text that nests deeper than 128, which none that
 //! was recognized without a fault does.

@@ -3,13 +3,13 @@
 ghost use Rattle.std.specs.Prelude.{◌≡◌, Err, IfOk, OnErr};
 ghost use Rattle.lexeme_reader.specs.declared.fault.ReadFault.TheVariants.{NoRoom};
 
-use lexeme_reader::ReadFault;
+use lexeme_reader::{ReadFault, no_room};
 use sqlite_items::{Boxed, Items};
 use tsql_grammar::Around;
 use tsql_tree::Statement;
 
 /// What is to be read.
-#[derive(Clone, Copy, Debug)]
+#[derive(Clone, Copy)]
 pub enum Inner {
     /// A statement.
     One(Around),
@@ -36,7 +36,7 @@ impl FoundInner {
     {
         match self {
             FoundInner::One(it) => Ok(it),
-            _ => Err(ReadFault::NoRoom),
+            other => Err(no_room(other)),
         }
     }
 
@@ -47,7 +47,7 @@ impl FoundInner {
     {
         match self {
             FoundInner::Body(it) => Ok(it),
-            _ => Err(ReadFault::NoRoom),
+            other => Err(no_room(other)),
         }
     }
 }

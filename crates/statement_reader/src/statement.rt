@@ -13,9 +13,12 @@ use crate::reader::Reader;
 use lexeme_reader::{Lexemes, ReadFault};
 use sqlite_items::{Boxed, Items};
 use statement_parts::{
-    after_declare, after_execute, after_set, close_cursor, commit, deallocate, delete, drop_object,
-    fetch, insert, open_cursor, print, raise_error, return_from, rollback, save, select, throw,
+    after_declare, after_set, delete, insert, print, raise_error, return_from, select, throw,
     update,
+};
+use statement_words::{
+    after_execute, close_cursor, commit, deallocate, drop_object, fetch, open_cursor, rollback,
+    save,
 };
 use std::alloc::Global;
 use table_reader::table;

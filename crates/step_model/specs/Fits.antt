@@ -199,7 +199,8 @@ refusals_caused session mine = Each (λ before exchange later. IsCaused session 
 
 -- ---- all of them
 
--- The exchanges of a session are as if its transactions had run alone, each at its place in the log.
+-- The exchanges of a session fit the log: what holds to the end of its transaction is as if that had run alone at its place there, and
+-- every other fetch is right at its own number.
 pub record Fits (session : ℕ) (begin log : List Logged) (mine : List Exchange) : Type 0 where
   pub prefix : (later : List Logged) × (log ≡ begin ++ later)
   pub numbers : numbers_rise begin log mine

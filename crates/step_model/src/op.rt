@@ -5,7 +5,7 @@ ghost use Rattle.std.specs.Prelude.{◌≡◌, IfOk};
 use crate::range::{Start, Stop};
 use lock_modes::KeyPart;
 use std::alloc::Global;
-use value_types::{Key, Memory, Row, TableName};
+use value_types::{Key, Memory, Row, TableName, beside};
 
 /// What a fetch locks, and for how long.
 #[derive(Clone, Copy, Debug, PartialEq, Eq)]
@@ -17,7 +17,7 @@ pub enum Hold {
 }
 
 /// One operation of a transaction.
-#[derive(Debug, Drop)]
+#[derive(Drop)]
 pub enum Op {
     /// Begins a transaction.
     Begin,
@@ -87,27 +87,31 @@ impl Op {
                 stop,
                 hold,
                 part,
-            } => Op::Fetch {
-                table: table.copy(alloc)?,
-                start: start.copy(alloc)?,
-                stop: stop.copy(alloc)?,
-                hold: *hold,
-                part: *part,
-            },
-            Op::Insert { table, key, row } => Op::Insert {
-                table: table.copy(alloc)?,
-                key: key.copy(alloc)?,
-                row: row.copy(alloc)?,
-            },
-            Op::Replace { table, key, row } => Op::Replace {
-                table: table.copy(alloc)?,
-                key: key.copy(alloc)?,
-                row: row.copy(alloc)?,
-            },
-            Op::Erase { table, key } => Op::Erase {
-                table: table.copy(alloc)?,
-                key: key.copy(alloc)?,
-            },
+            } => {
+                let (table, start) = beside(table.copy(alloc)?, start.copy(alloc))?;
+                let ((table, start), stop) = beside((table, start), stop.copy(alloc))?;
+                Op::Fetch {
+                    table,
+                    start,
+                    stop,
+                    hold: *hold,
+                    part: *part,
+                }
+            }
+            Op::Insert { table, key, row } => {
+                let (table, key) = beside(table.copy(alloc)?, key.copy(alloc))?;
+                let ((table, key), row) = beside((table, key), row.copy(alloc))?;
+                Op::Insert { table, key, row }
+            }
+            Op::Replace { table, key, row } => {
+                let (table, key) = beside(table.copy(alloc)?, key.copy(alloc))?;
+                let ((table, key), row) = beside((table, key), row.copy(alloc))?;
+                Op::Replace { table, key, row }
+            }
+            Op::Erase { table, key } => {
+                let (table, key) = beside(table.copy(alloc)?, key.copy(alloc))?;
+                Op::Erase { table, key }
+            }
             Op::Mark => Op::Mark,
             Op::BackTo { mark } => Op::BackTo { mark: *mark },
             Op::Relax => Op::Relax,

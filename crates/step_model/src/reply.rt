@@ -9,7 +9,7 @@ use std::alloc::Global;
 use value_types::{Key, Memory as NoMemory, Row};
 
 /// The answer to an operation.
-#[derive(Debug, Drop)]
+#[derive(Drop)]
 pub enum Reply {
     /// A transaction has begun.
     Began,

@@ -14,6 +14,7 @@ use crate::words::{
 };
 use std::alloc::Global;
 use step_model::Op;
+use value_types::beside;
 
 /// The line of a session whose command has these words.
 #[tactic(auto, unfolding(crate::specs::Lines::command_in))]
@@ -139,7 +140,7 @@ fn erase(alloc: Global, table: &[u8], key: &[u8]) -> Result<Op, LineFault>
     ensures { Reads result (erase_of (table_in table.now) (key_in key.now)) }
 {
     let table = read_table(alloc, table)?;
-    let key = read_key(alloc, key)?;
+    let (table, key) = beside(table, read_key(alloc, key))?;
     Ok(Op::Erase { table, key })
 }
 
@@ -147,11 +148,11 @@ fn erase(alloc: Global, table: &[u8], key: &[u8]) -> Result<Op, LineFault>
 fn insert(alloc: Global, table: &[u8], key: &[u8], value: &[u8]) -> Result<Op, LineFault>
     ensures { Reads result (insert_of (table_in table.now) (long_in key.now) (long_in value.now)) }
 {
-    let table = read_table(alloc, table)?;
     let number = read_long(key)?;
     let value = read_long(value)?;
-    let key = key_of(alloc, number)?;
-    let row = row_of(alloc, number, value)?;
+    let table = read_table(alloc, table)?;
+    let (table, key) = beside(table, key_of(alloc, number))?;
+    let ((table, key), row) = beside((table, key), row_of(alloc, number, value))?;
     Ok(Op::Insert { table, key, row })
 }
 
@@ -159,11 +160,11 @@ fn insert(alloc: Global, table: &[u8], key: &[u8], value: &[u8]) -> Result<Op, L
 fn replace(alloc: Global, table: &[u8], key: &[u8], value: &[u8]) -> Result<Op, LineFault>
     ensures { Reads result (replace_of (table_in table.now) (long_in key.now) (long_in value.now)) }
 {
-    let table = read_table(alloc, table)?;
     let number = read_long(key)?;
     let value = read_long(value)?;
-    let key = key_of(alloc, number)?;
-    let row = row_of(alloc, number, value)?;
+    let table = read_table(alloc, table)?;
+    let (table, key) = beside(table, key_of(alloc, number))?;
+    let ((table, key), row) = beside((table, key), row_of(alloc, number, value))?;
     Ok(Op::Replace { table, key, row })
 }
 
@@ -178,11 +179,11 @@ fn fetch(
 ) -> Result<Op, LineFault>
     ensures { Reads result (fetch_of (table_in table.now) (start_in start.now) (stop_in stop.now) (hold_in hold.now) (part_in part.now)) }
 {
-    let table = read_table(alloc, table)?;
-    let start = read_start(alloc, start)?;
-    let stop = read_stop(alloc, stop)?;
     let hold = read_hold(hold)?;
     let part = read_part(part)?;
+    let table = read_table(alloc, table)?;
+    let (table, start) = beside(table, read_start(alloc, start))?;
+    let ((table, start), stop) = beside((table, start), read_stop(alloc, stop))?;
     Ok(Op::Fetch {
         table,
         start,

@@ -13,7 +13,7 @@ use thiserror::Error;
 use value_types::Memory;
 
 /// One line of a script.
-#[derive(Debug, Drop)]
+#[derive(Drop)]
 pub enum Line {
     /// A session asks the engine an operation.
     Ask {
@@ -39,7 +39,7 @@ pub enum Line {
 }
 
 /// Why a text gives no line.
-#[derive(Clone, Copy, Debug, PartialEq, Eq, Error)]
+#[derive(Clone, Copy, Debug, Error)]
 pub enum LineFault {
     /// It spells none.
     #[error("the text is no line of a script")]

@@ -13,8 +13,8 @@ use Rattle.tsql_grammar.specs.Productions.{Tree}
 use Rattle.tsql_grammar.specs.Terminals.{terminals}
 use Rattle.tsql_grammar.proofs.PlainTexts.{plain_reads}
 use Rattle.tsql_grammar.proofs.Readings.{one_reading}
-use Rattle.query_parser.specs.declared.fault.ParseFault.{ParseFault}
-use Rattle.query_parser.specs.declared.fault.ParseFault.TheVariants as fault
+use Rattle.tsql_grammar.specs.declared.fault.ParseFault.{ParseFault}
+use Rattle.tsql_grammar.specs.declared.fault.ParseFault.TheVariants as fault
 use Rattle.stmt_parser.specs.Parsed.{lexemes_of, end_of, Stands, BeginsText, StopsText, line_in, near_in, shown_of, number_of, IsUnread, IsWrong, BatchOf, DefinitionOf}
 
 one_tree : (a : Rule) (text : List ℕ) (x y : Tree a) (f g : Option (TextFault × ℕ)) → Stands a text x f → Stands a text y g → (x ≡ y) × (f ≡ g)

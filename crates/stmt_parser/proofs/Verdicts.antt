@@ -16,7 +16,7 @@ use Rattle.tsql_grammar.proofs.PlainTexts.{kinds_read, plain_stops}
 use Rattle.grammar_laws.specs.Grammar.{next}
 use Rattle.tsql_recognizer.specs.declared.recognizer.Verdict.TheVariants.{Stops, Reads}
 use Rattle.tsql_recognizer.specs.Verdict.{IsVerdict}
-use Rattle.query_parser.specs.declared.fault.ParseFault.TheVariants as fault
+use Rattle.tsql_grammar.specs.declared.fault.ParseFault.TheVariants as fault
 use Rattle.stmt_parser.specs.Judging.{IsJudged}
 use Rattle.stmt_parser.specs.Parsed.{lexemes_of, flaw_of, Stands, StopsText, line_by, near_by, line_in, near_in, shown_of, number_of, syntax_error, IsFault}
 

@@ -18,8 +18,8 @@ use Rattle.tsql_grammar.specs.Noted.{Noted, start}
 use Rattle.tsql_grammar.specs.PlainText.{ReadsPlain, IsPlainText}
 use Rattle.tsql_grammar.specs.Productions.{Tree}
 use Rattle.tsql_grammar.specs.Trees.{slice}
-use Rattle.query_parser.specs.declared.fault.ParseFault.{ParseFault}
-use Rattle.query_parser.specs.declared.fault.ParseFault.TheVariants as fault
+use Rattle.tsql_grammar.specs.declared.fault.ParseFault.{ParseFault}
+use Rattle.tsql_grammar.specs.declared.fault.ParseFault.TheVariants as fault
 
 -- ---- what a text is of a rule
 

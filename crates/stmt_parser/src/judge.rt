@@ -9,9 +9,8 @@ ghost use Rattle.stmt_parser.specs.Judging.{IsJudged};
 ghost use Rattle.stmt_parser.specs.Parsed.{Stands, StopsText, IsFault, number_of, shown_of};
 
 use crate::place::{line_in, near_in};
-use query_parser::ParseFault;
 use std::alloc::Global;
-use tsql_grammar::{Rule, TextFault};
+use tsql_grammar::{ParseFault, Rule, TextFault};
 use tsql_lexer::Lexing;
 use tsql_recognizer::{Verdict, recognize};
 use value_types::{Memory, Units};

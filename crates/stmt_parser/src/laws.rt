@@ -3,8 +3,8 @@
 ghost use Rattle.std.specs.Prelude.{◌≡◌, ℕ, List, Result, Err};
 ghost use Rattle.tsql_tree.specs.declared.definition.Definition.{Definition as DefinitionTree};
 ghost use Rattle.tsql_tree.specs.declared.statement.Batch.{Batch as BatchTree};
-ghost use Rattle.query_parser.specs.declared.fault.ParseFault.{ParseFault as Fault};
-ghost use Rattle.query_parser.specs.declared.fault.ParseFault.TheVariants.{Memory as NoMemory};
+ghost use Rattle.tsql_grammar.specs.declared.fault.ParseFault.{ParseFault as Fault};
+ghost use Rattle.tsql_grammar.specs.declared.fault.ParseFault.TheVariants.{Memory as NoMemory};
 ghost use Rattle.stmt_parser.specs.Parsed.{BatchOf, DefinitionOf};
 
 /// A text has one outcome, but for want of memory.

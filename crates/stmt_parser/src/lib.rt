@@ -18,4 +18,4 @@ mod place;
 
 pub use laws::law_one_outcome;
 pub use parse::{parse_batch, parse_definition};
-pub use query_parser::ParseFault;
+pub use tsql_grammar::ParseFault;

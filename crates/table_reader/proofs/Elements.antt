@@ -18,7 +18,7 @@ use Rattle.tsql_grammar.specs.Trees.{Draft, Traits, empty_draft, add_column, add
 use Rattle.lexeme_reader.proofs.Front.{if_bind, when_bind, bind_assoc}
 use Rattle.lexeme_reader.specs.Reading.{Outcome, read, expect, sees_any, ◌>>=◌, when, applied}
 use Rattle.table_reader.specs.Drafts.{column_rest, column_from, column_constraint_from, enclosed_names}
-use Rattle.statement_parts.proofs.Ways.{by_order}
+use Rattle.lexeme_reader.proofs.Ways.{by_order}
 
 abbrev sign : Sign → Class
 sign a = c.One (k.Sign a)
@@ -29,24 +29,24 @@ reserved a = c.One (k.Reserved a)
 -- a table, whose elements are read one after another
 pub table_is : (w : List Terminal) → read r.Table w
     ≡ (do x ← expect (reserved word.Table) w; name ← read r.Object x.1; y ← expect (sign s.Open) name.1; first ← applied (empty_draft name.0) (read r.Element y.1); more ← applied first.0 (read r.MoreElements first.1); z ← expect (sign s.Close) more.1; Some ((more.0.table, z.0.spanned.end), z.1))
-table_is w = by_order r.Table w refl ∙ simp bind_assoc
+table_is w = by_order [] r.Table w refl ∙ simp bind_assoc
 
 pub more_elements_on : (d : Draft) (w : List Terminal) → applied d (read r.MoreElements w)
     ≡ when (expect (sign s.Comma) w) (λ x. do y ← applied d (read r.Element x.1); applied y.0 (read r.MoreElements y.1)) (Some (d, w))
-more_elements_on d w = ap (applied d) (by_order r.MoreElements w refl) ∙ simp (when_bind, bind_assoc)
+more_elements_on d w = ap (applied d) (by_order [] r.MoreElements w refl) ∙ simp (when_bind, bind_assoc)
 
 pub element_on : (d : Draft) (w : List Terminal) → applied d (read r.Element w)
     ≡ when (expect c.Name w) (λ x. do kind ← read r.Type x.1; column_from (units x.0) kind.0 d kind.1)
     (when (expect (reserved word.Constraint) w) (λ x. do y ← expect c.Name x.1; z ← read r.TableConstraint y.1; Some (z.0 (Some (units y.0)) d, z.1))
     (do z ← read r.TableConstraint w; Some (z.0 None d, z.1)))
-element_on d w = ap (applied d) (by_order r.Element w refl) ∙ simp (when_bind, bind_assoc)
+element_on d w = ap (applied d) (by_order [] r.Element w refl) ∙ simp (when_bind, bind_assoc)
 
 pub table_constraint_is : (w : List Terminal) → read r.TableConstraint w
     ≡ when (expect (reserved word.Primary) w) (λ x. do a ← expect (reserved word.Key) x.1; y ← enclosed_names a.1; Some (add_key y.0, y.1))
     (when (expect (reserved word.Unique) w) (λ x. do y ← enclosed_names x.1; Some (add_unique y.0, y.1))
     (when (expect (reserved word.Check) w) (λ x. do b ← expect (sign s.Open) x.1; y ← read r.Test b.1; z ← expect (sign s.Close) y.1; Some (add_check y.0, z.1))
     (do x ← expect (reserved word.Foreign) w; a ← expect (reserved word.Key) x.1; y ← enclosed_names a.1; b ← expect (reserved word.References) y.1; parent ← read r.Object b.1; z ← enclosed_names parent.1; Some (add_foreign y.0 parent.0 z.0, z.1))))
-table_constraint_is w = by_order r.TableConstraint w refl ∙ simp bind_assoc
+table_constraint_is w = by_order [] r.TableConstraint w refl ∙ simp bind_assoc
 
 -- a constraint of a column, and what is done with it
 then_constraint : {X : Type 0} (w : List Terminal) (g : Tree r.ColumnConstraint → List Terminal → Option X)
@@ -55,7 +55,7 @@ then_constraint : {X : Type 0} (w : List Terminal) (g : Tree r.ColumnConstraint 
     (when (expect (reserved word.Unique) w) (λ x. g (λ name column. add_unique (column ∷ []) name) x.1)
     (when (expect (reserved word.Check) w) (λ x. do a ← expect (sign s.Open) x.1; y ← read r.Test a.1; z ← expect (sign s.Close) y.1; g (λ name column. add_check y.0 name) z.1)
     (do x ← expect (reserved word.References) w; y ← read r.Object x.1; z ← read r.ReferencedColumn y.1; g (λ name column. add_foreign (column ∷ []) y.0 z.0 name) z.1)))
-then_constraint w g = ap (λ (o : Outcome (Tree r.ColumnConstraint)). o >>= λ x. g x.0 x.1) (by_order r.ColumnConstraint w refl) ∙ simp (when_bind, bind_assoc)
+then_constraint w g = ap (λ (o : Outcome (Tree r.ColumnConstraint)). o >>= λ x. g x.0 x.1) (by_order [] r.ColumnConstraint w refl) ∙ simp (when_bind, bind_assoc)
 
 pub column_constraint_is : (column : List ℕ) (w : List Terminal) → column_constraint_from column w
     ≡ when (expect (reserved word.Primary) w) (λ x. do y ← expect (reserved word.Key) x.1; Some (add_key (column ∷ []), y.1))
@@ -102,9 +102,9 @@ pub column_on : (name : List ℕ) (kind : SqlType) (required : Bool) (d : Draft)
     (if sees_any (first_classes r.ColumnConstraint) w then (do z ← column_constraint_from name w; column_rest name kind required (z.0 None d) z.1)
     else Some (add_column (column_of name kind required) d, w))))
 column_on name kind required d w =
-    ap (ended name kind required d) (by_order r.ColumnTraits w refl)
+    ap (ended name kind required d) (by_order [] r.ColumnTraits w refl)
     ∙ simp (when_bind, if_bind, bind_assoc, or_true, or_same, behind_constraint)
 
 pub referenced_column_is : (w : List Terminal) → read r.ReferencedColumn w
     ≡ when (expect (sign s.Open) w) (λ x. do y ← expect c.Name x.1; z ← expect (sign s.Close) y.1; Some (units y.0 ∷ [], z.1)) (Some ([], w))
-referenced_column_is w = by_order r.ReferencedColumn w refl
+referenced_column_is w = by_order [] r.ReferencedColumn w refl

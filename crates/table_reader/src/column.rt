@@ -6,14 +6,14 @@ ghost use Rattle.lexeme_reader.specs.Reading.{read, Gives};
 ghost use Rattle.table_reader.specs.Drafts.{draft_of, GivesDraft, GivesConstraint, column_from, column_constraint_from};
 
 use crate::draft::{Constraint, TableDraft};
-use lexeme_reader::{Lexemes, ReadFault};
-use query_parser::{beside, object, read_test};
+use lexeme_reader::{Lexemes, ReadFault, object};
+use query_reader::read_test;
 use sqlite_items::Items;
 use std::alloc::Global;
 use tsql_grammar::{Class, Kind, Reserved};
 use tsql_lexer::Sign;
 use tsql_tree::ColumnTree;
-use value_types::{Memory, SqlType, Units};
+use value_types::{Memory, SqlType, Units, beside};
 
 /// What constraints of columns begin with.
 const BEGINS_CONSTRAINT: [Class; 4] = [

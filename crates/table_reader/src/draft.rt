@@ -5,11 +5,10 @@ ghost use Rattle.tsql_grammar.specs.Trees as trees;
 ghost use Rattle.table_reader.specs.Drafts.{draft_of, added_by};
 
 use itoa::Buffer;
-use query_parser::beside;
 use sqlite_items::Items;
 use std::alloc::Global;
 use tsql_tree::{CheckTree, ColumnTree, ForeignTree, KeyTree, TableTree, Test};
-use value_types::{Memory, Units};
+use value_types::{Memory, Units, beside};
 
 /// A constraint, but for its name.
 #[derive(Drop)]

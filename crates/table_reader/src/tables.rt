@@ -7,15 +7,15 @@ ghost use Rattle.table_reader.specs.Drafts.{draft_of, GivesDraft, GivesConstrain
 
 use crate::column::column;
 use crate::draft::{Constraint, TableDraft};
-use lexeme_reader::{Lexemes, ReadFault};
-use query_parser::{beside, object, read_test, sql_type};
+use lexeme_reader::{Lexemes, ReadFault, object, sql_type};
+use query_reader::read_test;
 use sqlite_items::Items;
-use statement_parts::names;
+use statement_words::names;
 use std::alloc::Global;
 use tsql_grammar::{Class, Kind, Reserved};
 use tsql_lexer::Sign;
 use tsql_tree::TableTree;
-use value_types::Units;
+use value_types::{Units, beside};
 
 /// A table, and where its last lexeme ends.
 #[tactic(auto, using(crate::proofs::Elements::table_is))]

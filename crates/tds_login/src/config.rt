@@ -3,7 +3,7 @@
 use value_types::Units;
 
 /// How a connection begins.
-#[derive(Clone, Copy, Debug, PartialEq, Eq)]
+#[derive(Clone, Copy)]
 pub enum Entry {
     /// The client logs in first.
     Login,

@@ -79,7 +79,7 @@ pub struct Login {
 }
 
 /// Why a payload is no LOGIN7 that is served.
-#[derive(Clone, Copy, Debug, PartialEq, Eq, Error)]
+#[derive(Clone, Copy, Debug, Error)]
 pub enum LoginFault {
     /// It has fewer than the 94 bytes of the fixed part.
     #[error("the login has fewer than 94 bytes")]

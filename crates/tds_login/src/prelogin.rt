@@ -36,7 +36,7 @@ const REPLY: [u8; 35] = [
 ];
 
 /// What a PRELOGIN says.
-#[derive(Clone, Copy, Debug, PartialEq, Eq)]
+#[derive(Clone, Copy)]
 pub struct Prelogin {
     /// The value of ENCRYPTION, where the client sent one: 0 ENCRYPT_OFF, 1 ENCRYPT_ON, 2
     /// ENCRYPT_NOT_SUP, 3 ENCRYPT_REQ. The answer is ENCRYPT_NOT_SUP, whatever it is.

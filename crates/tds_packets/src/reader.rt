@@ -18,7 +18,7 @@ use std::marker::Model;
 const BYTE_LIMIT: u64 = 1 << 40;
 
 /// Reads the messages of one stream. A clause sees it as how many bytes it has taken so far.
-#[derive(Debug, Drop)]
+#[derive(Drop)]
 pub struct Reader {
     taken: u64,
 }

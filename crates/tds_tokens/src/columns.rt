@@ -6,7 +6,7 @@ use std::marker::Model;
 use value_types::{SqlType, Units};
 
 /// One column of a result.
-#[derive(Debug, Drop, PartialEq, Eq)]
+#[derive(Drop)]
 pub struct ColumnInfo {
     /// The type of its values.
     pub kind: SqlType,
@@ -15,7 +15,7 @@ pub struct ColumnInfo {
 }
 
 /// The columns of a result, in order.
-#[derive(Debug, Drop)]
+#[derive(Drop)]
 pub struct ColumnList {
     columns: Vec<ColumnInfo>,
 }
@@ -35,26 +35,6 @@ impl From<Vec<ColumnInfo>> for ColumnList {
     fn from(columns: Vec<ColumnInfo>) -> ColumnList {
         ColumnList { columns }
     }
-}
-
-impl PartialEq for ColumnList {
-    ghost use Rattle.std.specs.Cmp.Lexicographic.{pointwise, lists_per};
-    ghost use Rattle.tds_tokens.specs.contracts.columns.ColumnInfoPartialEq.TheImpl.Laws.{laws-law};
-
-    ghost eq = { pointwise ⟦<ColumnInfo as PartialEq>⟧.eq };
-
-    ghost laws = { lists_per laws-law };
-
-    fn eq(&self, other: &ColumnList) -> bool {
-        self.columns == other.columns
-    }
-}
-
-impl Eq for ColumnList {
-    ghost use Rattle.std.specs.Cmp.Lexicographic.{lists_equiv};
-    ghost use Rattle.tds_tokens.specs.contracts.columns.ColumnInfoEq.TheImpl.Laws.{laws-law};
-
-    ghost laws = { lists_equiv laws-law };
 }
 
 impl ColumnList {

@@ -8,7 +8,7 @@ use std::alloc::{AllocError, AllocFailed};
 use thiserror::Error;
 
 /// Why the bytes could not be read as tokens.
-#[derive(Clone, Copy, Debug, PartialEq, Eq, Error)]
+#[derive(Clone, Copy, Debug, Error)]
 pub enum TokenFault {
     /// No token begins at this byte, behind the tokens before it.
     #[error("no token begins at byte {at}")]

@@ -9,7 +9,7 @@ use value_types::Units;
 pub const TEXT_LIMIT: usize = 2000;
 
 /// An error or a message as its client sees it ([MS-TDS] 2.2.7.10 and 2.2.7.13).
-#[derive(Debug, Drop, PartialEq, Eq)]
+#[derive(Drop)]
 pub struct Notice {
     /// The error's number.
     pub number: i32,

@@ -9,7 +9,7 @@ use crate::notice::Notice;
 use value_types::{Row, Units};
 
 /// Which of the DONE tokens it is ([MS-TDS] 2.2.7.6 to 2.2.7.8).
-#[derive(Clone, Copy, Debug, PartialEq, Eq)]
+#[derive(Clone, Copy)]
 pub enum DoneKind {
     /// DONE: a statement of a batch, or the batch, is over.
     Done,
@@ -20,7 +20,7 @@ pub enum DoneKind {
 }
 
 /// A token ([MS-TDS] 2.2.7).
-#[derive(Debug, Drop, PartialEq, Eq)]
+#[derive(Drop)]
 pub enum Token {
     /// LOGINACK (2.2.7.14): the login is granted.
     LoginAck {

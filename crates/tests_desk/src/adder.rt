@@ -8,7 +8,7 @@ use std::marker::Model;
 use turn_desk::Machine;
 
 /// What a call of the machine is answered.
-#[derive(Clone, Copy, Debug, PartialEq, Eq)]
+#[derive(Clone, Copy, PartialEq, Eq)]
 pub enum AddReply {
     /// It was added; this was the sum before.
     Was(u64),

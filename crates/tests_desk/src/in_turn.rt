@@ -41,23 +41,13 @@ pub(crate) fn machine_of_two<A: Allocator>(
 #[test]
 fn two_seats_add_in_turn(rt: HostRuntime) -> Result<(), Fail> {
     let (desk, mut first, mut second) = desk_of_two(rt.alloc(), Adder::new(rt.alloc()))?;
-    assert_eq!(rt; (desk.seats(), first.number(), second.number()), (2, 1, 2));
-    assert_eq!(rt; desk.act(&rt, &mut first, &5), AddReply::Was(0));
-    assert_eq!(rt; desk.act(&rt, &mut second, &7), AddReply::Was(5));
-    assert_eq!(rt; desk.act(&rt, &mut first, &1), AddReply::Was(12));
+    assert!(rt; desk.seats() == 2 && first.number() == 1 && second.number() == 2);
+    assert!(rt; desk.act(&rt, &mut first, &5) == AddReply::Was(0));
+    assert!(rt; desk.act(&rt, &mut second, &7) == AddReply::Was(5));
+    assert!(rt; desk.act(&rt, &mut first, &1) == AddReply::Was(12));
     let machine = machine_of_two(rt.alloc(), desk, first, second)?;
-    assert_eq!(rt; machine.sum(), 13);
-    assert_eq!(rt; machine.calls(), [(1, 5), (2, 7), (1, 1)].as_slice());
-    Ok(())
-}
-
-#[test]
-fn sums_wrap(rt: HostRuntime) -> Result<(), Fail> {
-    let (desk, mut first, mut second) = desk_of_two(rt.alloc(), Adder::new(rt.alloc()))?;
-    assert_eq!(rt; desk.act(&rt, &mut first, &u64::MAX), AddReply::Was(0));
-    assert_eq!(rt; desk.act(&rt, &mut second, &3), AddReply::Was(u64::MAX));
-    let machine = machine_of_two(rt.alloc(), desk, first, second)?;
-    assert_eq!(rt; machine.sum(), 2);
+    assert!(rt; machine.sum() == 13);
+    assert!(rt; machine.calls() == [(1, 5), (2, 7), (1, 1)].as_slice());
     Ok(())
 }
 
@@ -79,10 +69,9 @@ fn want_of_memory_adds_nothing(rt: HostRuntime) -> Result<(), Fail> {
     let heap = LocalHeap::new(rt.alloc(), 256)?;
     let (desk, mut first, mut second) = desk_of_two(rt.alloc(), Adder::new(&heap))?;
     let added = add_ones(&rt, &desk, &mut first);
-    assert!(rt; 0 < added && added < 17, "{added} calls were stored");
-    assert_eq!(rt; desk.act(&rt, &mut second, &7), AddReply::Memory);
+    assert!(rt; 0 < added && added < 17);
+    assert!(rt; desk.act(&rt, &mut second, &7) == AddReply::Memory);
     let machine = machine_of_two(rt.alloc(), desk, first, second)?;
-    assert_eq!(rt; machine.sum(), added);
-    assert_eq!(rt; machine.calls().len() as u64, added);
+    assert!(rt; machine.sum() == added && machine.calls().len() as u64 == added);
     Ok(())
 }

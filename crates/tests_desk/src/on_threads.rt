@@ -58,12 +58,12 @@ fn four_threads_add_each_once(rt: HostRuntime) -> Result<(), Fail> {
     let mut next = [0u64; 5];
     for (number, call) in machine.calls() {
         let seat = *number as usize;
-        assert!(rt; 1 <= seat && seat <= 4, "seat {seat}");
-        assert_eq!(rt; *call, next[seat], "seat {seat}");
+        assert!(rt; 1 <= seat && seat <= 4);
+        assert!(rt; *call == next[seat]);
         next[seat] = next[seat].wrapping_add(1);
     }
-    assert_eq!(rt; next, [0, ACTS, ACTS, ACTS, ACTS]);
-    assert_eq!(rt; machine.sum(), 4 * (ACTS * (ACTS - 1) / 2));
+    assert!(rt; next == [0, ACTS, ACTS, ACTS, ACTS]);
+    assert!(rt; machine.sum() == 4 * (ACTS * (ACTS - 1) / 2));
     Ok(())
 }
 
@@ -102,9 +102,9 @@ fn add_apart<R: Threads + Wait + Sync>(
 fn seats_go_to_threads_and_back(rt: HostRuntime) -> Result<(), Fail> {
     let (desk, first, second) = desk_of_two(rt.alloc(), Adder::new(rt.alloc()))?;
     let (mut first, second) = add_apart(&rt, &desk, first, second);
-    assert_eq!(rt; (first.number(), second.number()), (1, 2));
-    assert_eq!(rt; desk.act(&rt, &mut first, &1), AddReply::Was(12));
+    assert!(rt; first.number() == 1 && second.number() == 2);
+    assert!(rt; desk.act(&rt, &mut first, &1) == AddReply::Was(12));
     let machine = machine_of_two(rt.alloc(), desk, first, second)?;
-    assert_eq!(rt; machine.sum(), 13);
+    assert!(rt; machine.sum() == 13);
     Ok(())
 }

@@ -3,8 +3,7 @@
 /// The steps: each is a statement, or a batch of some. The first line of one has those that it comes behind, by their numbers; the
 /// name of what the tables have behind it; how many commits the log has then; and the DONE of the statement where memory was
 /// wanting for it. The second is the text. Behind `=> told` stands what it tells, behind `=> refused` how else it is told that
-/// memory was wanting, and behind `=> caught` what is told where that was caught. A line `no memory` is the error 701, and `#` the
-/// number of a transaction.
+/// memory was wanting, and behind `=> caught` what is told where that was caught. A line `no memory` is the error 701.
 pub(crate) const STEPS: &str = "- orders 1 DONE(03,0,0)
 CREATE TABLE orders (id INT NOT NULL PRIMARY KEY, customer NVARCHAR(20) NOT NULL)
 => told
@@ -54,7 +53,7 @@ DONE(00,0,0)
 1.2.3.4 filled 4 DONE(03,0,0)
 BEGIN TRAN
 => told
-ENVCHANGE 8 with #
+ENVCHANGE 8
 DONE(00,0,0)
 ---
 1.2.3.4.8 four 4 DONE(03,C3,0)
@@ -95,7 +94,7 @@ DONE(00,0,0)
 1.2.3.4.8.9 four 5 DONE(03,0,0)
 COMMIT
 => told
-ENVCHANGE 9 with #
+ENVCHANGE 9
 DONE(00,0,0)
 ---
 1.2.3.4.8 filled 4 DONE(03,0,0)
@@ -111,7 +110,7 @@ DONE(00,0,0)
 1.2.3.4.8.9 filled 4 DONE(03,0,0)
 ROLLBACK
 => told
-ENVCHANGE 10 with #
+ENVCHANGE 10
 DONE(00,0,0)
 ---
 1.2.3.4 filled 4 DONE(03,0,0)
@@ -122,53 +121,53 @@ DONE(00,0,0)
 1.2.3.4.19 filled 4 -
 BEGIN TRAN; UPDATE orders SET customer = N'Y'; SELECT 1 / 0
 => told
-ENVCHANGE 8 with #
+ENVCHANGE 8
 DONE(11,C5,3)
 ERROR 8134 class 16 state 1 line 1: Divide by zero error encountered.
-ENVCHANGE 10 with #
+ENVCHANGE 10
 DONE(02,0,0)
 => refused
 no memory
 DONE(02,0,0)
 => refused
-ENVCHANGE 8 with #
+ENVCHANGE 8
 no memory
-ENVCHANGE 10 with #
+ENVCHANGE 10
 DONE(02,0,0)
 => refused
-ENVCHANGE 8 with #
+ENVCHANGE 8
 DONE(11,C5,3)
 no memory
-ENVCHANGE 10 with #
+ENVCHANGE 10
 DONE(02,0,0)
 ---
 1.2.3.4.19 filled 4 -
 BEGIN TRAN; BEGIN TRY UPDATE orders SET customer = N'Y'; SELECT 1 / 0 END TRY BEGIN CATCH SELECT XACT_STATE() AS x END CATCH
 => told
-ENVCHANGE 8 with #
+ENVCHANGE 8
 DONE(11,C5,3)
 COL(x SMALLINT)
 ROW(-1)
 DONE(11,C1,1)
 ERROR 3998 class 16 state 1 line 1: Uncommittable transaction is detected at the end of the batch.
-ENVCHANGE 10 with #
+ENVCHANGE 10
 DONE(02,0,0)
 => refused
 no memory
 DONE(02,0,0)
 => refused
-ENVCHANGE 8 with #
+ENVCHANGE 8
 DONE(11,C5,3)
 no memory
-ENVCHANGE 10 with #
+ENVCHANGE 10
 DONE(02,0,0)
 => caught
-ENVCHANGE 8 with #
+ENVCHANGE 8
 COL(x SMALLINT)
 ROW(-1)
 DONE(11,C1,1)
 ERROR 3998 class 16 state 1 line 1: Uncommittable transaction is detected at the end of the batch.
-ENVCHANGE 10 with #
+ENVCHANGE 10
 DONE(02,0,0)
 ---
 1.2.3.4 filled 4 DONE(03,C1,0)

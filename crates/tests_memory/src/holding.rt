@@ -5,14 +5,13 @@ ghost use Rattle.step_model.specs.Exchange.{MayAsk};
 ghost use Rattle.engine_core.specs.Solo.{solo_open, solo_past};
 
 use crate::judging::{Left, Outcome, Step, outcome_of, step_count, step_numbered};
+use crate::replies::{put_batch, told_of};
 use engine_core::SoloPort;
 use outside_io::{MemorySink, MemorySource};
 use session_server::{End, serve_on_port};
 use std::alloc::Global;
 use step_model::{Manner, Op, Patience, Port, Reply};
 use tds_login::{Config, Entry};
-use tds_tokens::{TokenFault, read_tokens};
-use tests_kit::{ReplyFault, batch, lines_of, replies_of};
 use value_types::{Memory, Units};
 
 /// The queries that show the tables.
@@ -52,7 +51,9 @@ pub(crate) fn hold(alloc: Global, number: u32) -> Outcome {
 
 /// The input of the conversation, and that of the connection behind it.
 fn inputs_of(alloc: Global, step: &Step<'_>) -> Result<(Vec<u8>, Vec<u8>), Memory> {
-    Ok((input_of(alloc, step)?, batch(alloc, LOOK)?))
+    let mut look = Vec::new(alloc);
+    put_batch(&mut look, LOOK)?;
+    Ok((input_of(alloc, step)?, look))
 }
 
 /// The batches of the conversation: the steps that the step comes behind, if there are any, as one; the step; and a look at the
@@ -61,10 +62,10 @@ fn input_of(alloc: Global, step: &Step<'_>) -> Result<Vec<u8>, Memory> {
     let mut input = Vec::new(alloc);
     let before = text_before(alloc, step)?;
     if !before.is_empty() {
-        input.extend_from_slice(&batch(alloc, &before)?)?;
+        put_batch(&mut input, &before)?;
     }
-    input.extend_from_slice(&batch(alloc, step.text)?)?;
-    input.extend_from_slice(&batch(alloc, LOOK)?)?;
+    put_batch(&mut input, step.text)?;
+    put_batch(&mut input, LOOK)?;
     Ok(input)
 }
 
@@ -125,37 +126,6 @@ fn serve(alloc: Global, port: &mut SoloPort, input: Vec<u8>) -> (End, Vec<u8>)
     let mut sink = MemorySink::new(alloc, 4096, Vec::new(alloc));
     let end = serve_on_port(alloc, 1, port, &config, &mut source, &mut sink);
     (end, sink.into_bytes())
-}
-
-/// The replies that a connection wrote, each as lines.
-fn told_of(alloc: Global, written: &[u8]) -> Result<Vec<String>, Memory> {
-    let mut told = Vec::new(alloc);
-    match replies_of(alloc, written, 4096) {
-        Ok(replies) => {
-            for reply in &replies {
-                told.push(lines_in(alloc, &reply.payload)?)?;
-            }
-        }
-        Err(ReplyFault::Memory) => return Err(Memory),
-        Err(ReplyFault::Packet { .. }) => told.push("no packets".to_string(alloc)?)?,
-    }
-    Ok(told)
-}
-
-/// The tokens of a reply, a line each.
-fn lines_in(alloc: Global, payload: &[u8]) -> Result<String, Memory> {
-    let mut lines = String::new(alloc);
-    match read_tokens(alloc, payload) {
-        Ok(tokens) => {
-            for line in &lines_of(alloc, &tokens)? {
-                lines.push_str(line)?;
-                lines.push('\n')?;
-            }
-        }
-        Err(TokenFault::Memory) => return Err(Memory),
-        Err(_) => lines.push_str("no tokens\n")?,
-    }
-    Ok(lines)
 }
 
 /// How many commits the log has, if there is memory for a transaction that asks nothing.

@@ -9,6 +9,7 @@
 mod conversation;
 mod holding;
 mod judging;
+mod replies;
 
 use holding::{hold, hold_all};
 use judging::Outcome;

@@ -1,254 +1,182 @@
-//! What each statement asks of its port, in order, and what it tells by the answers.
+//! What statements ask of their port, in order, and what they tell where it refuses an operation.
 
-ghost use Rattle.std.specs.Prelude.{◌≡◌, IfOk};
+ghost use Rattle.std.specs.Prelude.{◌≡◌, false, IfOk};
+ghost use Rattle.engine_core.specs.Solo.{solo_open};
 
-use crate::rows::{DEFINED, key_of, port_with};
 use crate::served::reply_to;
-use crate::watched::{Refusal, Watched};
+use crate::watched::{Answer, Watched};
+use engine_core::SoloPort;
 use std::alloc::{AllocError, Global};
-use std::process::Abort;
 use std::test::Fail;
 use value_types::Memory;
 
-/// The rows of `t` that a statement finds.
-const ROWS: &str = "1 = 1|10
-2 = 2|20
-3 = 3|30";
+const TABLE: &str = "CREATE TABLE t (k INT NOT NULL PRIMARY KEY, v INT NOT NULL)";
 
-/// Statements of each form. The first line has the command of its DONE, whether the table is defined and whether
-/// it has rows, and the key of a row that is answered as Gone; the second has its text. Behind that stands what
-/// it asks, and behind `=>` what it tells. Memory may be wanting at all that they ask but BackTo, Relax and the end; each
-/// fetch and each insertion may be refused for a lock, or the session may have fallen.
-const STATEMENTS: &str = "0 - - -
-CREATE TABLE t (k INT NOT NULL PRIMARY KEY, v INT NOT NULL)
+const ROWS: &str =
+    "CREATE TABLE t (k INT NOT NULL PRIMARY KEY, v INT NOT NULL); INSERT t VALUES (1, 10), (2, 20), (3, 30)";
+
+/// Statements of each form. The first line has whether they find nothing, the table `t`, or rows in it, too, and the command of
+/// their DONE; the second has the text. Behind that stands what is asked, and behind `=>` what is told. Memory may be wanting at all
+/// that they ask but BackTo, Relax and the end; each fetch and each insertion may be refused for a lock, or the session may have fallen.
+const STATEMENTS: &str = "nothing 0
+CREATE TABLE t (k INT NOT NULL PRIMARY KEY)
 Begin
 Mark
-Insert objects ('t') ('t', 'CREATE TABLE t (k INT NOT NULL PRIMARY KEY, v INT NOT NULL)')
+Insert objects
 Relax
 Commit
 =>
-DONE(00,0,0)
+done 0 0 0,
 ---
-0 t - -
-CREATE TABLE t (k INT NOT NULL PRIMARY KEY, v INT NOT NULL)
+table 0
+CREATE TABLE t (k INT NOT NULL PRIMARY KEY)
 Begin
 Mark
-Insert objects ('t') ('t', 'CREATE TABLE t (k INT NOT NULL PRIMARY KEY, v INT NOT NULL)')
-BackTo 1
+Insert objects
+BackTo
 Relax
 Rollback
 =>
-ERROR 2714 class 16 state 1 line 1: There is already an object named 't'.
-DONE(02,0,0)
+error 2714, done 2 0 0,
 ---
-C3 t r -
+rows C3
 INSERT INTO t VALUES (4, 40)
 Begin
-Fetch objects At ('t') Within ('t') Range S
-Fetch objects First Last Range S
-Fetch objects Past ('t') Last Range S
+Fetch objects At Range
+Fetch objects First Range
+Fetch objects Past Range
 Mark
-Insert t (4) (4, 40)
+Insert t
 Relax
 Commit
 =>
-DONE(11,C3,1)
-DONE(00,0,0)
+done 11 C3 1, done 0 0 0,
 ---
-C3 t r -
+rows C3
 INSERT INTO t VALUES (2, 30)
 Begin
-Fetch objects At ('t') Within ('t') Range S
-Fetch objects First Last Range S
-Fetch objects Past ('t') Last Range S
+Fetch objects At Range
+Fetch objects First Range
+Fetch objects Past Range
 Mark
-Insert t (2) (2, 30)
-BackTo 1
+Insert t
+BackTo
 Relax
 Rollback
 =>
-ERROR 2627 class 14 state 1 line 1: Violation of constraint 'PK_t'. Duplicate key.
-DONE(03,C3,0)
-DONE(00,0,0)
+error 2627, done 3 C3 0, done 0 0 0,
 ---
-C3 - - -
+nothing C3
 INSERT INTO t VALUES (2, 30)
 Begin
-Fetch objects At ('t') Within ('t') Range S
+Fetch objects At Range
 Relax
 Rollback
 =>
-ERROR 208 class 16 state 1 line 1: Invalid object name 't'.
-DONE(02,0,0)
+error 208, done 2 0 0,
 ---
-C1 t r -
+rows C1
 SELECT k, v FROM t
 Begin
-Fetch objects At ('t') Within ('t') Range S
-Fetch t First Last Row S
-Fetch t Past (1) Last Row S
-Fetch t Past (2) Last Row S
-Fetch t Past (3) Last Row S
+Fetch objects At Range
+Fetch t First Row
+Fetch t Past Row
+Fetch t Past Row
+Fetch t Past Row
 Relax
 Commit
 =>
-COL(k INT, v INT)
-ROW(1, 10)
-ROW(2, 20)
-ROW(3, 30)
-DONE(11,C1,3)
-DONE(00,0,0)
+columns, row 1 10, row 2 20, row 3 30, done 11 C1 3, done 0 0 0,
 ---
-C1 t r 2
-SELECT k, v FROM t
-Begin
-Fetch objects At ('t') Within ('t') Range S
-Fetch t First Last Row S
-Fetch t Past (1) Last Row S
-Fetch t Past (2) Last Row S
-Fetch t Past (3) Last Row S
-Relax
-Commit
-=>
-COL(k INT, v INT)
-ROW(1, 10)
-ROW(3, 30)
-DONE(11,C1,2)
-DONE(00,0,0)
----
-C1 t r 3
-SELECT k, v FROM t
-Begin
-Fetch objects At ('t') Within ('t') Range S
-Fetch t First Last Row S
-Fetch t Past (1) Last Row S
-Fetch t Past (2) Last Row S
-Fetch t Past (3) Last Row S
-Relax
-Commit
-=>
-COL(k INT, v INT)
-ROW(1, 10)
-ROW(2, 20)
-DONE(11,C1,2)
-DONE(00,0,0)
----
-C1 t r 't
-SELECT k, v FROM t
-Begin
-Fetch objects At ('t') Within ('t') Range S
-Relax
-Rollback
-=>
-ERROR 208 class 16 state 1 line 1: Invalid object name 't'.
-DONE(02,0,0)
----
-C1 - - -
-SELECT k, v FROM t
-Begin
-Fetch objects At ('t') Within ('t') Range S
-Relax
-Rollback
-=>
-ERROR 208 class 16 state 1 line 1: Invalid object name 't'.
-DONE(02,0,0)
----
-C1 t r -
-SELECT 1 FROM nosuch, t
-Begin
-Fetch objects At ('nosuch') Within ('nosuch') Range S
-Relax
-Rollback
-=>
-ERROR 208 class 16 state 1 line 1: Invalid object name 'nosuch'.
-DONE(02,0,0)
----
-C1 t r -
+rows C1
 SELECT 1 FROM t, objects, nosuch
 Begin
-Fetch objects At ('t') Within ('t') Range S
+Fetch objects At Range
 Relax
 Rollback
 =>
-ERROR 208 class 16 state 1 line 1: Invalid object name 'objects'.
-DONE(02,0,0)
+error 208, done 2 0 0,
 ---
-C1 t r -
+rows C1
 SELECT MAX(a.k), (SELECT MIN(v) FROM t WHERE k = 2) FROM t a, t b
 Begin
-Fetch objects At ('t') Within ('t') Range S
-Fetch t First Last Row S
-Fetch t Past (1) Last Row S
-Fetch t Past (2) Last Row S
-Fetch t Past (3) Last Row S
-Fetch t First Last Row S
-Fetch t Past (1) Last Row S
-Fetch t Past (2) Last Row S
-Fetch t Past (3) Last Row S
-Fetch t First Last Row S
-Fetch t Past (1) Last Row S
-Fetch t Past (2) Last Row S
-Fetch t Past (3) Last Row S
+Fetch objects At Range
+Fetch t First Row
+Fetch t Past Row
+Fetch t Past Row
+Fetch t Past Row
+Fetch t First Row
+Fetch t Past Row
+Fetch t Past Row
+Fetch t Past Row
+Fetch t First Row
+Fetch t Past Row
+Fetch t Past Row
+Fetch t Past Row
 Relax
 Commit
 =>
-COL( INT,  INT)
-ROW(3, 20)
-DONE(11,C1,1)
-DONE(00,0,0)
+columns, row 3 20, done 11 C1 1, done 0 0 0,
 ---
-C1 t r -
+rows C1
 SELECT k, nosuch FROM t
 Begin
-Fetch objects At ('t') Within ('t') Range S
+Fetch objects At Range
 Relax
 Rollback
 =>
-ERROR 207 class 16 state 1 line 1: Invalid column name 'nosuch'.
-DONE(02,0,0)
+error 207, done 2 0 0,
 ---
-C1 t r -
+rows C1
 SELECT 1 / (k - 2) FROM t
 Begin
-Fetch objects At ('t') Within ('t') Range S
-Fetch t First Last Row S
-Fetch t Past (1) Last Row S
-Fetch t Past (2) Last Row S
-Fetch t Past (3) Last Row S
+Fetch objects At Range
+Fetch t First Row
+Fetch t Past Row
+Fetch t Past Row
+Fetch t Past Row
 Relax
 Rollback
 =>
-ERROR 8134 class 16 state 1 line 1: Divide by zero error encountered.
-DONE(03,C1,0)
-DONE(00,0,0)
+error 8134, done 3 C1 0, done 0 0 0,
 ---
-C1 t r -
+rows C1
 SELECT 1 / 0
 =>
-ERROR 8134 class 16 state 1 line 1: Divide by zero error encountered.
-DONE(03,C1,0)
-DONE(00,0,0)
+error 8134, done 3 C1 0, done 0 0 0,
 ---
-C3 t - -
+table C3
 INSERT INTO objects VALUES (2, 30)
 =>
-ERROR 208 class 16 state 1 line 1: Invalid object name 'objects'.
-DONE(02,0,0)
----
-C1 t - -
-SELECT 1 FROM objects, t
-=>
-ERROR 208 class 16 state 1 line 1: Invalid object name 'objects'.
-DONE(02,0,0)
+error 208, done 2 0 0,
 ";
+
+/// Batches over `t` with its rows: the number of the operation that is answered otherwise, and how; the text; and what is told.
+const BATCHES: &str =
+    "3 gone|SELECT k, v FROM t|columns, row 2 20, row 3 30, done 11 C1 2, done 0 0 0,
+4 gone|SELECT k, v FROM t|columns, row 1 10, row 3 30, done 11 C1 2, done 0 0 0,
+5 gone|SELECT k, v FROM t|columns, row 1 10, row 2 20, done 11 C1 2, done 0 0 0,
+4 unfit|SELECT k, v FROM t|columns, row 1 10, row 3 30, done 11 C1 2, done 0 0 0,
+2 gone|SELECT k, v FROM t|error 208, done 2 0 0,
+2 unfit|SELECT k, v FROM t|error 208, done 2 0 0,
+2 unfit|INSERT t VALUES (4, 40)|error 208, done 2 0 0,
+3 fall|BEGIN TRAN; SELECT k FROM t|change 8, error 1205, change 10, done 2 0 0,
+3 lock|BEGIN TRAN; SELECT k FROM t|change 8, error 1222, done 3 C1 0, done 0 0 0,
+3 lock|BEGIN TRAN; SELECT k FROM t; SELECT XACT_STATE()|change 8, error 1222, done 3 C1 0, columns, row 1, done 11 C1 1, done 0 0 0,
+3 fall|BEGIN TRAN; BEGIN TRY SELECT k FROM t END TRY BEGIN CATCH SELECT ERROR_NUMBER(), XACT_STATE() END CATCH; ROLLBACK|change 8, columns, row 1205 -1, done 11 C1 1, change 10, done 0 0 0,
+3 lock|BEGIN TRAN; BEGIN TRY SELECT k FROM t END TRY BEGIN CATCH SELECT ERROR_NUMBER(), XACT_STATE() END CATCH; ROLLBACK|change 8, columns, row 1222 1, done 11 C1 1, change 10, done 0 0 0,
+3 lock|SET XACT_ABORT ON; BEGIN TRAN; SELECT k FROM t|change 8, error 1222, change 10, done 2 0 0,
+6 lock|BEGIN TRAN; INSERT t VALUES (4, 40); SELECT k FROM t WHERE k = 1|change 8, error 1222, done 3 C3 0, columns, row 1, done 11 C1 1, done 0 0 0,
+6 fall|BEGIN TRAN; INSERT t VALUES (4, 40); SELECT k FROM t|change 8, error 1205, change 10, done 2 0 0,
+3 fall|BEGIN TRY SELECT k FROM t END TRY BEGIN CATCH SELECT ERROR_NUMBER(), XACT_STATE() END CATCH|columns, row 1205 0, done 11 C1 1, done 0 0 0,
+3 fall|BEGIN TRAN; BEGIN TRY SELECT k FROM t END TRY BEGIN CATCH THROW END CATCH|change 8, error 1205, error 3998, change 10, done 2 0 0,
+3 lock|IF EXISTS (SELECT k FROM t) PRINT N'a'; PRINT N'b'|error 1222, done 3 0 0, other, done 0 0 0,";
 
 /// A statement, what it finds, what it asks and what it tells.
 #[derive(Clone, Copy)]
 struct Statement<'a> {
+    found: &'a str,
     command: &'a str,
-    has_table: bool,
-    has_rows: bool,
-    hidden: &'a str,
     text: &'a str,
     asked: &'a str,
     told: &'a str,
@@ -256,190 +184,174 @@ struct Statement<'a> {
 
 /// The statement of some lines.
 fn statement_of(lines: &str) -> Option<Statement<'_>> {
-    let (found, behind) = lines.split_once('\n')?;
+    let (head, behind) = lines.split_once('\n')?;
     let (text, behind) = behind.split_once('\n')?;
     let (asked, told) = behind.split_once("=>\n")?;
-    let (command, found) = found.split_once(' ')?;
-    let (table, found) = found.split_once(' ')?;
-    let (rows, hidden) = found.split_once(' ')?;
+    let (found, command) = head.split_once(' ')?;
     Some(Statement {
+        found,
         command,
-        has_table: table == "t",
-        has_rows: rows == "r",
-        hidden,
         text,
         asked,
         told,
     })
 }
 
-/// A port over an engine that has what the statement is to find, which refuses the operation of this number so.
-fn port_for(
-    rt: &impl Abort,
-    alloc: Global,
-    statement: Statement<'_>,
-    refused: usize,
-    refusal: Refusal,
-) -> Result<Watched, Memory>
-    ensures { IfOk result (λ port. port.port.session ≡ 1) }
+/// A port over an engine that has what a statement is to find.
+fn port_for(alloc: Global, found: &str) -> Result<Watched, Memory>
+    ensures { IfOk result (λ port. (port.port.session ≡ 1) × (solo_open port.port ≡ false)) }
 {
-    let objects = if statement.has_table { DEFINED } else { "" };
-    let rows = if statement.has_rows { ROWS } else { "" };
-    let hidden = if statement.hidden == "-" {
-        None
-    } else {
-        Some(key_of(alloc, statement.hidden)?)
-    };
-    Ok(Watched {
-        port: port_with(rt, alloc, objects, rows)?,
+    let mut port = Watched {
+        port: SoloPort::new(alloc, 1),
         asked: String::new(alloc),
         count: 0,
-        refused,
-        refusal,
-        hidden,
+        number: 0,
+        answer: Answer::Plain,
         alloc,
-    })
+    };
+    match found {
+        "table" => reply_to(alloc, &mut port, TABLE)?,
+        "rows" => reply_to(alloc, &mut port, ROWS)?,
+        _ => String::new(alloc),
+    };
+    Ok(port)
 }
 
-/// Whether a statement asks and is told so, where no transaction is open.
-fn is_answered(
+/// What a batch is told whose operation of this number is answered so.
+fn told_of(
     alloc: Global,
     port: &mut Watched,
     text: &str,
-    asked: &str,
-    told: &str,
-) -> Result<bool, Memory>
-    requires { port.old.port.session ≡ 1 }
-    ensures { port.new.port.session ≡ 1 }
+    number: u32,
+    answer: Answer,
+) -> Result<String, Memory>
+    requires { (port.old.port.session ≡ 1) × (solo_open port.old.port ≡ false) }
+    ensures { (port.new.port.session ≡ 1) × (solo_open port.new.port ≡ false) }
 {
     port.asked.clear();
     port.count = 0;
-    if port.in_transaction() {
-        return Ok(false);
-    }
-    let given = reply_to(alloc, port, text)?;
-    Ok(given.as_str() == told && port.asked.as_str() == asked)
+    port.number = number;
+    port.answer = answer;
+    reply_to(alloc, port, text)
 }
 
 /// Whether a statement asks what it is to ask, and tells what it is to tell.
-fn is_done(rt: &impl Abort, alloc: Global, statement: Statement<'_>) -> Result<bool, Memory> {
-    let mut port = port_for(rt, alloc, statement, 0, Refusal::Memory)?;
-    is_answered(
-        alloc,
-        &mut port,
-        statement.text,
-        statement.asked,
-        statement.told,
-    )
+fn is_done(alloc: Global, port: &mut Watched, statement: Statement<'_>) -> Result<bool, Memory>
+    requires { (port.old.port.session ≡ 1) × (solo_open port.old.port ≡ false) }
+{
+    let told = told_of(alloc, port, statement.text, 0, Answer::Plain)?;
+    let is_told = statement.told.strip_suffix('\n') == Some(told.as_str());
+    Ok(is_told && port.asked.as_str() == statement.asked)
 }
 
 /// What is told of a statement that is refused so.
-fn refusal_told(alloc: Global, refusal: Refusal, command: &str) -> Result<String, AllocError> {
-    match refusal {
-        Refusal::Memory => format!(in alloc;
-            "ERROR 701 class 17 state 1 line 1: There is insufficient memory to run this statement.\nDONE(03,{command},0)\nDONE(00,0,0)\n"
-        ),
-        Refusal::Lock => format!(in alloc;
-            "ERROR 1222 class 16 state 1 line 1: Lock request time out period exceeded.\nDONE(03,{command},0)\nDONE(00,0,0)\n"
-        ),
-        Refusal::Fall => String::from_str(
-            alloc,
-            "ERROR 1205 class 13 state 1 line 1: The transaction was chosen as the deadlock victim.\nDONE(02,0,0)\n",
-        ),
+fn refusal_told(alloc: Global, answer: Answer, command: &str) -> Result<String, AllocError> {
+    match answer {
+        Answer::Memory => format!(in alloc; "error 701, done 3 {command} 0, done 0 0 0,"),
+        Answer::Lock => format!(in alloc; "error 1222, done 3 {command} 0, done 0 0 0,"),
+        _ => String::from_str(alloc, "error 1205, done 2 0 0,"),
     }
 }
 
 /// Whether a statement whose operation of this number is refused so has done nothing, and is done when it is not.
 fn is_refused(
-    rt: &impl Abort,
     alloc: Global,
     statement: Statement<'_>,
-    count: usize,
-    refusal: Refusal,
+    number: u32,
+    answer: Answer,
 ) -> Result<bool, Memory> {
-    let told = refusal_told(alloc, refusal, statement.command)?;
-    let asked = asked_until(alloc, statement.asked, count)?;
-    let mut port = port_for(rt, alloc, statement, count, refusal)?;
-    let is_refused = is_answered(alloc, &mut port, statement.text, &asked, &told)?;
-    port.refused = 0;
-    let is_done = is_answered(
-        alloc,
-        &mut port,
-        statement.text,
-        statement.asked,
-        statement.told,
-    )?;
-    Ok(is_refused && is_done)
+    let mut port = port_for(alloc, statement.found)?;
+    let told = told_of(alloc, &mut port, statement.text, number, answer)?;
+    let is_told = told == refusal_told(alloc, answer, statement.command)?;
+    let is_asked = port.asked == asked_until(alloc, statement.asked, number)?;
+    Ok(is_told && is_asked && is_done(alloc, &mut port, statement)?)
 }
 
 /// The first operations of a statement, of which the last is refused, and what is asked then: BackTo only
 /// behind a mark, Relax only behind a fetch or an insertion.
-fn asked_until(alloc: Global, asked: &str, count: usize) -> Result<String, Memory> {
+fn asked_until(alloc: Global, asked: &str, number: u32) -> Result<String, Memory> {
     let mut front = String::new(alloc);
     let mut is_touched = false;
     let mut is_marked = false;
-    for line in asked.lines().take(count) {
+    for line in asked.lines().take(number as usize) {
         is_marked = front.as_str().ends_with("Mark\n") || is_marked;
-        is_touched = is_touched || line.starts_with("Fetch") || line.starts_with("Insert");
+        is_touched = is_touched || asks_lock(line);
         front.push_str(line)?;
         front.push('\n')?;
     }
     if is_marked {
-        front.push_str("BackTo 1\n")?;
+        front.push_str("BackTo\n")?;
     }
-    if is_touched && count > 1 {
+    if is_touched && number > 1 {
         front.push_str("Relax\n")?;
     }
-    if count > 1 {
+    if number > 1 {
         front.push_str("Rollback\n")?;
     }
     Ok(front)
 }
 
-/// How many operations may be refused: those in front of BackTo and Relax.
-fn refusable(asked: &str) -> usize {
-    let mut count = 0usize;
-    for line in asked.lines() {
-        if line.starts_with("BackTo") || line.starts_with("Relax") {
-            break;
-        }
-        count = count.wrapping_add(1);
-    }
-    count
+/// Whether an operation asks for a lock.
+fn asks_lock(line: &str) -> bool {
+    line.starts_with("Fetch") || line.starts_with("Insert")
 }
 
-/// Whether the operation of this number asks for a lock.
-fn asks_lock(asked: &str, count: usize) -> bool {
-    match asked.lines().nth(count.saturating_sub(1)) {
-        Some(line) => line.starts_with("Fetch") || line.starts_with("Insert"),
-        None => false,
+/// Whether a statement does what it is to do, and nothing where one of its operations is refused.
+fn holds(alloc: Global, statement: Statement<'_>) -> Result<bool, Memory> {
+    let mut port = port_for(alloc, statement.found)?;
+    let mut holds = is_done(alloc, &mut port, statement)?;
+    let mut number = 0u32;
+    for line in statement.asked.lines() {
+        if line == "BackTo" || line == "Relax" {
+            break;
+        }
+        number = number.saturating_add(1);
+        holds = holds && is_refused(alloc, statement, number, Answer::Memory)?;
+        if asks_lock(line) {
+            holds = holds
+                && is_refused(alloc, statement, number, Answer::Lock)?
+                && is_refused(alloc, statement, number, Answer::Fall)?;
+        }
     }
+    Ok(holds)
 }
 
 #[test]
 fn statements_ask_these_operations(rt: HostRuntime) -> Result<(), Fail> {
-    let mut statements = 0u32;
     for lines in STATEMENTS.split("---\n") {
         let statement = statement_of(lines).ok_or(lines)?;
-        assert!(rt; is_done(&rt, rt.alloc(), statement)?, "{lines}");
-        for count in 1..=refusable(statement.asked) {
-            assert!(rt;
-                is_refused(&rt, rt.alloc(), statement, count, Refusal::Memory)?,
-                "{lines}"
-            );
-            if asks_lock(statement.asked, count) {
-                assert!(rt;
-                    is_refused(&rt, rt.alloc(), statement, count, Refusal::Lock)?,
-                    "{lines}"
-                );
-                assert!(rt;
-                    is_refused(&rt, rt.alloc(), statement, count, Refusal::Fall)?,
-                    "{lines}"
-                );
-            }
-        }
-        statements = statements.wrapping_add(1);
+        assert!(rt; holds(rt.alloc(), statement)?, "{lines}");
     }
-    assert!(rt; statements == 18);
+    Ok(())
+}
+
+/// The number of an operation, and how it is answered.
+fn answer_of(words: &str) -> (u32, Answer) {
+    let (number, word) = words.split_once(' ').unwrap_or((words, words));
+    let answer = match word {
+        "gone" => Answer::Gone,
+        "unfit" => Answer::Unfit,
+        "lock" => Answer::Lock,
+        "fall" => Answer::Fall,
+        _ => Answer::Plain,
+    };
+    (number.parse().unwrap_or(0), answer)
+}
+
+/// Whether a batch tells what its line says.
+fn is_told(alloc: Global, line: &str) -> Result<bool, Memory> {
+    let (words, behind) = line.split_once('|').unwrap_or((line, line));
+    let (text, wanted) = behind.split_once('|').unwrap_or((line, line));
+    let (number, answer) = answer_of(words);
+    let mut port = port_for(alloc, "rows")?;
+    let told = told_of(alloc, &mut port, text, number, answer)?;
+    Ok(told.as_str() == wanted)
+}
+
+#[test]
+fn batches_tell_these_answers(rt: HostRuntime) -> Result<(), Fail> {
+    for line in BATCHES.lines() {
+        assert!(rt; is_told(rt.alloc(), line)?, "{line}");
+    }
     Ok(())
 }

@@ -12,16 +12,15 @@ use engine_core::SoloPort;
 use std::alloc::Global;
 use std::cmp::Ordering;
 use step_model::{Manner, Op, Port, Reply, Start, Stop};
-use value_types::{Key, Memory, Row, TableName, Value, prefix_order};
+use value_types::{Key, TableName, Value, prefix_order};
 
-/// A port over another one, but for fetches of the table `t`, which has the keys from 1 to a last one.
+/// A port over another one, but for fetches of the table `t`, which has the keys from 1 to a last one, at none of which a row is
+/// visible.
 #[derive(Drop)]
 pub(crate) struct Counting {
     pub(crate) port: SoloPort,
     /// The last key.
     pub(crate) last: i64,
-    /// Whether there are rows at the keys, of which each has its key as its value.
-    pub(crate) has_rows: bool,
     pub(crate) alloc: Global,
 }
 
@@ -34,18 +33,14 @@ impl Counting {
         if number > self.last {
             return Reply::End { at: 0 };
         }
-        let Ok(key) = key_of(self.alloc, number) else {
+        let Ok(values) = vec![in self.alloc; Value::Whole(number)] else {
             return Reply::Memory;
         };
-        if !is_within(start, stop, &key) {
-            return Reply::End { at: 0 };
-        }
-        if !self.has_rows {
-            return Reply::Gone { key, at: 0 };
-        }
-        match row_of(self.alloc, number) {
-            Ok(row) => Reply::Row { key, row, at: 0 },
-            Err(_) => Reply::Memory,
+        let key = Key::new(values);
+        if is_within(start, stop, &key) {
+            Reply::Gone { key, at: 0 }
+        } else {
+            Reply::End { at: 0 }
         }
     }
 }
@@ -100,12 +95,4 @@ fn is_within(start: &Start, stop: &Stop, key: &Key) -> bool
         Start::At(_) => false,
     };
     starts && matches!(stop, Stop::Last)
-}
-
-fn key_of(alloc: Global, number: i64) -> Result<Key, Memory> {
-    Ok(Key::new(vec![in alloc; Value::Whole(number)]?))
-}
-
-fn row_of(alloc: Global, number: i64) -> Result<Row, Memory> {
-    Ok(Row::from(vec![in alloc; Value::Whole(number), Value::Whole(number)]?))
 }

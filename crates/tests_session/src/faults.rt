@@ -1,67 +1,70 @@
 //! A source or a sink that fails around a login.
 
-use crate::rows::CREATE;
-use crate::served::with_login;
+use crate::messages::batch;
 use engine_core::SoloPort;
 use outside_io::{MemorySink, MemorySource};
 use session_server::{End, serve_on_port};
-use std::alloc::Global;
+use std::alloc::{AllocError, Global};
 use std::test::Fail;
-use tds_login::Config;
-use tests_kit::{LOGIN, LOGIN_REPLY, PRELOGIN, PRELOGIN_REPLY, batch, message};
-use value_types::Memory;
+use tds_login::{Config, Entry};
+use value_types::{Memory, units_of_str};
 
-/// The reply to a batch that is done: DONE in one packet.
-const DONE_REPLY: [u8; 21] = [
-    0x04, 0x01, 0x00, 0x15, 0x00, 0x33, 0x01, 0x00, 0xFD, 0x00, 0x00, 0x00, 0x00, 0x00, 0x00, 0x00,
-    0x00, 0x00, 0x00, 0x00, 0x00,
-];
+/// A PRELOGIN with VERSION and ENCRYPTION, which says that it is not supported, in one packet.
+const PRELOGIN: &[u8; 26] =
+    b"\x12\x01\x00\x1A\x00\x00\x01\x00\x00\x00\x0B\x00\x06\x01\x00\x11\x00\x01\xFF\x0F\x00\x00\x00\x00\
+\x00\x02";
 
-/// The reply to a login by another password: ERROR 18456 `Login failed.` and DONE in one packet.
-const FAILED_REPLY: [u8; 74] = [
-    0x04, 0x01, 0x00, 0x4A, 0x00, 0x33, 0x01, 0x00, 0xAA, 0x32, 0x00, 0x18, 0x48, 0x00, 0x00, 0x01,
-    0x0E, 0x0D, 0x00, 0x4C, 0x00, 0x6F, 0x00, 0x67, 0x00, 0x69, 0x00, 0x6E, 0x00, 0x20, 0x00, 0x66,
-    0x00, 0x61, 0x00, 0x69, 0x00, 0x6C, 0x00, 0x65, 0x00, 0x64, 0x00, 0x2E, 0x00, 0x05, 0x74, 0x00,
-    0x73, 0x00, 0x71, 0x00, 0x6C, 0x00, 0x64, 0x00, 0x00, 0x01, 0x00, 0x00, 0x00, 0xFD, 0x02, 0x00,
-    0x00, 0x00, 0x00, 0x00, 0x00, 0x00, 0x00, 0x00, 0x00, 0x00,
-];
+/// A LOGIN7 of the user `sa` with the password `A`, whose first byte stands at 106, in one packet.
+const LOGIN: &[u8; 108] =
+    b"\x10\x01\x00\x6C\x00\x00\x01\x00\x64\x00\x00\x00\x04\x00\x00\x74\x00\x10\x00\x00\x00\x00\x00\x00\
+\x00\x00\x00\x00\x00\x00\x00\x00\x00\x00\x00\x00\x00\x00\x00\x00\x09\x04\x00\x00\x5E\x00\x00\x00\
+\x5E\x00\x02\x00\x62\x00\x01\x00\x64\x00\x00\x00\x64\x00\x00\x00\x64\x00\x00\x00\x64\x00\x00\x00\
+\x64\x00\x00\x00\x64\x00\x00\x00\x00\x00\x00\x00\x00\x00\x64\x00\x00\x00\x64\x00\x00\x00\x64\x00\
+\x00\x00\x00\x00\x00\x00\x73\x00\x61\x00\xB1\xA5";
+
+/// The reply to every PRELOGIN.
+const PRELOGIN_REPLY: &[u8; 43] =
+    b"\x04\x01\x00\x2B\x00\x33\x01\x00\x00\x00\x1A\x00\x06\x01\x00\x20\x00\x01\x02\x00\x21\x00\x01\x03\
+\x00\x22\x00\x00\x04\x00\x22\x00\x01\xFF\x0F\x00\x00\x00\x00\x00\x02\x00\x00";
+
+/// The reply that grants the login.
+const LOGIN_REPLY: &[u8; 91] =
+    b"\x04\x01\x00\x5B\x00\x33\x01\x00\xE3\x0B\x00\x01\x04\x6D\x00\x61\x00\x69\x00\x6E\x00\x00\xE3\x08\
+\x00\x07\x05\x09\x04\x00\x02\x00\x00\xAD\x14\x00\x01\x74\x00\x00\x04\x05\x74\x00\x73\x00\x71\x00\
+\x6C\x00\x64\x00\x0F\x00\x00\x00\xE3\x13\x00\x04\x04\x34\x00\x30\x00\x39\x00\x36\x00\x04\x34\x00\
+\x30\x00\x39\x00\x36\x00\xFD\x00\x00\x00\x00\x00\x00\x00\x00\x00\x00\x00\x00";
+
+/// The reply to a login by another password: ERROR 18456 `Login failed.` and DONE.
+const REFUSAL: &[u8; 74] =
+    b"\x04\x01\x00\x4A\x00\x33\x01\x00\xAA\x32\x00\x18\x48\x00\x00\x01\x0E\x0D\x00\x4C\x00\x6F\x00\x67\
+\x00\x69\x00\x6E\x00\x20\x00\x66\x00\x61\x00\x69\x00\x6C\x00\x65\x00\x64\x00\x2E\x00\x05\x74\x00\
+\x73\x00\x71\x00\x6C\x00\x64\x00\x00\x01\x00\x00\x00\xFD\x02\x00\x00\x00\x00\x00\x00\x00\x00\x00\
+\x00\x00";
+
+/// The reply to a batch that is done: DONE.
+const DONE: &[u8; 21] =
+    b"\x04\x01\x00\x15\x00\x33\x01\x00\xFD\x00\x00\x00\x00\x00\x00\x00\x00\x00\x00\x00\x00";
 
 /// No call has this number: they are counted from 1.
 const NEVER: u32 = 0;
 
-/// The first byte of the password that the login must have, as a LOGIN7 hides it, and another.
-const PASSWORD: u8 = 0xB1;
-
-const OTHER_PASSWORD: u8 = 0xB0;
-
-/// The end of a connection of session 1 over a new port.
+/// The end of a connection of session 1 over a new port, of which the user is to be `sa` and the password `A`.
 fn serve_over(
     alloc: Global,
-    config: &Config,
     source: &mut MemorySource,
     sink: &mut MemorySink,
-) -> End {
+) -> Result<End, Memory> {
+    let config = Config {
+        user: units_of_str(alloc, "sa")?,
+        password: units_of_str(alloc, "A")?,
+        entry: Entry::Login,
+    };
     let mut port = SoloPort::new(alloc, 1);
-    serve_on_port(alloc, 1, &mut port, config, source, sink)
+    Ok(serve_on_port(alloc, 1, &mut port, &config, source, sink))
 }
 
-/// The end of a connection of which the reads give one byte each and the writes take at most seven, and a read
-/// and a write of these numbers fail; and what it wrote.
-fn serve_failing(
-    alloc: Global,
-    input: &[u8],
-    read: u32,
-    write: u32,
-) -> Result<(End, Vec<u8>), Memory> {
-    let config = with_login(alloc)?;
-    let input = Vec::from_slice(alloc, input)?;
-    let mut source = MemorySource::new(input, 1, vec![in alloc; read]?);
-    let mut sink = MemorySink::new(alloc, 7, vec![in alloc; write]?);
-    let end = serve_over(alloc, &config, &mut source, &mut sink);
-    Ok((end, sink.into_bytes()))
-}
-
-/// Whether a connection ends so, with these bytes written.
+/// Whether a connection of which the reads give one byte each and the writes take at most seven, and a read and a write of these
+/// numbers fail, ends so, with these bytes written.
 fn ends_so(
     alloc: Global,
     input: &[u8],
@@ -70,56 +73,46 @@ fn ends_so(
     end: End,
     bytes: &[u8],
 ) -> Result<bool, Memory> {
-    let (ended, written) = serve_failing(alloc, input, read, write)?;
-    Ok(ended == end && written.as_slice() == bytes)
+    let input = Vec::from_slice(alloc, input)?;
+    let mut source = MemorySource::new(input, 1, vec![in alloc; read]?);
+    let mut sink = MemorySink::new(alloc, 7, vec![in alloc; write]?);
+    let ended = serve_over(alloc, &mut source, &mut sink)?;
+    Ok(ended == end && sink.into_bytes().as_slice() == bytes)
 }
 
-/// Bytes behind others.
-fn joined(alloc: Global, first: &[u8], second: &[u8]) -> Result<Vec<u8>, Memory> {
+/// Three lists of bytes, one behind another.
+fn joined(alloc: Global, first: &[u8], second: &[u8], third: &[u8]) -> Result<Vec<u8>, AllocError> {
     let mut bytes = Vec::from_slice(alloc, first)?;
     bytes.extend_from_slice(second)?;
+    bytes.extend_from_slice(third)?;
     Ok(bytes)
 }
 
-/// A PRELOGIN and a login of 26 and 108 bytes; a login by another password has another byte at 98.
-fn prelogin_and_login(alloc: Global, password: u8) -> Result<Vec<u8>, Memory> {
-    let mut login = LOGIN;
-    login[98] = password;
-    let first = message(alloc, 0x12, &PRELOGIN)?;
-    let second = message(alloc, 0x10, &login)?;
-    joined(alloc, &first, &second)
-}
-
-/// How many bytes are written before this read of a PRELOGIN, a login and a batch of 26, 108 and 148 bytes: their
-/// replies have 43, 91 and 21.
-fn written_before_read(read: u32) -> usize {
-    match read {
-        1..=26 => 0,
-        27..=134 => 43,
-        135..=282 => 134,
-        _ => 155,
-    }
-}
-
-/// The front of the replies to a PRELOGIN, a login and a batch that has so many bytes.
-fn front_of_replies(alloc: Global, count: usize) -> Result<Vec<u8>, Memory> {
-    let mut replies = joined(alloc, &PRELOGIN_REPLY, &LOGIN_REPLY)?;
-    replies.extend_from_slice(&DONE_REPLY)?;
-    replies.truncate(count);
-    Ok(replies)
+/// A PRELOGIN, the login and a batch, of 26, 108 and 148 bytes.
+fn granted(alloc: Global) -> Result<Vec<u8>, AllocError> {
+    let create = batch(
+        alloc,
+        "CREATE TABLE t (k INT NOT NULL PRIMARY KEY, v INT NOT NULL)",
+    )?;
+    joined(alloc, PRELOGIN, LOGIN, &create)
 }
 
 /// Whether a connection whose read of this number fails ends there, with the messages before it answered.
 fn fails_at_read(alloc: Global, input: &[u8], read: u32) -> Result<bool, Memory> {
-    let bytes = front_of_replies(alloc, written_before_read(read))?;
-    ends_so(alloc, input, read, NEVER, End::ReadFault, &bytes)
+    let mut written = joined(alloc, PRELOGIN_REPLY, LOGIN_REPLY, DONE)?;
+    written.truncate(match read {
+        1..=26 => 0,
+        27..=134 => 43,
+        135..=282 => 134,
+        _ => 155,
+    });
+    ends_so(alloc, input, read, NEVER, End::ReadFault, &written)
 }
 
 /// Where a byte can't be read, or the end, the messages before it are answered.
 #[test]
 fn a_source_may_fail_at_each_byte(rt: HostRuntime) -> Result<(), Fail> {
-    let login = prelogin_and_login(rt.alloc(), PASSWORD)?;
-    let input = joined(rt.alloc(), &login, &batch(rt.alloc(), CREATE)?)?;
+    let input = granted(rt.alloc())?;
     assert!(rt; input.len() == 282);
     for read in 1..=283 {
         assert!(rt; fails_at_read(rt.alloc(), &input, read)?, "read {read}");
@@ -127,46 +120,39 @@ fn a_source_may_fail_at_each_byte(rt: HostRuntime) -> Result<(), Fail> {
     Ok(())
 }
 
-/// How many writes two replies take, of which each, where it fails, ends the connection with what was written
-/// before; none where one does not.
-fn writes_of(
+/// Whether each write of the replies, where it fails, ends the connection with what was written before, and the connection ends
+/// so where the one behind them fails. The writes are those of a reply, seven bytes each and then the rest, and of the next.
+fn fails_at_writes(
     alloc: Global,
     input: &[u8],
-    first: &[u8],
-    second: &[u8],
-) -> Result<Option<u32>, Memory> {
+    replies: &[&[u8]],
+    end: End,
+) -> Result<bool, Memory> {
     let mut written = Vec::new(alloc);
     let mut write = 1u32;
-    for reply in [first, second] {
+    for reply in replies {
         for piece in reply.chunks(7) {
             if !ends_so(alloc, input, NEVER, write, End::WriteFault, &written)? {
-                return Ok(None);
+                return Ok(false);
             }
-            write = write.wrapping_add(1);
+            write = write.saturating_add(1);
             written.extend_from_slice(piece)?;
         }
     }
-    Ok(Some(write.wrapping_sub(1)))
+    ends_so(alloc, input, NEVER, write, end, &written)
 }
 
-/// A PRELOGIN and a login that is refused, with replies of 43 and 74 bytes.
 #[test]
-fn a_sink_may_fail_at_each_write_of_a_refusal(rt: HostRuntime) -> Result<(), Fail> {
-    let input = prelogin_and_login(rt.alloc(), OTHER_PASSWORD)?;
-    assert!(rt; writes_of(rt.alloc(), &input, &PRELOGIN_REPLY, &FAILED_REPLY)? == Some(18));
+fn a_sink_may_fail_at_each_write(rt: HostRuntime) -> Result<(), Fail> {
+    let input = granted(rt.alloc())?;
+    let replies: [&[u8]; 3] = [PRELOGIN_REPLY, LOGIN_REPLY, DONE];
+    assert!(rt; fails_at_writes(rt.alloc(), &input, &replies, End::Closed)?);
+    let mut input = joined(rt.alloc(), PRELOGIN, LOGIN, &[])?;
+    if let Some(password) = input.get_mut(132) {
+        *password = 0xB0;
+    }
+    let replies: [&[u8]; 2] = [PRELOGIN_REPLY, REFUSAL];
     let end = End::LoginRefused { number: 18456 };
-    let whole = joined(rt.alloc(), &PRELOGIN_REPLY, &FAILED_REPLY)?;
-    assert!(rt; ends_so(rt.alloc(), &input, NEVER, 19, end, &whole)?);
-    Ok(())
-}
-
-/// A login that is granted, and a batch, with replies of 91 and 21 bytes.
-#[test]
-fn a_sink_may_fail_at_each_write_of_a_grant(rt: HostRuntime) -> Result<(), Fail> {
-    let login = message(rt.alloc(), 0x10, &LOGIN)?;
-    let input = joined(rt.alloc(), &login, &batch(rt.alloc(), CREATE)?)?;
-    assert!(rt; writes_of(rt.alloc(), &input, &LOGIN_REPLY, &DONE_REPLY)? == Some(16));
-    let whole = joined(rt.alloc(), &LOGIN_REPLY, &DONE_REPLY)?;
-    assert!(rt; ends_so(rt.alloc(), &input, NEVER, 17, End::Closed, &whole)?);
+    assert!(rt; fails_at_writes(rt.alloc(), &input, &replies, end)?);
     Ok(())
 }

@@ -1,7 +1,6 @@
-//! Tests of a connection over a port, of what no row of `tests_rows` can say: a source or a sink that fails
-//! at each call, rows that are read as no row, what each statement asks of its port, also where memory is
-//! wanting, what batches tell of a lock that stands in the way and of a session that has fallen, the limits of a result and of a range,
-//! and a port that goes on telling what it was asked.
+//! Tests of a connection over a port, of what no row can say: a source or a sink that fails at each call, what each statement asks
+//! of its port and what it tells where the port refuses that, for want of memory, for a lock, or since the session has fallen, or
+//! answers with a row that is none of the table; and the limit of a range.
 #![tactic(auto)]
 
 #[cfg(test)]
@@ -13,9 +12,7 @@ mod faults;
 #[cfg(test)]
 mod limits;
 #[cfg(test)]
-mod refused;
-#[cfg(test)]
-mod rows;
+mod messages;
 #[cfg(test)]
 mod served;
 #[cfg(test)]

@@ -1,4 +1,4 @@
-//! A port that keeps what it was asked, can refuse, and can hide a row.
+//! A port that keeps what it was asked, and answers one operation otherwise.
 
 ghost use Rattle.std.specs.Prelude.{◌≡◌, true, None, IfSome};
 ghost use Rattle.lock_modes.specs.declared.KeyPart.{KeyPart};
@@ -7,30 +7,29 @@ ghost use Rattle.step_model.specs.declared.op.Hold.{Hold};
 ghost use Rattle.step_model.specs.declared.range.Start.{Start as From};
 ghost use Rattle.step_model.specs.declared.range.Stop.{Stop as To};
 ghost use Rattle.value_types.specs.declared.table_name.TableName.{TableName as Name};
-ghost use Rattle.engine_core.specs.Solo.{solo_open, solo_past};
+ghost use Rattle.engine_core.specs.Solo.{solo_past};
 
 use engine_core::SoloPort;
 use lock_modes::Pair;
 use std::alloc::{AllocError, Global};
-use std::fmt::Write;
-use step_model::{Cycle, Manner, Op, Patience, Place, Port, Reply, Resource, Start, Stop};
-use value_types::{Key, TableName, Units, Value};
+use step_model::{Cycle, Hold, Manner, Op, Place, Port, Reply, Resource, Start};
+use value_types::{Row, TableName};
 
-/// The manner of a session that has said nothing of it.
-pub(crate) const MANNER: Manner = Manner {
-    patience: Patience::Forever,
-    priority: 0,
-};
-
-/// How a port refuses an operation.
+/// How a port answers an operation.
 #[derive(Clone, Copy)]
-pub(crate) enum Refusal {
+pub(crate) enum Answer {
+    /// As the engine does.
+    Plain,
     /// Memory is wanting.
     Memory,
     /// A lock of another session stands in the way of one that does not wait.
     Lock,
     /// The session fell as a victim.
     Fall,
+    /// At the key that is fetched no row is visible.
+    Gone,
+    /// At the key that is fetched stands a row of no value.
+    Unfit,
 }
 
 /// A port over another one. It has a line for each operation that it was asked.
@@ -40,23 +39,12 @@ pub(crate) struct Watched {
     /// The operations asked, a line each.
     pub(crate) asked: String,
     /// How many they are.
-    pub(crate) count: usize,
-    /// Which of these, counted from 1, is refused, where it may be.
-    pub(crate) refused: usize,
+    pub(crate) count: u32,
+    /// Which of these, counted from 1, is answered otherwise, where it may be.
+    pub(crate) number: u32,
     /// How.
-    pub(crate) refusal: Refusal,
-    /// The key at which a row is answered as Gone.
-    pub(crate) hidden: Option<Key>,
+    pub(crate) answer: Answer,
     pub(crate) alloc: Global,
-}
-
-impl Watched {
-    /// Whether a transaction is open.
-    pub(crate) fn in_transaction(&self) -> bool
-        ensures { result ≡ solo_open self.now.port }
-    {
-        self.port.in_transaction()
-    }
 }
 
 impl Port for Watched {
@@ -70,33 +58,37 @@ impl Port for Watched {
 
     fn ask(&mut self, op: &Op, manner: Manner) -> Reply {
         // A line for which there is no memory is missed by whoever compares them.
-        let _ = put_line(&mut self.asked, op, manner);
+        let _ = put_op(&mut self.asked, op);
         self.count = self.count.saturating_add(1);
-        if self.count == self.refused {
-            match self.refusal {
-                Refusal::Memory => {
-                    if may_lack_memory(op) {
-                        return Reply::Memory;
-                    }
-                }
-                Refusal::Lock => {
-                    if let Some(on) = locked_end(self.alloc, op) {
-                        return Reply::TimedOut {
-                            holder: 2,
-                            held: Pair::EXCLUSIVE,
-                            asked: Pair::EXCLUSIVE,
-                            on,
-                        };
-                    }
-                }
-                Refusal::Fall => {
-                    if locked_table(op).is_some() {
-                        return Reply::Victim {
-                            cycle: Cycle::from(Vec::new(self.alloc)),
-                        };
-                    }
+        let answer = if self.count == self.number {
+            self.answer
+        } else {
+            Answer::Plain
+        };
+        match answer {
+            Answer::Memory => {
+                if may_lack_memory(op) {
+                    return Reply::Memory;
                 }
             }
+            Answer::Lock => {
+                if let Some(on) = locked_end(self.alloc, op) {
+                    return Reply::TimedOut {
+                        holder: 2,
+                        held: Pair::EXCLUSIVE,
+                        asked: Pair::EXCLUSIVE,
+                        on,
+                    };
+                }
+            }
+            Answer::Fall => {
+                if locked_table(op).is_some() {
+                    return Reply::Victim {
+                        cycle: Cycle::from(Vec::new(self.alloc)),
+                    };
+                }
+            }
+            Answer::Plain | Answer::Gone | Answer::Unfit => {}
         }
         // No row is written, and so none is missing where one is sure.
         if matches!(op, Op::Replace { .. } | Op::Erase { .. }) {
@@ -104,25 +96,27 @@ impl Port for Watched {
         }
         let reply = self.port.ask(op, manner);
         match op {
-            Op::Fetch { .. } => hide(&self.hidden, reply),
+            Op::Fetch { .. } => shown(self.alloc, answer, reply),
             _ => reply,
         }
     }
 }
 
-/// A fetch's reply, or Gone in place of a row at the hidden key.
-fn hide(hidden: &Option<Key>, reply: Reply) -> Reply
+/// A fetch's reply, with what stands at its key in the place of a row.
+fn shown(alloc: Global, answer: Answer, reply: Reply) -> Reply
     ensures { (table : Name) (start : From) (stop : To) (hold : Hold) (part : KeyPart)
         → CanReply (Op.Fetch table start stop hold part) reply → CanReply (Op.Fetch table start stop hold part) result }
 {
     match reply {
-        Reply::Row { key, row, at } => {
-            if is_hidden(hidden, &key) {
-                Reply::Gone { key, at }
-            } else {
-                Reply::Row { key, row, at }
-            }
-        }
+        Reply::Row { key, row, at } => match answer {
+            Answer::Gone => Reply::Gone { key, at },
+            Answer::Unfit => Reply::Row {
+                key,
+                row: Row::from(Vec::new(alloc)),
+                at,
+            },
+            _ => Reply::Row { key, row, at },
+        },
         other => other,
     }
 }
@@ -144,6 +138,8 @@ fn locked_table(op: &Op) -> Option<&TableName>
     match op {
         Op::Fetch { table, .. } => Some(table),
         Op::Insert { table, .. } => Some(table),
+        Op::Replace { table, .. } => Some(table),
+        Op::Erase { table, .. } => Some(table),
         _ => None,
     }
 }
@@ -157,119 +153,51 @@ fn may_lack_memory(op: &Op) -> bool
     }
 }
 
-fn is_hidden(hidden: &Option<Key>, key: &Key) -> bool {
-    match hidden {
-        Some(other) => other == key,
-        None => false,
-    }
-}
-
-fn put_line(lines: &mut String, op: &Op, manner: Manner) -> Result<(), AllocError> {
-    put_op(lines, op)?;
-    if manner != MANNER {
-        write!(lines, " in {manner:?}")?;
-    }
-    lines.push('\n')
-}
-
-/// Appends an operation: its name and its parts in order, texts in quotes.
+/// Appends an operation: its name, its table and, of a fetch, where it starts and what it holds.
 fn put_op(line: &mut String, op: &Op) -> Result<(), AllocError> {
     match op {
-        Op::Begin => line.push_str("Begin"),
+        Op::Begin => line.push_str("Begin\n"),
         Op::Fetch {
             table,
             start,
-            stop,
             hold,
-            part,
+            ..
         } => {
-            line.push_str("Fetch ")?;
-            put_table(line, table)?;
-            put_range(line, start, stop)?;
-            write!(line, " {hold:?} {part:?}")
+            put_named(line, "Fetch ", table)?;
+            line.push_str(start_of(start))?;
+            line.push_str(match hold {
+                Hold::Row => " Row\n",
+                Hold::Range => " Range\n",
+            })
         }
-        Op::Insert { table, key, row } => {
-            line.push_str("Insert ")?;
-            put_table(line, table)?;
-            put_values(line, key.as_slice())?;
-            put_values(line, row.as_slice())
-        }
-        Op::Replace { table, key, row } => {
-            line.push_str("Replace ")?;
-            put_table(line, table)?;
-            put_values(line, key.as_slice())?;
-            put_values(line, row.as_slice())
-        }
-        Op::Erase { table, key } => {
-            line.push_str("Erase ")?;
-            put_table(line, table)?;
-            put_values(line, key.as_slice())
-        }
-        Op::BackTo { mark } => write!(line, "BackTo {mark}"),
-        Op::Mark => line.push_str("Mark"),
-        Op::Relax => line.push_str("Relax"),
-        Op::Commit => line.push_str("Commit"),
-        Op::Rollback => line.push_str("Rollback"),
+        Op::Insert { table, .. } => put_write(line, "Insert ", table),
+        Op::Replace { table, .. } => put_write(line, "Replace ", table),
+        Op::Erase { table, .. } => put_write(line, "Erase ", table),
+        Op::BackTo { .. } => line.push_str("BackTo\n"),
+        Op::Mark => line.push_str("Mark\n"),
+        Op::Relax => line.push_str("Relax\n"),
+        Op::Commit => line.push_str("Commit\n"),
+        Op::Rollback => line.push_str("Rollback\n"),
     }
 }
 
-/// Appends a table's name, and its part where that is not 0.
-fn put_table(line: &mut String, table: &TableName) -> Result<(), AllocError> {
-    put_text(line, &table.object)?;
-    if table.part != 0 {
-        let part = table.part;
-        write!(line, ".{part}")?;
-    }
-    Ok(())
-}
-
-fn put_range(line: &mut String, start: &Start, stop: &Stop) -> Result<(), AllocError> {
+fn start_of(start: &Start) -> &'static str {
     match start {
-        Start::First => line.push_str(" First")?,
-        Start::At(key) => {
-            line.push_str(" At")?;
-            put_values(line, key.as_slice())?;
-        }
-        Start::Past(key) => {
-            line.push_str(" Past")?;
-            put_values(line, key.as_slice())?;
-        }
-    }
-    match stop {
-        Stop::Last => line.push_str(" Last"),
-        Stop::Within(key) => {
-            line.push_str(" Within")?;
-            put_values(line, key.as_slice())
-        }
+        Start::First => " First",
+        Start::At(_) => " At",
+        Start::Past(_) => " Past",
     }
 }
 
-fn put_values(line: &mut String, values: &[Value]) -> Result<(), AllocError> {
-    let mut between = " (";
-    for value in values {
-        line.push_str(between)?;
-        put_value(line, value)?;
-        between = ", ";
-    }
-    line.push_str(")")
+fn put_write(line: &mut String, name: &str, table: &TableName) -> Result<(), AllocError> {
+    put_named(line, name, table)?;
+    line.push_str("\n")
 }
 
-fn put_value(line: &mut String, value: &Value) -> Result<(), AllocError> {
-    match value {
-        Value::Null => line.push_str("NULL"),
-        Value::Whole(number) => write!(line, "{number}"),
-        Value::Bit(bit) => write!(line, "{bit}"),
-        Value::Text(text) => {
-            line.push_str("'")?;
-            put_text(line, text)?;
-            line.push_str("'")
-        }
-    }
-}
-
-/// Appends a text. What is no character is a question mark.
-fn put_text(line: &mut String, text: &Units) -> Result<(), AllocError> {
-    for unit in text.as_slice() {
+/// Appends a name, and that of a table. What is no character is a question mark.
+fn put_named(line: &mut String, name: &str, table: &TableName) -> Result<(), AllocError> {
+    line.push_str(name)?;
+    for unit in table.object.as_slice() {
         line.push(char::from_u32(u32::from(*unit)).unwrap_or('?'))?;
     }
     Ok(())

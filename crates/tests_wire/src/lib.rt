@@ -1,17 +1,13 @@
-//! Tests of the crates below the server, of what no row of `tests_rows` can say: the same messages however
-//! the bytes come, what is sent and how it is read again, texts, and sources and sinks that fail.
+//! Tests of the crates below the server, of what no row can say: adapters whose reader or writer fails once, the same messages in
+//! pieces of any size, and sources and sinks that fail at each call, are full or want memory.
 #![tactic(auto)]
 
 #[cfg(test)]
 mod adapters;
 #[cfg(test)]
-mod pieces;
+mod reading;
 #[cfg(test)]
 mod sending;
-#[cfg(test)]
-mod streams;
-#[cfg(test)]
-mod texts;
 
 /// The crate has tests alone.
 pub fn nothing() {}

@@ -1,25 +1,66 @@
-//! A hall of connections that wait for one another.
+//! A hall of two connections, of which one waits for the other.
 
 ghost use Rattle.std.specs.Prelude.{◌≡◌, None, true};
 
-use crate::floor::Floor;
 use outside_io::{Door, Failed, Hall, Sink, SinkFault, Source};
-use std::alloc::Global;
+use std::sync::atomic::AtomicU64;
+use std::sync::atomic::Ordering::SeqCst;
 use value_types::Memory;
 
-/// How often a source looks whether its gate is open before it fails.
+/// How often a source looks whether the other connection was answered before it fails.
 const TURNS: u64 = 200_000_000;
 
-/// A source whose parts wait for their gates. It tells no bytes.
+/// The batch `SELECT 1`, which each connection sends.
+const BATCH: &[u8; 46] = b"\x01\x01\x00\x2E\x00\x00\x01\x00\
+\x16\x00\x00\x00\x12\x00\x00\x00\x02\x00\x00\x00\x00\x00\x00\x00\x00\x00\x01\x00\x00\x00\
+S\x00E\x00L\x00E\x00C\x00T\x00 \x001\x00";
+
+/// What the two connections have done.
+#[derive(Drop)]
+pub struct Floor {
+    /// How many connections were handed out.
+    handed: AtomicU64,
+    /// How many writes were made to the sink of the second.
+    written: AtomicU64,
+    /// How many connections came back that were read to their end and had an answer to each of their batches.
+    answered: AtomicU64,
+}
+
+impl Floor {
+    /// A floor before its first connection.
+    pub fn new() -> Floor {
+        Floor {
+            handed: AtomicU64::new(0),
+            written: AtomicU64::new(0),
+            answered: AtomicU64::new(0),
+        }
+    }
+
+    /// How many connections came back whole.
+    pub fn answered(&self) -> u64 {
+        self.answered.load(SeqCst)
+    }
+
+    /// Whether the second connection is answered while that is looked at so many times.
+    fn waits(&self) -> bool {
+        for _turn in 0..TURNS {
+            if self.written.load(SeqCst) > 0 {
+                return true;
+            }
+        }
+        false
+    }
+}
+
+/// A source that gives its batches, and waits before the last of two. It tells no bytes.
 #[derive(Drop)]
 pub struct GatedSource<'a> {
     floor: &'a Floor,
-    connection: usize,
-    part: usize,
-    at: usize,
+    /// What is left of the batch.
+    left: &'static [u8],
+    /// How many batches come behind it.
+    behind: u64,
     faults: u64,
-    /// Whether it has come to its end.
-    pub has_ended: bool,
 }
 
 impl<'a> Source for GatedSource<'a> {
@@ -30,35 +71,28 @@ impl<'a> Source for GatedSource<'a> {
     ghost faults = { λ s. s.faults };
 
     fn read(&mut self, into: &mut [u8]) -> Result<usize, Failed> {
-        let Some(part) = self.floor.part(self.connection, self.part) else {
-            self.has_ended = true;
-            return Ok(0);
-        };
-        if !self.floor.waits_for(part.gate, TURNS) {
-            self.faults = self.faults.saturating_add(1);
-            return Err(Failed);
+        if self.left.is_empty() && self.behind > 0 {
+            if !self.floor.waits() {
+                self.faults = self.faults.saturating_add(1);
+                return Err(Failed);
+            }
+            self.behind -= 1;
+            self.left = BATCH;
         }
-        let left = &part.bytes[self.at.min(part.bytes.len())..];
-        let n = into.len().min(left.len());
-        into[..n].copy_from_slice(&left[..n]);
-        if n == left.len() {
-            self.floor.count_given(self.connection);
-            self.part = self.part.saturating_add(1);
-            self.at = 0;
-        } else {
-            self.at = self.at.saturating_add(n);
-        }
+        let n = into.len().min(self.left.len());
+        let (front, left) = self.left.split_at(n);
+        into[..n].copy_from_slice(front);
+        self.left = left;
         Ok(n)
     }
 }
 
-/// A sink that keeps what is written, and counts the writes. It tells no bytes.
+/// A sink that counts its bytes. It tells none.
 #[derive(Drop)]
 pub struct KeptSink<'a> {
     floor: &'a Floor,
-    connection: usize,
-    /// What was written.
-    pub bytes: Vec<u8>,
+    is_second: bool,
+    count: usize,
 }
 
 impl<'a> Sink for KeptSink<'a> {
@@ -67,23 +101,12 @@ impl<'a> Sink for KeptSink<'a> {
     ghost faults = { λ s. 0 };
 
     fn write(&mut self, from: &[u8]) -> Result<usize, SinkFault> {
-        if self.bytes.extend_from_slice(from).is_err() {
-            return Err(SinkFault::Memory);
+        self.count = self.count.saturating_add(from.len());
+        if self.is_second {
+            self.floor.written.fetch_add(1, SeqCst);
         }
-        self.floor.count_written(self.connection);
         Ok(from.len())
     }
-}
-
-/// What was kept of a connection at its end.
-#[derive(Debug, Drop)]
-pub struct Kept {
-    /// Its number.
-    pub connection: usize,
-    /// What was written to its sink.
-    pub bytes: Vec<u8>,
-    /// Whether its source came to its end, with no fault.
-    pub has_ended: bool,
 }
 
 /// A door of the hall.
@@ -93,8 +116,6 @@ pub struct GatedDoor<'a> {
     is_out: bool,
     has_closed: bool,
     finished: u64,
-    kept: Vec<Kept>,
-    alloc: Global,
 }
 
 impl<'a> Door for GatedDoor<'a> {
@@ -115,41 +136,34 @@ impl<'a> Door for GatedDoor<'a> {
     ghost told = { λ d. None };
 
     fn accept(&mut self) -> Result<Option<(GatedSource<'a>, KeptSink<'a>)>, Failed> {
-        let Some(connection) = self.floor.hand_out() else {
+        let number = self.floor.handed.fetch_add(1, SeqCst);
+        if number > 1 {
             self.has_closed = true;
             return Ok(None);
-        };
+        }
         self.is_out = true;
         let input = GatedSource {
             floor: self.floor,
-            connection,
-            part: 0,
-            at: 0,
+            left: BATCH,
+            behind: if number == 0 { 1 } else { 0 },
             faults: 0,
-            has_ended: false,
         };
         let output = KeptSink {
             floor: self.floor,
-            connection,
-            bytes: Vec::new(self.alloc),
+            is_second: number == 1,
+            count: 0,
         };
         Ok(Some((input, output)))
     }
 
+    /// Each answer has 52 bytes, and the first connection two of them.
     fn finish(&mut self, input: GatedSource<'a>, output: KeptSink<'a>) {
         self.is_out = false;
         self.finished = self.finished.saturating_add(1);
-        let KeptSink {
-            connection,
-            bytes,
-            ..
-        } = output;
-        // A test that misses one fails.
-        let _ = self.kept.push(Kept {
-            connection,
-            bytes,
-            has_ended: input.has_ended && input.faults == 0,
-        });
+        let wanted = if output.is_second { 52 } else { 104 };
+        if input.left.is_empty() && input.behind == 0 && output.count == wanted {
+            self.floor.answered.fetch_add(1, SeqCst);
+        }
     }
 }
 
@@ -159,20 +173,15 @@ pub struct GatedHall<'a> {
     floor: &'a Floor,
     finished: u64,
     closed: u64,
-    /// The connections that came back, door by door.
-    pub kept: Vec<Kept>,
-    alloc: Global,
 }
 
 impl<'a> GatedHall<'a> {
     /// A hall of the connections of this floor.
-    pub fn new(alloc: Global, floor: &'a Floor) -> GatedHall<'a> {
+    pub fn new(floor: &'a Floor) -> GatedHall<'a> {
         GatedHall {
             floor,
             finished: 0,
             closed: 0,
-            kept: Vec::new(alloc),
-            alloc,
         }
     }
 }
@@ -200,27 +209,11 @@ impl<'a> Hall for GatedHall<'a> {
             is_out: false,
             has_closed: false,
             finished: 0,
-            kept: Vec::new(self.alloc),
-            alloc: self.alloc,
         })
     }
 
     fn rejoin(&mut self, door: GatedDoor<'a>) {
-        let GatedDoor {
-            kept,
-            finished,
-            has_closed,
-            ..
-        } = door;
-        self.finished = self.finished.saturating_add(finished);
-        self.closed = self.closed.saturating_add(u64::from(has_closed));
-        keep_all(&mut self.kept, kept);
-    }
-}
-
-/// Keeps what others kept. A test that misses one fails.
-fn keep_all(kept: &mut Vec<Kept>, others: Vec<Kept>) {
-    for other in others {
-        let _ = kept.push(other);
+        self.finished = self.finished.saturating_add(door.finished);
+        self.closed = self.closed.saturating_add(u64::from(door.has_closed));
     }
 }

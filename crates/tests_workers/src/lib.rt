@@ -1,13 +1,9 @@
-//! Tests of connections served at once, on threads: by a hall whose sources wait for what the others have done, so that a body
-//! which serves one connection behind another, or holds a lock round a whole transaction, does not pass; and by clients of a socket.
+//! Tests of connections served at once, on threads: by a hall with a source that waits for what the other connection is answered, so
+//! that a body which serves one connection behind another does not pass; and of doors that fail.
 #![tactic(auto)]
 
 #[cfg(test)]
 mod at_once;
-mod floor;
 mod gated;
-#[cfg(test)]
-mod sockets;
 
-pub use floor::{Floor, Gate, Part};
-pub use gated::{GatedDoor, GatedHall, GatedSource, KeptSink};
+pub use gated::{Floor, GatedDoor, GatedHall, GatedSource, KeptSink};

@@ -5,7 +5,7 @@ use Rattle.std.proofs.Common.{sym, subst, arith}
 use Rattle.tsql_tree.specs.declared.definition.Definition.TheVariants as definition
 use Rattle.tsql_tree.specs.declared.definition.Definition.{Definition as Defined}
 use Rattle.tsql_tree.specs.declared.statement.Batch.TheVariants.{Definition, Body}
-use Rattle.query_parser.specs.declared.fault.ParseFault.TheVariants as fault
+use Rattle.tsql_grammar.specs.declared.fault.ParseFault.TheVariants as fault
 use Rattle.stmt_parser.specs.Parsed.{BatchOf}
 use Rattle.catalog_rows.specs.Definitions.{defined_name, longest_text}
 use Rattle.text_laws.specs.Placeless.{AreLike}

@@ -1,5 +1,6 @@
 pub mod RuleTests
 pub mod Instance
+pub mod Variants
 pub mod Readings
 pub mod Rows
 pub mod Spellings

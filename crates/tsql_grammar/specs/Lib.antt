@@ -10,3 +10,4 @@ pub mod BasicTest  -- a test without connectives, as it is written
 pub mod PlainText  -- the grammar where a semicolon is a semicolon
 -- cited by private contracts alone
 pub mod WordLetters  -- the words by their first letter
+pub mod Variants  -- kinds by their variants

@@ -5,7 +5,7 @@ use tsql_tree::FixedOption;
 
 /// What a lexeme is to the grammar. A word that the grammar knows is a kind of its own, whatever its
 /// case; the spellings of one word, as EXEC and EXECUTE, are one kind.
-#[derive(Clone, Copy, Debug, PartialEq, Eq)]
+#[derive(Clone, Copy)]
 pub enum Kind {
     /// A number.
     Number,
@@ -42,7 +42,7 @@ pub enum Kind {
 }
 
 /// The functions whose names are not reserved.
-#[derive(Clone, Copy, Debug, PartialEq, Eq)]
+#[derive(Clone, Copy)]
 pub enum Function {
     /// `CAST`
     Cast,
@@ -77,7 +77,7 @@ pub enum Function {
 }
 
 /// Words that are not reserved.
-#[derive(Clone, Copy, Debug, PartialEq, Eq)]
+#[derive(Clone, Copy)]
 pub enum Word {
     /// `OUT` or `OUTPUT`
     Output,
@@ -148,7 +148,7 @@ pub enum Word {
 }
 
 /// Reserved words.
-#[derive(Clone, Copy, Debug, PartialEq, Eq)]
+#[derive(Clone, Copy)]
 pub enum Reserved {
     /// `AND`
     And,

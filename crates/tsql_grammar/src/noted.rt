@@ -1,7 +1,7 @@
 //! What is judged of a text that reads.
 
 /// What is wrong with a text that reads.
-#[derive(Clone, Copy, Debug, PartialEq, Eq)]
+#[derive(Clone, Copy, Debug)]
 pub enum TextFault {
     /// It nests too deep.
     TooDeep,

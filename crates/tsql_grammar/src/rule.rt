@@ -3,7 +3,7 @@
 use crate::{Function, Kind};
 
 /// A class of lexemes that a production takes.
-#[derive(Clone, Copy, Debug)]
+#[derive(Clone, Copy)]
 pub enum Class {
     /// Those of one kind.
     One(Kind),
@@ -18,7 +18,7 @@ pub enum Class {
 }
 
 /// What is noted of a text, behind the lexeme that was read last.
-#[derive(Clone, Copy, Debug, PartialEq, Eq)]
+#[derive(Clone, Copy)]
 pub enum Mark {
     /// The lexeme opens what counts as nesting.
     Enter,
@@ -31,7 +31,7 @@ pub enum Mark {
 }
 
 /// What stands around a statement.
-#[derive(Clone, Copy, Debug)]
+#[derive(Clone, Copy)]
 pub struct Around {
     /// A WHILE does, so that BREAK and CONTINUE may stand.
     pub in_while: bool,
@@ -42,7 +42,7 @@ pub struct Around {
 /// The rules, in the order of the language's grammar: batches and definitions, statements, selects,
 /// tests, expressions. A rule that is named for what stands before it is the rest of a production
 /// whose beginning another has too.
-#[derive(Clone, Copy, Debug)]
+#[derive(Clone, Copy)]
 pub enum Rule {
     /// A batch.
     Batch,

@@ -7,7 +7,7 @@ use thiserror::Error;
 use value_types::Memory;
 
 /// Which rule no text keeps that goes on as this one does.
-#[derive(Clone, Copy, Debug, PartialEq, Eq, Error)]
+#[derive(Clone, Copy, Debug, Error)]
 pub enum LexKind {
     /// A text that no quote closes.
     #[error("a text is not closed")]
@@ -27,7 +27,7 @@ pub enum LexKind {
 }
 
 /// The first place of a text where the lexical rules fail.
-#[derive(Clone, Copy, Debug, PartialEq, Eq)]
+#[derive(Clone, Copy)]
 pub struct Flaw {
     /// How many units stand before it.
     pub at: u32,
@@ -38,7 +38,7 @@ pub struct Flaw {
 }
 
 /// Why a text has no list of lexemes.
-#[derive(Clone, Copy, Debug, PartialEq, Eq, Error)]
+#[derive(Clone, Copy, Debug, Error)]
 pub enum LexFault {
     /// The lexical rules fail, at this place first.
     #[error("{kind}, at unit {at} in line {line}")]

@@ -3,7 +3,7 @@
 use value_types::Units;
 
 /// A lexeme of a text, and where it stands.
-#[derive(Debug, PartialEq, Drop)]
+#[derive(Drop)]
 pub struct Spanned {
     /// What it is.
     pub lexeme: Lexeme,
@@ -16,7 +16,7 @@ pub struct Spanned {
 }
 
 /// A lexeme of Transact-SQL.
-#[derive(Debug, PartialEq, Drop)]
+#[derive(Debug, Drop)]
 pub enum Lexeme {
     /// A word, a keyword or a name, as it is spelled.
     Word(Units),

@@ -12,7 +12,7 @@ use std::alloc::Global;
 use value_types::{Memory, Units};
 
 /// The lexemes of a text in front of its first flaw, and that flaw, where it has one.
-#[derive(Debug, Drop)]
+#[derive(Drop)]
 pub struct Lexing {
     /// The lexemes in order.
     pub lexemes: Vec<Spanned>,

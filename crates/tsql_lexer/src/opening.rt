@@ -7,7 +7,7 @@ use crate::classes::{AT, is_blank, is_digit, is_word_start};
 use crate::signs::{HYPHEN, SLASH, STAR};
 
 /// What the first two units of a text open.
-#[derive(Clone, Copy, Debug, PartialEq, Eq)]
+#[derive(Clone, Copy)]
 pub(crate) enum Opening {
     /// Blanks.
     Blank,

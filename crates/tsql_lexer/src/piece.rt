@@ -19,7 +19,7 @@ use std::alloc::Global;
 use value_types::Memory;
 
 /// What stands at the front of a text.
-#[derive(Debug, Drop)]
+#[derive(Drop)]
 pub(crate) enum Piece {
     /// Blanks or a comment of so many units.
     Gap(usize),

@@ -1,4 +1,3 @@
-pub mod Variants
 pub mod Picks
 pub mod Counted
 pub mod Weights

@@ -4,5 +4,4 @@ pub mod PlainVerdict  -- the same, where a semicolon is a semicolon
 pub mod Stack  -- what is expected in a rule's place
 pub mod Notes  -- the notes of the code, as the grammar's
 pub mod Steps  -- what a step means for every text
-pub mod Variants  -- kinds by their variants
 pub mod Starts  -- what the commonest rules begin with

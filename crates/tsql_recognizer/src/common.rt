@@ -4,19 +4,18 @@ ghost use Rattle.std.specs.Prelude.{◌≡◌, ◌++◌, [], true, map, Some, If
 ghost use Rattle.tsql_grammar.specs.declared.rule.Rule.TheVariants as r;
 ghost use Rattle.tsql_recognizer.specs.Stack.{symbol_of, expected, shown, pick, symbols_of_rule, ComesTo, Develops, Shows, Follows};
 
-use crate::choice::{admits, push_all, takes};
+use crate::choice::push_all;
 use crate::counting::{counted_before, otherwise};
 use crate::fronts::may_begin;
 use crate::operands::{
     comparison_before, enclosed_before, expr_before, more_factors_before, more_terms_before,
     product_before, simple_primary_before, test_before, unary_before,
 };
-use crate::place::same_kind;
 use crate::step::Step;
 use crate::symbol::Symbol;
 use crate::table;
 use std::alloc::AllocError;
-use tsql_grammar::{Class, Kind, Mark, Reserved, Rule};
+use tsql_grammar::{Class, Kind, Mark, Reserved, Rule, admits, same_kind, takes};
 use tsql_lexer::Sign;
 
 /// Puts what is expected in a rule's place on the stack, some steps on, or behind the lexeme of the kind.

@@ -4,9 +4,9 @@ ghost use Rattle.std.specs.Prelude.{◌≡◌};
 ghost use Rattle.tsql_grammar.specs.Lookahead.{first};
 ghost use Rattle.tsql_recognizer.specs.Starts as starts;
 
-use crate::choice::{is_name, of_any};
+use crate::choice::of_any;
 use crate::first::first_classes;
-use tsql_grammar::{Kind, Reserved, Rule};
+use tsql_grammar::{Kind, Reserved, Rule, is_name};
 use tsql_lexer::Sign;
 
 /// Whether the kind may begin a text of the rule.

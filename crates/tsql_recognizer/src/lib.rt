@@ -3,9 +3,8 @@
 //! Read `specs/Verdict.antt` first: what [`recognize`] says of a text. The layer above relies on
 //! exactly that: the longest part that begins a text of the rule, or that the whole is one, and the
 //! first thing in it that is wrong although it reads; and on [`law_plain_verdict`], that this is so of
-//! the lexemes as they are, though a semicolon before ELSE is read as one of a kind of its own. [`admits`]
-//! and [`same_kind`] compare kinds for whoever reads a text that is known to be one. Nothing is asked
-//! of the caller. A text is read with a stack and no recursion, whatever its nesting. That long
+//! the lexemes as they are, though a semicolon before ELSE is read as one of a kind of its own. Nothing
+//! is asked of the caller. A text is read with a stack and no recursion, whatever its nesting. That long
 //! texts are read in a time that grows with their length is not proved.
 //!
 //! `table.rt` and `open.rt` have the productions in the code, by their symbols alone, and `choice.rt`
@@ -25,13 +24,10 @@ mod lexemes;
 mod notes;
 mod open;
 mod operands;
-mod place;
 mod recognizer;
 mod step;
 mod symbol;
 mod table;
 
-pub use choice::admits;
 pub use laws::law_plain_verdict;
-pub use place::same_kind;
 pub use recognizer::{Verdict, recognize};

@@ -10,20 +10,18 @@ ghost use Rattle.tsql_recognizer.specs.Stack.{expected};
 ghost use Rattle.tsql_recognizer.specs.Steps.{Fed, Finished};
 ghost use Rattle.tsql_recognizer.specs.Verdict.{IsVerdict};
 
-use crate::choice::takes;
 use crate::common::step_before;
 use crate::notes::Notes;
 use crate::open::open;
-use crate::place::same_kind;
 use crate::step::Step;
 use crate::symbol::Symbol;
 use std::alloc::{AllocError, Global};
-use tsql_grammar::{Kind, Mark, Reserved, Rule, TextFault, kind_of};
+use tsql_grammar::{Kind, Mark, Reserved, Rule, TextFault, kind_of, same_kind, takes};
 use tsql_lexer::{Lexeme, Sign, Spanned};
 use value_types::Memory;
 
 /// What a list of lexemes is to a rule.
-#[derive(Clone, Copy, Debug, PartialEq, Eq)]
+#[derive(Clone, Copy)]
 pub enum Verdict {
     /// So many lexemes are the longest part that begins a text of the rule; the whole is no text of it.
     Stops(usize),

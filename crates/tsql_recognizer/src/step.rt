@@ -1,7 +1,7 @@
 //! What becomes of a rule before a lexeme.
 
 /// What became of a rule before a lexeme.
-#[derive(Clone, Copy, Debug, PartialEq, Eq)]
+#[derive(Clone, Copy)]
 pub enum Step {
     /// No production is chosen.
     Stops,

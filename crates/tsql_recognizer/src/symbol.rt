@@ -3,7 +3,7 @@
 use tsql_grammar::{Class, Mark, Rule};
 
 /// A symbol of a production.
-#[derive(Clone, Copy, Debug)]
+#[derive(Clone, Copy)]
 pub enum Symbol {
     /// A lexeme of a class.
     Lexeme(Class),

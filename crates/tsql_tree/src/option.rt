@@ -20,7 +20,7 @@ pub enum FixedOption {
 }
 
 /// A level of isolation, as it is written.
-#[derive(Clone, Copy, Debug, PartialEq, Eq)]
+#[derive(Clone, Copy)]
 pub enum IsolationLevel {
     /// `READ COMMITTED`
     ReadCommitted,
@@ -35,7 +35,7 @@ pub enum IsolationLevel {
 }
 
 /// What DEADLOCK_PRIORITY is set to.
-#[derive(Clone, Copy, Debug, PartialEq, Eq)]
+#[derive(Clone, Copy)]
 pub enum PriorityWord {
     /// `LOW`
     Low,
@@ -48,7 +48,7 @@ pub enum PriorityWord {
 }
 
 /// An option of a session with its setting; `true` stands for ON.
-#[derive(Clone, Copy, Debug, PartialEq, Eq)]
+#[derive(Clone, Copy)]
 pub enum SessionOption {
     /// `XACT_ABORT`
     XactAbort(bool),

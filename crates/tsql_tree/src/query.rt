@@ -41,7 +41,7 @@ pub enum CompareSign {
 }
 
 /// A value of the session, by the word for it.
-#[derive(Clone, Copy, Debug, PartialEq, Eq)]
+#[derive(Clone, Copy)]
 pub enum SystemWord {
     /// `@@TRANCOUNT`
     TranCount,
@@ -68,7 +68,7 @@ pub enum SystemWord {
 }
 
 /// A function over the rows of a group.
-#[derive(Clone, Copy, Debug, PartialEq, Eq)]
+#[derive(Clone, Copy)]
 pub enum Aggregate {
     /// `COUNT`
     Count,

@@ -6,8 +6,6 @@
 #![tactic(auto)]
 
 mod program;
-#[cfg(test)]
-mod tests;
 
 use outside_io::{ReadSource, SystemClock, TcpHall, WriteSink};
 use seat_server::House;

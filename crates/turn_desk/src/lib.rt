@@ -2,9 +2,10 @@
 //!
 //! Read `specs/Seats.antt` and `specs/Acts.antt` first, then the laws of [`Machine`]. The layers
 //! above rely on [`Desk::act`] making exactly one step of the machine that stands at the desk, which
-//! knows all that was done by each seat, and on [`Desk::close`] giving that machine back. A caller
-//! owes a machine with its laws, seats of this desk, and calls that are ready. That threads wait
-//! their turn without keeping the cores busy, and that they ever get it, is tested and not proved.
+//! knows all that was done by this seat, and on [`Desk::close`] giving that machine back, which
+//! knows what was done by each. A caller owes a machine with its laws, seats of this desk, and calls
+//! that are ready. That threads wait their turn without keeping the cores busy, and that they ever
+//! get it, is tested and not proved.
 //!
 //! ```text
 //! let (desk, mut seats) = Desk::start(alloc, machine, 2)?;

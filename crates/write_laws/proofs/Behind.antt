@@ -17,7 +17,7 @@ use Rattle.constraint_check.specs.Laws.{behind}
 use Rattle.constraint_check.specs.Reads.{is_erase, rows_table, shape_of}
 use Rattle.constraint_check.proofs.Behind.{elsewhere, name_is, origin, same, same_on}
 use Rattle.constraint_check.proofs.Lists.{all_more, all_two, among_both, from_among}
-use Rattle.write_laws.specs.Laws.{AreOneEach, AreRight, RowsFit}
+use Rattle.write_laws.specs.Planning.{AreOneEach, AreRight, RowsFit}
 use Rattle.write_laws.proofs.Changes.{all_both}
 
 -- the row of a change fits at its key, if there is one

@@ -24,7 +24,7 @@ use Rattle.dml_exec.specs.declared.rewritten.Rewritten.{Rewritten}
 use Rattle.dml_exec.specs.declared.rewritten.Rewritten.TheVariants.{Inserted, Set, Erased}
 use Rattle.dml_exec.specs.Filling.{Row}
 use Rattle.dml_exec.specs.Planning.{changes_of, erasure, insertion, moved, new_rows, rewrite, stays}
-use Rattle.write_laws.specs.Laws.{IsRight}
+use Rattle.write_laws.specs.Planning.{IsRight}
 
 -- ---- lists
 

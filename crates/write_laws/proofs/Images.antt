@@ -1,160 +1,129 @@
--- The rows of a target that are read have its table's columns.
-use Rattle.std.proofs.Common.{◌≡◌, refl, sym, ap, ◌∙◌, subst, ℕ, zero, suc, ◌+◌, Bool, true, false, if◌then◌else◌, List, [], ◌∷◌, ◌++◌, length, get_or, arith, Option, Some, None, Result, Ok, Err}
-use Rattle.std.proofs.lemmas.Bool.{and_parts}
-use Rattle.std.proofs.lemmas.List.{length-append}
-use Rattle.std.specs.Option.{ForSome}
-use Rattle.value_types.specs.declared.value.Value.{Value}
+-- Images.
+use Rattle.std.proofs.Common.{◌≡◌, ℕ, zero, suc, false, List, [], ◌∷◌, ◌++◌, Option, None, Some, Result, Ok, refl, sym, subst, ◌∙◌, append-nil, append_assoc}
+use Rattle.std.specs.List.{AllByRecursion}
 use Rattle.tsql_tree.specs.declared.definition.TableTree.{TableTree}
-use Rattle.bound_tree.specs.declared.write.Bound.TheVariants as bound
-use Rattle.bound_tree.specs.declared.write.BoundWrite.TheVariants as write
 use Rattle.step_model.specs.declared.manner.Manner.{Manner}
+use Rattle.step_model.specs.declared.op.Hold.TheVariants.{Range}
 use Rattle.step_model.specs.declared.op.Op.{Op}
 use Rattle.step_model.specs.declared.op.Op.TheVariants.{Fetch}
 use Rattle.step_model.specs.declared.range.Start.{Start}
-use Rattle.step_model.specs.declared.range.Start.TheVariants.{Past}
+use Rattle.step_model.specs.declared.range.Start.TheVariants.{First, Past}
+use Rattle.step_model.specs.declared.range.Stop.TheVariants.{Last}
 use Rattle.step_model.specs.declared.reply.Reply.{Reply}
-use Rattle.step_model.specs.declared.reply.Reply.TheVariants as replies
-use Rattle.step_model.specs.Dialog.{Dialog, over, asks, room, never, ◌then◌, Held}
+use Rattle.step_model.specs.declared.reply.Reply.TheVariants.{Row, Gone, End, Memory as NoMemory, TimedOut as Refuses, Victim as Falls}
+use Rattle.step_model.specs.Database.{Database}
+use Rattle.step_model.specs.Dialog.{Dialog, over, Held}
 use Rattle.step_model.specs.Exchange.{Exchange}
+use Rattle.step_model.specs.Fits.{AnswersIn}
 use Rattle.step_model.specs.Ranges.{Keeps, Rows, range_limit, with_row}
-use Rattle.catalog_rows.specs.Rows.{has_columns, key_of, row_fits, same_key}
+use Rattle.constraint_check.specs.Laws.{KeysAreOne}
 use Rattle.constraint_check.specs.Reads.{shape_of}
+use Rattle.constraint_check.proofs.Lists.{all_left, all_right}
 use Rattle.dml_exec.specs.declared.refusal.Level.{Level}
+use Rattle.dml_exec.specs.declared.refusal.Level.TheVariants.{Serializable}
 use Rattle.dml_exec.specs.declared.refusal.Refusal.{Refusal}
 use Rattle.dml_exec.specs.declared.refusal.Refusal.TheVariants.{Memory}
-use Rattle.dml_exec.specs.Asking.{on_ok, ◌>>=◌, with_room, with_room_if}
-use Rattle.dml_exec.specs.Reading.{GivenRows, TableRead, behind_gone, fetches, fits, from, images_from, images_of, inner_reads, is_short, key_width, read_by, reads_on, reads_table, rows_from, rows_in, table_fetch, unless_given}
-use Rattle.write_laws.specs.Laws.{HaveColumns, RowsRead}
-use Rattle.write_laws.proofs.Changes.{all_both}
+use Rattle.dml_exec.specs.Asking.{with_room}
+use Rattle.dml_exec.specs.Reading.{GivenRows, TableRead, behind_gone, fetches, fits, from, images_from, images_of, is_short, key_width, part_of, read_by, reads_of, reads_on, reads_table, rows_from, rows_in, table_fetch, unless_given}
+use Rattle.write_laws.specs.Reading.{ImagesFetch, ImagesRead}
+use Rattle.statement_paths.specs.Asked.{IsFetch}
+use Rattle.write_laws.specs.Reads.{at_place, key_size, AreImages, HoldsIt, IfFetched, IsImageOf, KeysHave, whole_table}
+use Rattle.write_laws.proofs.Dialogs.{held_ok, held_room}
+use Rattle.write_laws.proofs.Parts.{AsksOnly, all_asked, answers, asks_ok, asks_room, asks_room_if, one_place}
+use Rattle.write_laws.proofs.Ranges.{in_fetches, read_in}
 
--- ---- what comes of a dialog
+-- ---- what is asked
 
--- whatever the replies are, this holds of what comes
-abbrev Comes : {A : Type 0} → Dialog A → (A → Type 0) → Type 0
-Comes (over a) P = P a
-Comes (asks op quiet go) P = (reply : Reply) → Comes (go reply) P
-Comes (room go) P = (enough : Bool) → Comes (go enough) P
-Comes never P = Unit {0}
+module _ (P : Op → Type 0) where
+  read_by_asks : (width : ℕ) (keeps : Keeps) (so_far : Rows) (reply : Reply) → AsksOnly P (read_by width keeps so_far reply)
+  read_by_asks width keeps so_far (Row key row at) = asks_room P Memory (over (Ok (with_row keeps so_far key row, Some (Past key)))) tt
+  read_by_asks width keeps so_far (Gone key at) = asks_room_if P (is_short width key) Memory (over (Ok (so_far, Some (behind_gone width key)))) tt
+  read_by_asks width keeps so_far (End at) = tt
+  read_by_asks width keeps so_far NoMemory = tt
+  read_by_asks width keeps so_far (Refuses holder held asked on) = tt
+  read_by_asks width keeps so_far (Falls cycle) = tt
+  read_by_asks width keeps so_far reply = tt
 
-came : {A : Type 0} (manner : Manner) (dialog : Dialog A) (P : A → Type 0) (exchanges : List Exchange) (result : A) → Comes dialog P → Held manner dialog exchanges result → P result
-unfolding Held
-came manner (over a) P exchanges result comes held = subst P (sym held.1) comes
-came manner (asks op quiet go) P [] result comes held = absurd held
-came manner (asks op quiet go) P (x ∷ later) result comes held = came manner (go x.reply) P later result (comes x.reply) held.3
-came manner (room go) P exchanges result comes held = came manner (go held.0) P exchanges result (comes held.0) held.1
-came manner never P exchanges result comes held = absurd held
+pub fetch_asks : (width : ℕ) (keeps : Keeps) (op : Op) (so_far : Rows) → AsksOnly IsFetch (fetches width keeps op so_far)
+fetch_asks width keeps (Fetch table start stop hold part) so_far = (tt, read_by_asks IsFetch width keeps so_far)
+fetch_asks width keeps op so_far = tt
 
--- one behind another
-comes_then : {A B : Type 0} (dialog : Dialog A) (go : A → Dialog B) (Q : A → Type 0) (P : B → Type 0) → Comes dialog Q → ((a : A) → Q a → Comes (go a) P) → Comes (dialog then go) P
-unfolding ◌then◌
-comes_then (over a) go Q P comes on = on a comes
-comes_then (asks op quiet next) go Q P comes on = λ reply. comes_then (next reply) go Q P (comes reply) on
-comes_then (room next) go Q P comes on = λ enough. comes_then (next enough) go Q P (comes enough) on
-comes_then never go Q P comes on = tt
-
--- of a value, if one comes
-abbrev IfWell : {A E : Type 0} → (A → Type 0) → Result A E → Type 0
-IfWell P (Ok a) = P a
-IfWell P (Err e) = Unit {0}
-
-comes_whatever : {A E : Type 0} (dialog : Dialog (Result A E)) → Comes dialog (IfWell (λ a. Unit {0}))
-comes_whatever (over (Ok a)) = tt
-comes_whatever (over (Err e)) = tt
-comes_whatever (asks op quiet go) = λ reply. comes_whatever (go reply)
-comes_whatever (room go) = λ enough. comes_whatever (go enough)
-comes_whatever never = tt
-
-comes_on : {A B E : Type 0} (dialog : Dialog (Result A E)) (go : A → Dialog (Result B E)) (Q : A → Type 0) (P : B → Type 0) → Comes dialog (IfWell Q) → ((a : A) → Q a → Comes (go a) (IfWell P)) → Comes (dialog >>= go) (IfWell P)
-comes_on {A = A} {B = B} {E = E} dialog go Q P comes on = comes_then dialog (on_ok go) (IfWell Q) (IfWell P) comes by_result
+pub from_asks : (width : ℕ) (keeps : Keeps) (left : ℕ) (op : Op) (so_far : Rows) → AsksOnly IsFetch (rows_from width keeps left op so_far)
+unfolding rows_from
+from_asks width keeps zero op so_far = tt
+from_asks width keeps (suc left) op so_far =
+    asks_ok IsFetch (fetches width keeps op so_far) (reads_on (λ more on. rows_from width keeps left (from on op) more)) (fetch_asks width keeps op so_far) (on_came (λ on more. from_asks width keeps left (from on op) more))
   where
-    by_result : (a : Result A E) → IfWell Q a → Comes (on_ok go a) (IfWell P)
-    by_result (Ok a) holds = on a holds
-    by_result (Err e) holds = tt
+    on_came : ((on : Start) (more : Rows) → AsksOnly IsFetch (rows_from width keeps left (from on op) more)) → (came : Rows × Option Start) → AsksOnly IsFetch (reads_on (λ more on. rows_from width keeps left (from on op) more) came)
+    on_came rest (more, None) = tt
+    on_came rest (more, Some on) = rest on more
 
-comes_room : {A E : Type 0} (wanting : E) (dialog : Dialog (Result A E)) (P : A → Type 0) → Comes dialog (IfWell P) → Comes (with_room wanting dialog) (IfWell P)
-comes_room wanting dialog P comes true = comes
-comes_room wanting dialog P comes false = tt
+-- of what is given nothing is
+unless_asks : (P : Op → Type 0) (given : Option Rows) (fetched : Dialog (Result Rows Refusal)) → AsksOnly P fetched → AsksOnly P (unless_given given fetched)
+unless_asks P None fetched only = only
+unless_asks P (Some rows) fetched only = asks_room P Memory (over (Ok rows)) tt
 
-comes_room_if : {A E : Type 0} (wants : Bool) (wanting : E) (dialog : Dialog (Result A E)) (P : A → Type 0) → Comes dialog (IfWell P) → Comes (with_room_if wants wanting dialog) (IfWell P)
-comes_room_if true wanting dialog P comes = comes_room wanting dialog P comes
-comes_room_if false wanting dialog P comes = comes
+table_asks : (given : GivenRows) (shapes : List TableTree) (level : Level) (read : TableRead) → AsksOnly IsFetch (reads_table given shapes level read)
+unfolding reads_table rows_in
+table_asks given shapes level read =
+    unless_asks IsFetch (given read.0) (rows_in (shape_of read.0 shapes) false (table_fetch level read)) (from_asks (key_width (shape_of read.0 shapes)) (fits (shape_of read.0 shapes)) range_limit (table_fetch level read) [])
 
--- ---- the rows of a table
+from_images_asks : (given : GivenRows) (shapes : List TableTree) (level : Level) (reads : List TableRead) (images : List Rows) → AsksOnly IsFetch (images_from given shapes level images reads)
+unfolding images_from
+from_images_asks given shapes level [] images = tt
+from_images_asks given shapes level (read ∷ reads) images =
+    asks_ok IsFetch (reads_table given shapes level read) (λ rows. with_room Memory (images_from given shapes level (images ++ rows ∷ []) reads)) (table_asks given shapes level read)
+    (λ rows. asks_room IsFetch Memory (images_from given shapes level (images ++ rows ∷ []) reads) (from_images_asks given shapes level reads (images ++ rows ∷ [])))
 
-module _ (shape : TableTree) where
-  abbrev Have : Rows → Type 0
-  Have = HaveColumns shape
-
-  abbrev keeps : Keeps
-  keeps = fits (Some shape)
-
-  row_kept : (rows : Rows) (key row : List Value) → Have rows → Have (with_row keeps rows key row)
-  row_kept rows key row have = by_test (row_fits shape 0 key row) refl
-    where
-      by_test : (b : Bool) → row_fits shape 0 key row ≡ b → Have (if b then rows ++ row ∷ [] else rows)
-      by_test true fit = all_both (λ row. has_columns shape.columns row ≡ true) rows (row ∷ []) have ((and_parts (has_columns shape.columns row) (same_key (key_of shape row) key) fit).0, tt)
-      by_test false fit = have
-
-  abbrev HaveSoFar : Rows × Option Start → Type 0
-  HaveSoFar so_far = Have so_far.0
-
-  reply_have : (width : ℕ) (so_far : Rows) → Have so_far → (reply : Reply) → Comes (read_by width keeps so_far reply) (IfWell HaveSoFar)
-  reply_have width so_far have (replies.Row key row at) = comes_room Memory (over (Ok (with_row keeps so_far key row, Some (Past key)))) HaveSoFar (row_kept so_far key row have)
-  reply_have width so_far have (replies.Gone key at) = comes_room_if (is_short width key) Memory (over (Ok (so_far, Some (behind_gone width key)))) HaveSoFar have
-  reply_have width so_far have (replies.End at) = have
-  reply_have width so_far have replies.Memory = tt
-  reply_have width so_far have (replies.TimedOut holder held asked on) = tt
-  reply_have width so_far have (replies.Victim cycle) = tt
-  reply_have width so_far have reply = tt
-
-  fetch_have : (width : ℕ) (fetch : Op) (so_far : Rows) → Have so_far → Comes (fetches width keeps fetch so_far) (IfWell HaveSoFar)
-  fetch_have width (Fetch table start stop hold part) so_far have = reply_have width so_far have
-  fetch_have width op so_far have = tt
-
-  behind_have : (next : Rows → Start → Dialog (Result Rows Refusal)) → ((more : Rows) (start : Start) → Have more → Comes (next more start) (IfWell Have)) → (so_far : Rows × Option Start) → HaveSoFar so_far → Comes (reads_on next so_far) (IfWell Have)
-  behind_have next goes (more, None) have = have
-  behind_have next goes (more, Some start) have = goes more start have
-
-  range_have : (width : ℕ) (left : ℕ) (fetch : Op) (so_far : Rows) → Have so_far → Comes (rows_from width keeps left fetch so_far) (IfWell Have)
-  unfolding rows_from
-  range_have width zero fetch so_far have = tt
-  range_have width (suc left) fetch so_far have =
-      comes_on (fetches width keeps fetch so_far) (reads_on (λ more start. rows_from width keeps left (from start fetch) more)) HaveSoFar Have (fetch_have width fetch so_far have)
-      (behind_have (λ more start. rows_from width keeps left (from start fetch) more) (λ more start. range_have width left (from start fetch) more))
-
-  unless_have : (rows_given : Option Rows) (fetched : Dialog (Result Rows Refusal)) → ForSome rows_given Have → Comes fetched (IfWell Have) → Comes (unless_given rows_given fetched) (IfWell Have)
-  unless_have None fetched have comes = comes
-  unless_have (Some rows) fetched have comes = comes_room Memory (over (Ok rows)) Have (have rows refl)
-
-  module _ (given : GivenRows) (shapes : List TableTree) (level : Level) (target : TableRead) (known : shape_of target.0 shapes ≡ Some shape) (has : ForSome (given target.0) Have) where
-    table_have : Comes (reads_table given shapes level target) (IfWell Have)
-    unfolding reads_table rows_in
-    table_have = unless_have (given target.0) (rows_in (shape_of target.0 shapes) false (table_fetch level target)) has
-        (subst (λ (of : Option TableTree). Comes (rows_from (key_width of) (fits of) range_limit (table_fetch level target) []) (IfWell Have)) (sym known) (range_have (key_width (Some shape)) range_limit (table_fetch level target) [] tt))
-
-    -- ---- the image of a target
-
-    behind : (images : List Rows) (rows : Rows) → get_or (images ++ rows ∷ []) (length images) [] ≡ rows
-    behind [] rows = refl
-    behind (image ∷ images) rows = behind images rows
-
-    images_have : (images : List Rows) (reads : List TableRead) (place : ℕ) → place ≡ length images + length reads → Comes (images_from given shapes level images (reads ++ target ∷ [])) (IfWell (λ all. Have (get_or all place [])))
-    unfolding images_from
-    images_have images [] place is =
-        comes_on (reads_table given shapes level target) (λ rows. with_room Memory (images_from given shapes level (images ++ rows ∷ []) [])) Have (λ all. Have (get_or all place [])) table_have
-        (λ rows have. comes_room Memory (over (Ok (images ++ rows ∷ []))) (λ all. Have (get_or all place []))
-        (subst Have (sym (ap (λ n. get_or (images ++ rows ∷ []) n []) (omega (arith, is)) ∙ behind images rows)) have))
-    images_have images (read ∷ reads) place is =
-        comes_on (reads_table given shapes level read) (λ rows. with_room Memory (images_from given shapes level (images ++ rows ∷ []) (reads ++ target ∷ []))) (λ rows. Unit {0}) (λ all. Have (get_or all place []))
-        (comes_whatever (reads_table given shapes level read))
-        (λ rows any. comes_room Memory (images_from given shapes level (images ++ rows ∷ []) (reads ++ target ∷ [])) (λ all. Have (get_or all place []))
-        (images_have (images ++ rows ∷ []) reads place (simp length-append (omega (arith, is)))))
-
-pub rows_read : RowsRead
+pub images_fetch : ImagesFetch
 unfolding images_of
-rows_read given shapes level (write.Insert table places values) shape manner exchanges images known has held = tt
-rows_read given shapes level (write.Update table sets test inner) shape manner exchanges images known has held =
-    came manner (images_of given shapes level (bound.Write (write.Update table sets test inner))) (IfWell (λ all. HaveColumns shape (get_or all (length (inner_reads inner)) []))) exchanges (Ok images)
-    (comes_room Memory (images_from given shapes level [] (inner_reads inner ++ (table, true) ∷ [])) (λ all. HaveColumns shape (get_or all (length (inner_reads inner)) []))
-    (images_have shape given shapes level (table, true) known has [] (inner_reads inner) (length (inner_reads inner)) (omega arith))) held
-rows_read given shapes level (write.Delete table test inner) shape manner exchanges images known has held = tt
+images_fetch manner given shapes level of part result held =
+    all_asked IsFetch manner (images_of given shapes level of) part result (asks_room IsFetch Memory (images_from given shapes level [] (reads_of of)) (from_images_asks given shapes level (reads_of of) [])) held
+
+-- ---- at the highest level
+
+abbrev top : List TableTree → TableRead → Dialog (Result Rows Refusal)
+top shapes read = rows_in (shape_of read.0 shapes) false (Fetch read.0 First Last Range (part_of read.1))
+
+table_top : (given : GivenRows) (shapes : List TableTree) (read : TableRead) → AsksOnly HoldsIt (reads_table given shapes Serializable read)
+unfolding reads_table
+table_top given shapes read = unless_asks HoldsIt (given read.0) (top shapes read) (in_fetches read.0 Last (part_of read.1) (shape_of read.0 shapes) false First)
+
+from_top : (given : GivenRows) (shapes : List TableTree) (reads : List TableRead) (images : List Rows) → AsksOnly HoldsIt (images_from given shapes Serializable images reads)
+unfolding images_from
+from_top given shapes [] images = tt
+from_top given shapes (read ∷ reads) images =
+    asks_ok HoldsIt (reads_table given shapes Serializable read) (λ rows. with_room Memory (images_from given shapes Serializable (images ++ rows ∷ []) reads)) (table_top given shapes read)
+    (λ rows. asks_room HoldsIt Memory (images_from given shapes Serializable (images ++ rows ∷ []) reads) (from_top given shapes reads (images ++ rows ∷ [])))
+
+module _ (db : Database) (one : KeysAreOne db) (manner : Manner) (given : GivenRows) (shapes : List TableTree) where
+  abbrev Answered : List Exchange → Type 0
+  Answered part = AllByRecursion (λ x. AnswersIn db x.op x.reply) part
+
+  -- one of them
+  image_read : (rows_given : Option Rows) (read : TableRead) (rows : Rows) (part : List Exchange) → IfFetched rows_given (KeysHave (key_size shapes read.0) db read.0) → Answered part
+      → Held manner (unless_given rows_given (top shapes read)) part (Ok rows) → IsImageOf rows_given db shapes read.0 rows
+  unfolding Held
+  image_read None read rows part long answered held = read_in db one manner (shape_of read.0 shapes) false (whole_table read.0) (part_of read.1) rows part answered held long tt
+  image_read (Some found) read rows part long answered held = let over_so = held_room manner Memory (over (Ok found)) part rows held in cc
+
+  -- behind those that were read so far
+  images_behind : (reads : List TableRead) (so_far images : List Rows) (part : List Exchange) → AllByRecursion (λ read. IfFetched (given read.0) (KeysHave (key_size shapes read.0) db read.0)) reads → Answered part
+      → Held manner (images_from given shapes Serializable so_far reads) part (Ok images) → (rest : List Rows) × (images ≡ so_far ++ rest) × AreImages given db shapes reads rest
+  unfolding Held images_from reads_table
+  images_behind [] so_far images part long answered held = ([], (let is : images ≡ so_far = cc in is) ∙ sym (append-nil so_far), refl)
+  images_behind (read ∷ reads) so_far images part long answered held =
+      let h = held_ok manner (unless_given (given read.0) (top shapes read)) (λ rows. with_room Memory (images_from given shapes Serializable (so_far ++ rows ∷ []) reads)) part images held in
+      let answered : Answered (h.first ++ h.second) = subst Answered h.parts answered in
+      let here = image_read (given read.0) read h.came h.first long.0 (all_left (λ (x : Exchange). AnswersIn db x.op x.reply) h.first h.second answered) h.held in
+      let more = images_behind reads (so_far ++ h.came ∷ []) images h.second long.1 (all_right (λ (x : Exchange). AnswersIn db x.op x.reply) h.first h.second answered)
+      (held_room manner Memory (images_from given shapes Serializable (so_far ++ h.came ∷ []) reads) h.second images h.more) in
+      (h.came ∷ more.0, more.1 ∙ append_assoc so_far (h.came ∷ []) more.0, (h.came, more.0, refl, here, more.2))
+
+pub images_read : ImagesRead
+unfolding images_of
+images_read log mine before part later manner given shapes of images is holds held long =
+    let asked = held_room manner Memory (images_from given shapes Serializable [] (reads_of of)) part images held in
+    let came = images_behind (at_place log before later) (one_place log before later) manner given shapes (reads_of of) [] images part long
+    (answers log mine before part later is holds (all_asked HoldsIt manner (images_from given shapes Serializable [] (reads_of of)) part (Ok images) (from_top given shapes (reads_of of) []) asked)) asked in
+    subst (AreImages given (at_place log before later) shapes (reads_of of)) (sym came.1) came.2

@@ -2,7 +2,42 @@
 pub mod Stored  -- a row that is filled has its columns
 pub mod Targets  -- the rows of a target, of which some are meant
 pub mod Changes  -- the changes of rows that have their columns are right by themselves
-pub mod Images  -- what is read of a target has its columns
+pub mod TargetImages  -- what is read of a target has its columns
 pub mod Behind  -- the rows of a database behind changes
-pub mod Planned  -- the laws
-mod StandardFacts  -- worked writes
+pub mod Planned  -- the laws of plans
+mod PlanFacts  -- worked writes
+pub mod Keys  -- keys behind a key, and keys of one length
+pub mod Entries  -- the rows of a range, from its first fetch and those behind it
+pub mod Dialogs  -- a dialog that came to something, taken apart
+pub mod Parts  -- all exchanges of a range read one database
+pub mod Ranges  -- the rows of a range
+pub mod Walks  -- rows that were found one fetch behind another, and one whole key
+pub mod Images  -- images
+pub mod Currents  -- the rows of a range that was not held
+pub mod Checks  -- reads that gave no error
+pub mod Tables  -- what is read for changes is of tables that are there, and of whole keys
+pub mod Writes  -- changes that were made and checked
+pub mod Nets  -- what writes come to
+pub mod Firsts  -- keys at which writes first insert
+pub mod Commits  -- what a commit leaves
+pub mod Logged  -- each commit in the log is one among the exchanges of its session
+pub mod Transactions  -- a transaction that wrote once
+pub mod PlannedKeys  -- the keys of what a write plans
+pub mod States  -- every_state: what each commit of a run keeps, every database of its log has
+mod KeyFacts  -- why keys of one table have as many values
+pub mod Defined  -- a row of `objects` defines one name, as one thing
+pub mod Elsewhere  -- changes of one table leave the others; what a table keeps there
+pub mod KeySizes  -- how long the keys of a firm database are
+pub mod Empty  -- the database without rows
+pub mod Written  -- changes of a table
+pub mod Created  -- a definition more
+pub mod Dropped  -- all rows of a table, and its definition, less
+pub mod Found  -- definitions that are read
+pub mod Plans  -- a plan as the changes of rows
+pub mod PlannedWrites  -- what a write plans
+pub mod Puts  -- where a procedure or trigger is put
+pub mod Erased  -- where one is erased
+pub mod Drops  -- what DROP TABLE plans
+pub mod Bound  -- a table whose CREATE TABLE is bound
+pub mod Whole  -- what statements keep is all that is to be kept
+mod NameFacts  -- worked names

@@ -35,7 +35,7 @@ use Rattle.dml_exec.specs.declared.rewritten.Rewritten.{Rewritten}
 use Rattle.dml_exec.specs.declared.rewritten.Rewritten.TheVariants.{Inserted, Set, Erased}
 use Rattle.dml_exec.specs.Filling.{Row, filled, null_row}
 use Rattle.dml_exec.specs.Planning.{changes_of, checked, has_key, new_rows, outside_limits, rewritten, row_set, rows_added, rows_deleted, rows_updated, table_written, unless_wrong, values_given, values_selected, values_set}
-use Rattle.write_laws.specs.Laws.{IsRight, PlannedFits, PlannedKept, PlannedRight, RowsFit, ShapeNamed, rows_before, target_image}
+use Rattle.write_laws.specs.Planning.{IsRight, PlannedFits, PlannedKept, PlannedRight, RowsFit, ShapeNamed, rows_before, target_image}
 use Rattle.write_laws.proofs.Stored.{filled_fits, null_fits}
 use Rattle.write_laws.proofs.Targets.{meant_all, target_left}
 use Rattle.write_laws.proofs.Behind.{fits_behind}

@@ -21,7 +21,7 @@ use Rattle.query_laws.specs.Laws.{AllOf}
 use Rattle.query_laws.proofs.Lists.{all_filter, all_where}
 use Rattle.dml_exec.specs.Filling.{Row}
 use Rattle.dml_exec.specs.Reading.{inner_reads, query_reads}
-use Rattle.write_laws.specs.Laws.{target_image}
+use Rattle.write_laws.specs.Planning.{target_image}
 
 -- ---- the image of a target
 

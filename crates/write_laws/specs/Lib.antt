@@ -1,2 +1,9 @@
 -- Read in this order; the comment behind a name says what the file is for.
-pub mod Laws  -- PlannedRight: what a write plans is right by itself; PlannedKept: so a database keeps its constraints
+pub mod Planning  -- PlannedRight: what a write plans is right by itself; PlannedKept: so a database keeps its constraints
+pub mod Reads  -- at_place, IsRead: what is read of a range, in the database at the transaction's place
+pub mod Once  -- WroteOnce: a transaction that wrote once
+pub mod Reading  -- RangeRead, CommitLeaves: the laws of what a transaction reads, and of what its commit leaves
+pub mod Sound  -- Sound: what of a database is to be kept; Firm: what statements keep
+pub mod Keeping  -- FirmSound, FirmEmpty, FirmWritten, FirmDropped, FirmCreated: each change that statements make keeps it
+pub mod Found  -- FoundTables: the tables that are read are those that are defined
+pub mod Plans  -- FirmPlanned, FirmDropPlanned, BoundStands: what a write and DROP TABLE plan keeps it; what CREATE TABLE asks

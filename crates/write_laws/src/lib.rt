@@ -1,16 +1,26 @@
-//! Laws of writes: what a write plans is right by itself. Rows of its table are erased, and then rows of its table are
-//! written, each with a value for each column, NULL or of the column's type, at its own key.
+//! Laws of writes: what a write plans is right by itself; what a transaction reads with its range held, the database has at
+//! its place in the log, and the transaction's commit leaves that database behind its changes; and what statements plan keeps
+//! all of a database that is to be kept.
 //!
-//! Read `specs/Laws.antt`. The functions do nothing: each one's contract is a law of the plan that `dml_exec` means by
-//! `Chg`. They ask nothing of their caller; only the definitions that they cite say what they mean. The layers above rely
-//! on them where a database is to keep its constraints: `law_checked_kept` of `constraint_check` asks for this of the
-//! changes, and beside it that what is read behind them passes. That it does is no part of this crate.
+//! Read `specs/Planning.antt` first: what a write plans. Then `specs/Reads.antt` and those behind it: what was read, in the
+//! database at the transaction's place. Then `specs/Sound.antt` and those behind it: each row of `objects` is a definition, each
+//! other row is one of a table that is defined, and such a table keeps its constraints (`Sound`), with what more it takes that
+//! each change keeps that (`Firm`). The functions do nothing: each one's contract is a law of the plans and dialogs that
+//! `dml_exec` means, of what CREATE and DROP plan, of what fits a log, and of runs of the engine (`step_model`). They ask nothing
+//! of their caller; only the definitions that they cite say what they mean. That a statement asks such parts is no part of this
+//! crate, nor is that a port's exchanges are those of a run.
 #![tactic(auto)]
 
-ghost use Rattle.write_laws.specs.Laws.{PlannedFits, PlannedKept, PlannedRight, RowsRead, ShapeNamed};
+ghost use Rattle.write_laws.specs.Planning.{PlannedFits, PlannedKept, PlannedRight, RowsRead, ShapeNamed};
+ghost use Rattle.write_laws.specs.Reading.{ChecksRead, CommitLeaves, FetchesLeave, FirstsFresh, ImagesFetch, ImagesRead, KeyTold, LoggedCommits, NetLeaves, NextState, OnceLeaves, OncePasses, PartAnswers, PlacesAreOne, PlannedKeys, RangeRead, ReadsReady, RowsCurrent, StatesAreOne, WalkRead, WritesLeave, WritesPass};
+ghost use Rattle.write_laws.specs.Keeping.{KeysSized, FirmCreated, FirmDropped, FirmEmpty, FirmErased, FirmPut, FirmSound, FirmWritten, TablesReady, UntriggeredCreated, UntriggeredDropped, UntriggeredEmpty, UntriggeredWritten};
+ghost use Rattle.write_laws.specs.Found.{FoundDefined, FoundDefinitions, FoundTables};
+ghost use Rattle.write_laws.specs.Plans.{BoundStands, PlannedReadable, FirmDropPlanned, FirmPlanned, UntriggeredPlanned};
+
+// ---- what a write plans
 
 /// What was read for a write as rows of its table, over the shapes of tables, has that table's columns.
-#[tactic(auto, using(crate::proofs::Images::rows_read))]
+#[tactic(auto, using(crate::proofs::TargetImages::rows_read))]
 pub fn law_read()
     ensures { RowsRead }
 {}
@@ -40,4 +50,160 @@ pub fn law_fits()
 #[tactic(auto, using(crate::proofs::Planned::planned_kept))]
 pub fn law_kept()
     ensures { PlannedKept }
+{}
+
+// ---- what a transaction reads, and what its commit leaves
+
+/// A range that was read and held has the rows that the database has there at the transaction's place, with the
+/// transaction's own changes; of one that was not held each row is as it was at its own number.
+pub fn law_range_read()
+    ensures held { RangeRead }
+    ensures current { RowsCurrent }
+{}
+
+/// Exchanges that fetch by ranges, which they hold, are all answered of one database; fetches leave their transaction as it
+/// was.
+pub fn law_part()
+    ensures answers { PartAnswers }
+    ensures leaves { FetchesLeave }
+{}
+
+/// Rows that were found one fetch behind another are those of the range, and what is told of one whole key is so.
+pub fn law_walk()
+    ensures range { WalkRead }
+    ensures key { KeyTold }
+{}
+
+/// For images fetches alone are asked; at the highest level they are those of the database at the transaction's place, but
+/// for what is given.
+pub fn law_images()
+    ensures fetch { ImagesFetch }
+    ensures read { ImagesRead }
+{}
+
+/// Reads that gave no error pass in that database, where all rows of the tables that are read fit their shapes.
+pub fn law_checks_read()
+    ensures read { ChecksRead }
+    ensures ready { ReadsReady }
+{}
+
+/// Where a write was done, what is read behind its changes passes in the database behind them; and with that its
+/// transaction goes on.
+pub fn law_writes()
+    ensures pass { WritesPass }
+    ensures leave { WritesLeave }
+{}
+
+/// In every database that commits leave, and in those that transactions have, keys that compare equal are one key.
+pub fn law_keys()
+    ensures places { PlacesAreOne }
+    ensures states { StatesAreOne }
+{}
+
+/// What a transaction's writes come to leaves each key as they do, where no row stood at a key that they first insert at.
+pub fn law_net()
+    ensures { NetLeaves }
+{}
+
+/// At a transaction's place no row stood at such a key; so a commit leaves the database that its transaction had there.
+pub fn law_commit()
+    ensures fresh { FirstsFresh }
+    ensures leaves { CommitLeaves }
+{}
+
+/// Each commit in the log is one among the exchanges of its session; so in every run the next database of the log is the
+/// one before it behind what its transaction had written.
+pub fn law_logged()
+    ensures commits { LoggedCommits }
+    ensures next { NextState }
+{}
+
+/// The commit of a transaction that wrote once leaves the database at its place behind its changes, and there what is read
+/// for them passes. The keys of what a write plans are as long as those of their tables.
+pub fn law_once()
+    ensures leaves { OnceLeaves }
+    ensures passes { OncePasses }
+    ensures keys { PlannedKeys }
+{}
+
+// ---- what statements keep of a database
+
+/// What statements keep is all that is to be kept.
+pub fn law_firm_sound()
+    ensures { FirmSound }
+{}
+
+/// In a firm database the tables that are defined are as a write asks of them: they keep their constraints, no two have
+/// one name, and those that one refers to are among them.
+pub fn law_tables_ready()
+    ensures { TablesReady }
+{}
+
+/// In a firm database the keys of a table have as many values as its PRIMARY KEY has columns.
+pub fn law_keys_sized()
+    ensures { KeysSized }
+{}
+
+/// The database without rows is firm, and no trigger is there.
+pub fn law_firm_empty()
+    ensures firm { FirmEmpty }
+    ensures untriggered { UntriggeredEmpty }
+{}
+
+/// Changes of a table keep a database firm, if all tables keep their constraints behind them.
+pub fn law_firm_written()
+    ensures firm { FirmWritten }
+    ensures untriggered { UntriggeredWritten }
+{}
+
+/// The erasure of all rows of a table that no other refers to, and of its definition, keeps a database firm in which it has no
+/// trigger.
+pub fn law_firm_dropped()
+    ensures firm { FirmDropped }
+    ensures untriggered { UntriggeredDropped }
+{}
+
+/// The insertion of a table's definition where nothing of its name is keeps a database firm.
+pub fn law_firm_created()
+    ensures firm { FirmCreated }
+    ensures untriggered { UntriggeredCreated }
+{}
+
+/// The insertion of a procedure's definition where nothing of its name is keeps a database firm, and so does that of a trigger
+/// whose table is defined.
+pub fn law_firm_put()
+    ensures { FirmPut }
+{}
+
+/// The erasure of what is defined as no table keeps a database firm.
+pub fn law_firm_erased()
+    ensures { FirmErased }
+{}
+
+/// What a row of `objects` is read as is defined; and the definitions of all its rows are exactly those of the database.
+pub fn law_found()
+    ensures defined { FoundDefined }
+    ensures tables { FoundTables }
+    ensures definitions { FoundDefinitions }
+{}
+
+/// Behind what a write plans in a firm database rows can be read for its checks.
+pub fn law_planned_readable()
+    ensures { PlannedReadable }
+{}
+
+/// What a write plans keeps a database firm, if its checks pass behind it.
+pub fn law_firm_planned()
+    ensures firm { FirmPlanned }
+    ensures untriggered { UntriggeredPlanned }
+{}
+
+/// What DROP TABLE plans on all rows of a table that no other refers to keeps a database firm: its triggers go with it.
+pub fn law_firm_drop_planned()
+    ensures { FirmDropPlanned }
+{}
+
+/// A table whose CREATE TABLE is bound over definitions of a firm database can stand there.
+pub fn law_bound_stands()
+    ensures { BoundStands }
 {}

@@ -11,7 +11,7 @@ use crate::wire::{
 };
 
 /// What kind of token it is, as far as its first byte tells.
-#[derive(Clone, Copy, Debug, PartialEq, Eq)]
+#[derive(Clone, Copy)]
 pub(super) enum Tag {
     LoginAck,
     Error,

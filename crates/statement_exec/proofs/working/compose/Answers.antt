@@ -1,13 +1,15 @@
-use Rattle.std.proofs.Common.{true, false, Err, ap}
-use Rattle.batch_meaning.specs.Working.{composes, within}
-use Rattle.batch_meaning.proofs.Composed.{does_room}
-use Rattle.statement_exec.proofs.Parts.{does_made}
+use Rattle.std.proofs.Common.{◌∙◌}
+use Rattle.batch_meaning.specs.Working.{composes}
+use Rattle.statement_exec.proofs.AtHome.{does_within, does_within_not}
 use Rattle.statement_exec.proofs.working.compose.Goals as goal
 
-pub returns-in-Ok-clause-does : goal.returns-in-Ok-clause-does
-unfolding composes within
-returns-in-Ok-clause-does g c = does_room true (rw (c.as_slice.ensures.value, c.in-Ok.ensures) at c.compose_named.ensures.does)
+pub returns-in_err-home-clause-does : goal.returns-in_err-home-clause-does
+unfolding composes
+returns-in_err-home-clause-does g c = does_within_not _ _ _ _ c.from_residual.ensures.0 c.from_residual.ensures.1 c.in_err-home.ensures.does
 
-pub returns-in-Err-clause-does : goal.returns-in-Err-clause-does
-unfolding composes within
-returns-in-Err-clause-does g c = does_room false (does_made (ap Err c.no_memory.ensures))
+pub returns-clause-does : goal.returns-clause-does
+unfolding composes
+returns-clause-does g c = does_within _ _ _ c.in_ok-home.ensures.does (rw c.as_slice.ensures at c.compose_bound-came.ensures.does) (rw c.is_ok.ensures.value at c.leave.ensures.does)
+
+pub leave-requires : goal.leave-requires
+leave-requires g c = record { ready = c.compose_bound-came.ensures.ready; begun = λ some. c.compose_bound-came.ensures.kept ∙ c.in_ok-home.ensures.home some }

@@ -1,5 +1,0 @@
-use Rattle.integrity_laws.proofs.Bound.{bound_stands}
-use Rattle.integrity_laws.proofs.law_bound_stands.Goals as goal
-
-pub returns : goal.returns
-returns c = bound_stands

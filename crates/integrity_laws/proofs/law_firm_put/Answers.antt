@@ -1,5 +1,0 @@
-use Rattle.integrity_laws.proofs.Puts.{firm_put}
-use Rattle.integrity_laws.proofs.law_firm_put.Goals as goal
-
-pub returns : goal.returns
-returns c = firm_put

@@ -1,5 +1,0 @@
-use Rattle.integrity_laws.proofs.Whole.{firm_sound}
-use Rattle.integrity_laws.proofs.law_firm_sound.Goals as goal
-
-pub returns : goal.returns
-returns c = firm_sound

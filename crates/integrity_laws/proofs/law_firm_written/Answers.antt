@@ -1,8 +1,0 @@
-use Rattle.integrity_laws.proofs.Written.{firm_written, untriggered_written}
-use Rattle.integrity_laws.proofs.law_firm_written.Goals as goal
-
-pub returns-clause-firm : goal.returns-clause-firm
-returns-clause-firm c = firm_written
-
-pub returns-clause-untriggered : goal.returns-clause-untriggered
-returns-clause-untriggered c = untriggered_written

@@ -1,7 +1,0 @@
-use Rattle.std.proofs.Common.{◌≡◌}
-use Rattle.tsql_grammar.specs.declared.rule.Rule.TheVariants as r
-use Rattle.lexeme_reader.specs.Reading.{read, front}
-use Rattle.query_parser.proofs.select.SelectReader.more_order_items.Given as goal
-
-abbrev pub invariant-loop-turn : goal.invariant-loop-turn
-invariant-loop-turn g l = front l.more (read r.MoreOrderItems l.lexemes) ≡ read r.MoreOrderItems l.fn.lexemes

@@ -1,0 +1,2 @@
+-- cited by private contracts alone
+pub mod Parts  -- parts of productions

@@ -1,9 +1,0 @@
-use Rattle.reading_laws.proofs.Checks.{checks_read}
-use Rattle.reading_laws.proofs.Tables.{reads_ready}
-use Rattle.reading_laws.proofs.law_checks_read.Goals as goal
-
-pub returns-clause-read : goal.returns-clause-read
-returns-clause-read c = checks_read
-
-pub returns-clause-ready : goal.returns-clause-ready
-returns-clause-ready c = reads_ready

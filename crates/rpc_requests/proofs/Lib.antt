@@ -1,0 +1,10 @@
+pub mod StandardFacts
+pub mod Texts
+pub mod Forms
+pub mod Shrinks
+pub mod Loop
+pub mod Again
+pub mod Takes
+pub mod TakesCall
+pub mod TakesRpc
+pub mod SpelledAgain

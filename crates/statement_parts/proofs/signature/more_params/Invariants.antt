@@ -1,7 +1,0 @@
-use Rattle.std.proofs.Common.{◌≡◌}
-use Rattle.tsql_grammar.specs.declared.rule.Rule.TheVariants as r
-use Rattle.lexeme_reader.specs.Reading.{read, front}
-use Rattle.statement_parts.proofs.signature.more_params.Given as goal
-
-abbrev pub invariant-loop-turn : goal.invariant-loop-turn
-invariant-loop-turn l = front l.more (read r.MoreParams l.lexemes) ≡ read r.MoreParams l.fn.lexemes
