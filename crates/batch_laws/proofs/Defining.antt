@@ -3,7 +3,7 @@ use Rattle.std.proofs.Common.{◌≡◌, ◌⊎◌, inl, inr, ℕ, ℤ, Bool, tr
 use Rattle.std.specs.Prelude.{◌||◌, not}
 use Rattle.tsql_tree.specs.declared.definition.Definition.{Definition}
 use Rattle.tsql_tree.specs.declared.definition.Definition.TheVariants.{Table, Procedure, Trigger}
-use Rattle.catalog_rows.specs.Definitions.{is_objects}
+use Rattle.table_rows.specs.Definitions.{is_objects}
 use Rattle.clause_binder.specs.Scope.{is_long}
 use Rattle.step_model.specs.declared.change.Planned.{Planned}
 use Rattle.step_model.specs.Exchange.{Exchange}

@@ -26,7 +26,7 @@ use Rattle.batch_meaning.specs.declared.failure.Failure.{Failure}
 use Rattle.batch_meaning.specs.declared.home.Home.{Home}
 use Rattle.batch_meaning.specs.declared.home.Home.TheVariants.{Nowhere, Open, Own}
 use Rattle.batch_meaning.specs.declared.raised.Raised.{Raised}
-use Rattle.catalog_rows.specs.Definitions.{is_objects}
+use Rattle.table_rows.specs.Definitions.{is_objects}
 use Rattle.batch_meaning.specs.Changing.{object_present}
 use Rattle.clause_binder.specs.Scope.{is_long}
 use Rattle.batch_meaning.specs.Asking.{assigns_all, fails, fails_naming, unless_refused, where_begun, where_done, where_ended}

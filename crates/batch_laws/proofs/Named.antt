@@ -7,7 +7,7 @@ use Rattle.tsql_tree.specs.declared.statement.Argument.{Argument}
 use Rattle.tsql_tree.specs.declared.statement.DropKind.{DropKind}
 use Rattle.tsql_tree.specs.declared.statement.Statement.{Statement}
 use Rattle.value_types.specs.Units.{same_units}
-use Rattle.catalog_rows.specs.Definitions.{is_objects}
+use Rattle.table_rows.specs.Definitions.{is_objects}
 use Rattle.clause_binder.specs.Scope.{is_long}
 use Rattle.step_model.specs.declared.op.Op.{Op}
 use Rattle.step_model.specs.Dialog.{IsQuiet}

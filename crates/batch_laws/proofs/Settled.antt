@@ -14,7 +14,7 @@ use Rattle.tsql_tree.specs.declared.statement.Statement.{Statement}
 use Rattle.bound_tree.specs.declared.write.Bound.{Bound}
 use Rattle.binder.specs.Names.{Layer, form_of, looked_up}
 use Rattle.session_vars.specs.declared.Variable.{Variable}
-use Rattle.catalog_rows.specs.Definitions.{is_objects}
+use Rattle.table_rows.specs.Definitions.{is_objects}
 use Rattle.clause_binder.specs.Scope.{is_long}
 use Rattle.error_table.specs.declared.action.Action.{Action}
 use Rattle.error_table.specs.declared.action.Action.TheVariants as act

@@ -1,6 +1,6 @@
 -- What known exchanges leave and commit.
 use Rattle.std.proofs.Common.{◌≡◌, ℕ, Bool, true, false, negsuc, List, [], ◌∷◌, ◌++◌, Some, None, Ok, Err, refl}
-use Rattle.catalog_rows.specs.Definitions.{objects_name, object_key, row_of}
+use Rattle.table_rows.specs.Definitions.{objects_name, object_key, row_of}
 use Rattle.tsql_tree.specs.declared.definition.TableTree.{TableTree}
 use Rattle.tsql_tree.specs.declared.statement.Form.{Form-F}
 use Rattle.error_table.specs.declared.action.Action.TheVariants as act

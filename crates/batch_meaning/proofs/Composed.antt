@@ -9,7 +9,7 @@ use Rattle.step_model.specs.Exchange.{Exchange}
 use Rattle.step_model.specs.Port.{PortPast}
 use Rattle.tsql_tree.specs.declared.definition.Definition.{Definition}
 use Rattle.value_types.specs.declared.value.Value.{Value}
-use Rattle.catalog_rows.specs.Definitions.{IsDefinitionIn}
+use Rattle.table_rows.specs.Definitions.{IsDefinitionIn}
 use Rattle.batch_meaning.specs.Progress.{SessionProgress, SessionStep, made, asked}
 use Rattle.batch_meaning.specs.Doing.{Doing, over, reads, makes, defines, asks, room, never, ◌then◌, Held, Left, Came, Did, Exchanged, Leads}
 use Rattle.batch_meaning.specs.Asking.{on_ok, ◌>>=◌}

@@ -3,7 +3,7 @@ use Rattle.std.proofs.Common.{◌≡◌, ℕ, pos, List, Result, Ok, Err, sym, a
 use Rattle.tsql_tree.specs.declared.statement.Batch.{Batch}
 use Rattle.tsql_grammar.specs.declared.fault.ParseFault.{ParseFault}
 use Rattle.tsql_grammar.specs.declared.fault.ParseFault.TheVariants as fault
-use Rattle.stmt_parser.proofs.OneOutcome.{one_batch}
+use Rattle.tsql_grammar.proofs.OneOutcome.{one_batch}
 use Rattle.batch_meaning.specs.declared.form.ReadText.{ReadText}
 use Rattle.batch_meaning.specs.declared.form.ReadText.TheVariants as text
 use Rattle.batch_meaning.specs.Statements.{IsRead, ReadsAs}

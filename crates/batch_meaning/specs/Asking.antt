@@ -7,7 +7,7 @@ use Rattle.tsql_tree.specs.declared.definition.Definition.{Definition}
 use Rattle.tsql_tree.specs.declared.definition.Definition.TheVariants.{Table, Procedure, Trigger}
 use Rattle.tsql_tree.specs.declared.definition.TableTree.{TableTree}
 use Rattle.bound_tree.specs.declared.write.Bound.{Bound}
-use Rattle.catalog_rows.specs.Definitions.{objects_name, is_objects, object_key}
+use Rattle.table_rows.specs.Definitions.{objects_name, is_objects, object_key}
 use Rattle.step_model.specs.declared.change.Planned.{Planned}
 use Rattle.step_model.specs.declared.op.Hold.TheVariants as hold
 use Rattle.step_model.specs.declared.op.Op.{Op}

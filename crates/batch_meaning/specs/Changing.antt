@@ -13,7 +13,7 @@ use Rattle.bound_tree.specs.declared.write.BoundWrite.{BoundWrite}
 use Rattle.bound_tree.specs.declared.write.BoundWrite.TheVariants as write
 use Rattle.binder.specs.Statements.{bind_checks}
 use Rattle.scalar_eval.specs.declared.fault.EvalFault.TheVariants.{Number, Named, Memory}
-use Rattle.catalog_rows.specs.Definitions.{objects_name, object_key, row_of}
+use Rattle.table_rows.specs.Definitions.{objects_name, object_key, row_of}
 use Rattle.step_model.specs.declared.change.Planned.{Planned}
 use Rattle.step_model.specs.declared.op.Op.{Op}
 use Rattle.step_model.specs.declared.op.Op.TheVariants.{Insert}

@@ -5,7 +5,7 @@ use Rattle.std.specs.Prelude.{◌≡◌, ◌⊎◌, Bool, List, [], ◌∷◌, �
 use Rattle.value_types.specs.declared.memory.Memory.{Memory}
 use Rattle.tsql_tree.specs.declared.definition.Definition.{Definition}
 use Rattle.value_types.specs.declared.value.Value.{Value}
-use Rattle.catalog_rows.specs.Definitions.{IsDefinitionIn}
+use Rattle.table_rows.specs.Definitions.{IsDefinitionIn}
 use Rattle.step_model.specs.declared.op.Op.{Op}
 use Rattle.step_model.specs.declared.reply.Reply.{Reply}
 use Rattle.step_model.specs.Exchange.{Exchange, CanReply}

@@ -10,7 +10,7 @@ use Rattle.session_vars.specs.declared.Variable.{Variable}
 use Rattle.session_vars.specs.Variables.{count_limit, fresh}
 use Rattle.tsql_grammar.specs.declared.fault.ParseFault.{ParseFault}
 use Rattle.tsql_grammar.specs.declared.fault.ParseFault.TheVariants as fault
-use Rattle.stmt_parser.specs.Parsed.{BatchOf}
+use Rattle.tsql_grammar.specs.Parsed.{BatchOf}
 use Rattle.batch_meaning.specs.declared.form.ReadText.{ReadText}
 use Rattle.batch_meaning.specs.declared.form.ReadText.TheVariants as text
 

@@ -12,7 +12,7 @@ use Rattle.bound_tree.specs.declared.query.BoundQuery.{BoundQuery}
 use Rattle.bound_tree.specs.declared.write.Bound.{Bound}
 use Rattle.bound_tree.specs.declared.write.Bound.TheVariants as bound
 use Rattle.binder.specs.Names.{Layer, form_of, looked_up}
-use Rattle.catalog_rows.specs.Definitions.{is_objects, tables_of}
+use Rattle.table_rows.specs.Definitions.{is_objects, tables_of}
 use Rattle.step_model.specs.declared.op.Op.TheVariants as ops
 use Rattle.step_model.specs.Ranges.{Rows}
 use Rattle.dml_exec.specs.Reading.{GivenRows, TriggerRows, deleted_name, given_of, inserted_name}

@@ -18,7 +18,7 @@ use Rattle.typed_nodes.specs.Nodes.{is_kind}
 use Rattle.clause_binder.specs.Scope.{is_long, key_places, max_variables}
 use Rattle.binder.specs.Names.{looked_up}
 use Rattle.call_rules.specs.Triggers as seen
-use Rattle.catalog_rows.specs.Definitions.{is_objects, tables_of}
+use Rattle.table_rows.specs.Definitions.{is_objects, tables_of}
 use Rattle.step_model.specs.declared.change.Planned.{Planned}
 use Rattle.step_model.specs.declared.op.Op.TheVariants as ops
 use Rattle.step_model.specs.declared.reply.Reply.{Reply}

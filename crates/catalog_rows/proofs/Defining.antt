@@ -9,9 +9,9 @@ use Rattle.value_types.specs.declared.value.Value.TheVariants.{Null, Whole, Bit,
 use Rattle.tsql_tree.specs.declared.definition.Definition.{Definition}
 use Rattle.tsql_grammar.specs.declared.fault.ParseFault.{ParseFault}
 use Rattle.tsql_grammar.specs.declared.fault.ParseFault.TheVariants as fault
-use Rattle.stmt_parser.specs.Parsed.{DefinitionOf}
-use Rattle.stmt_parser.proofs.OneOutcome.{one_definition as one_outcome}
-use Rattle.catalog_rows.specs.Definitions.{Defines, IsDefinitionIn, IsDefinitionOf, IsOfName, defined_name, longest_text, only_named, own_name, row_of, text_in}
+use Rattle.tsql_grammar.specs.Parsed.{DefinitionOf}
+use Rattle.tsql_grammar.proofs.OneOutcome.{one_definition as one_outcome}
+use Rattle.table_rows.specs.Definitions.{Defines, IsDefinitionIn, IsDefinitionOf, IsOfName, defined_name, longest_text, only_named, own_name, row_of, text_in}
 use Rattle.catalog_rows.specs.Laws.{OneDefinition, WrittenRead}
 
 pub written_read : WrittenRead

@@ -14,7 +14,7 @@ use Rattle.tsql_tree.specs.declared.definition.TableTree.{TableTree}
 use Rattle.clause_binder.specs.Scope.{columns_of}
 use Rattle.query_laws.specs.Columns.{kinds}
 use Rattle.query_laws.specs.Laws.{AreExactly, RowsOf}
-use Rattle.catalog_rows.specs.Rows.{has_columns, is_value_of, key_of}
+use Rattle.table_rows.specs.Rows.{has_columns, is_value_of, key_of}
 use Rattle.catalog_rows.specs.Laws.{ImageTyped, RowTyped, ValueOfType}
 
 no_value : {A : Type 0} → IsTrue false → A

@@ -10,8 +10,8 @@ use Rattle.tsql_tree.specs.declared.definition.Definition.{Definition}
 use Rattle.clause_binder.specs.Scope.{table_of}
 use Rattle.query_laws.specs.Columns.{kinds, tables_in}
 use Rattle.query_laws.specs.Laws.{AreExactly, RowsOf}
-use Rattle.catalog_rows.specs.Rows.{has_columns, is_value_of, row_fits}
-use Rattle.catalog_rows.specs.Definitions.{Defines, IsDefinitionOf, row_of}
+use Rattle.table_rows.specs.Rows.{has_columns, is_value_of, row_fits}
+use Rattle.table_rows.specs.Definitions.{Defines, IsDefinitionOf, row_of}
 
 -- the test is the relation
 abbrev pub ValueOfType : Type 0

@@ -1,4 +1,1 @@
--- Read in this order; the comment behind a name says what the file is for.
-pub mod Rows  -- row_fits: which rows are rows of a table
-pub mod Definitions  -- IsDefinitionOf: what a row of `objects` defines
 pub mod Laws  -- RowTyped, ImageTyped, WrittenRead, OneDefinition: the laws

@@ -5,7 +5,7 @@ use Rattle.value_types.specs.declared.table_name.TableName.{TableName}
 use Rattle.value_types.specs.declared.value.Value.{Value}
 use Rattle.tsql_tree.specs.declared.definition.TableTree.{TableTree}
 use Rattle.bound_tree.specs.declared.write.Bound.{Bound}
-use Rattle.catalog_rows.specs.Definitions.{is_objects, name_in}
+use Rattle.table_rows.specs.Definitions.{is_objects, name_in}
 use Rattle.step_model.specs.declared.change.Deed.{Deed}
 use Rattle.step_model.specs.declared.change.Deed.TheVariants as deed
 use Rattle.step_model.specs.declared.change.Planned.{Planned}

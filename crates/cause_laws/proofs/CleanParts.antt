@@ -18,7 +18,7 @@ use Rattle.bound_tree.specs.declared.write.Bound.TheVariants as bound
 use Rattle.bound_tree.specs.declared.write.BoundWrite.{BoundWrite}
 use Rattle.binder.specs.Names.{Layer, form_of, looked_up}
 use Rattle.session_vars.specs.declared.Variable.{Variable}
-use Rattle.catalog_rows.specs.Definitions.{is_objects, tables_of}
+use Rattle.table_rows.specs.Definitions.{is_objects, tables_of}
 use Rattle.step_model.specs.declared.change.Planned.{Planned}
 use Rattle.step_model.specs.declared.op.Op.TheVariants as ops
 use Rattle.step_model.specs.declared.range.Start.{Start}

@@ -52,7 +52,7 @@ use Rattle.tsql_grammar.specs.declared.noted.TextFault.TheVariants.{TooDeep, Not
 use Rattle.tsql_grammar.specs.declared.rule.Rule.TheVariants as r
 use Rattle.tsql_grammar.specs.declared.fault.ParseFault.{ParseFault}
 use Rattle.tsql_grammar.specs.declared.fault.ParseFault.TheVariants as faults
-use Rattle.stmt_parser.specs.Parsed.{BatchOf, IsUnread, IsWrong, number_of}
+use Rattle.tsql_grammar.specs.Parsed.{BatchOf, IsUnread, IsWrong, number_of}
 use Rattle.batch_meaning.specs.declared.failure.Failure.{Failure}
 use Rattle.batch_meaning.specs.declared.form.ReadText.{ReadText}
 use Rattle.batch_meaning.specs.declared.form.ReadText.TheVariants as text

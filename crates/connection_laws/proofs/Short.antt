@@ -4,7 +4,7 @@ use Rattle.std.specs.Prelude.{ℤ}
 use Rattle.std.specs.List.{All, AllByRecursion}
 use Rattle.std.proofs.lemmas.List.Elements.{All-head, All-tail}
 use Rattle.value_types.specs.Units.{units_of}
-use Rattle.catalog_rows.specs.Definitions.{longest_text}
+use Rattle.table_rows.specs.Definitions.{longest_text}
 use Rattle.tds_packets.specs.declared.message.Message.{Message}
 use Rattle.tds_packets.specs.Header.{sql_batch, attention, login7, prelogin}
 use Rattle.tds_packets.specs.Stream.{Joins, payload_limit}

@@ -4,7 +4,7 @@ use Rattle.std.specs.Prelude.{ℕ, ℤ, pos, Bool, nat_le, if◌then◌else◌, 
 use Rattle.std.specs.Ordering.{eq_by_cmp}
 use Rattle.value_types.specs.declared.value.Value.{Value}
 use Rattle.value_types.specs.Order.{key_cmp}
-use Rattle.catalog_rows.specs.Rows.{values_at}
+use Rattle.table_rows.specs.Rows.{values_at}
 use Rattle.constraint_check.specs.declared.check_read.Check.{Check}
 use Rattle.constraint_check.specs.declared.check_read.Check.TheVariants.{Unique, Child, Parent}
 use Rattle.constraint_check.specs.declared.check_read.CheckRead.{CheckRead}

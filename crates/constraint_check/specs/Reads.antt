@@ -21,7 +21,7 @@ use Rattle.step_model.specs.declared.range.Start.TheVariants.{First, At}
 use Rattle.step_model.specs.declared.range.Stop.TheVariants.{Last, Within}
 use Rattle.step_model.specs.Database.{is_at}
 use Rattle.step_model.specs.Own.{change_of, is_insert, row_of}
-use Rattle.catalog_rows.specs.Rows.{values_at}
+use Rattle.table_rows.specs.Rows.{values_at}
 use Rattle.constraint_check.specs.declared.check_read.Check.TheVariants.{Unique, Child, Parent}
 use Rattle.constraint_check.specs.declared.check_read.CheckRead.{CheckRead}
 

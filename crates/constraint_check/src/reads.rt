@@ -6,15 +6,15 @@ ghost use Rattle.bound_tree.specs.Meaning.{is_null};
 ghost use Rattle.bound_tree.specs.Setting.{value_at};
 ghost use Rattle.step_model.specs.Own.{row_of};
 ghost use Rattle.clause_binder.specs.Scope.{key_places, place_in};
-ghost use Rattle.catalog_rows.specs.Rows.{values_at};
+ghost use Rattle.table_rows.specs.Rows.{values_at};
 ghost use Rattle.constraint_check.specs.Reads as spec;
 
 use crate::inserted::Inserted;
 use crate::{Check, CheckRead};
-use catalog_rows::place_in;
 use sqlite_items::Items;
 use std::alloc::{AllocError, Global};
 use step_model::{Deed, KeyRange, Planned, Start, Stop};
+use table_rows::place_in;
 use tsql_tree::{ColumnTree, ForeignTree, KeyTree, TableTree};
 use value_types::{KEY_LIMIT, Key, Memory, Row, TableName, Units, Value};
 

@@ -6,7 +6,7 @@ ghost use Rattle.constraint_check.specs.Judged as spec;
 use crate::local::CONFLICT;
 use crate::{Check, CheckRead};
 use bound_tree::Image;
-use catalog_rows::has_values;
+use table_rows::has_values;
 use value_types::Row;
 
 /// A duplicate key.

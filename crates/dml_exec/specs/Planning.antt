@@ -30,7 +30,7 @@ use Rattle.query_eval.specs.Ans.{Ans}
 use Rattle.query_eval.specs.Targets.{inner_answers, rows_meant, setting_over}
 use Rattle.step_model.specs.declared.change.Deed.TheVariants.{Erase, Replace, Insert}
 use Rattle.step_model.specs.declared.change.Planned.{Planned}
-use Rattle.catalog_rows.specs.Rows.{same_key, values_at}
+use Rattle.table_rows.specs.Rows.{same_key, values_at}
 use Rattle.constraint_check.specs.Local.{first_local}
 use Rattle.constraint_check.specs.Reads.{is_erase}
 use Rattle.dml_exec.specs.declared.rewritten.Rewritten.{Rewritten}

@@ -19,7 +19,7 @@ use Rattle.step_model.specs.declared.reply.Reply.{Reply}
 use Rattle.step_model.specs.declared.reply.Reply.TheVariants as replies
 use Rattle.step_model.specs.Dialog.{Dialog, over, asks, never, tries, ◌then◌}
 use Rattle.step_model.specs.Ranges.{Rows}
-use Rattle.catalog_rows.specs.Definitions.{is_objects, name_in}
+use Rattle.table_rows.specs.Definitions.{is_objects, name_in}
 use Rattle.constraint_check.specs.declared.check_read.CheckRead.{CheckRead}
 use Rattle.constraint_check.specs.Reads.{reads_for, shape_of}
 use Rattle.constraint_check.specs.Judged.{duplicate, judge}

@@ -7,9 +7,9 @@ ghost use Rattle.dml_exec.specs.Planning as spec;
 
 use crate::keys::key_of;
 use crate::rewritten::Rewritten;
-use catalog_rows::has_values;
 use std::alloc::Global;
 use step_model::{Deed, Planned};
+use table_rows::has_values;
 use value_types::{Key, Memory, Row, TableName};
 
 /// The changes of a table, whose key has the columns of these places: all erasures in the order of the rows, and then

@@ -4,11 +4,11 @@ ghost use Rattle.std.specs.Prelude.{◌≡◌, ◌≤◌, IfOk, Some, filter_map
 ghost use Rattle.value_types.specs.Order.{key_limit};
 ghost use Rattle.bound_tree.specs.Setting.{value_at};
 ghost use Rattle.clause_binder.specs.Scope as scope;
-ghost use Rattle.catalog_rows.specs.Rows as rows;
+ghost use Rattle.table_rows.specs.Rows as rows;
 ghost use Rattle.dml_exec.specs.Planning as spec;
 
-use catalog_rows::place_in;
 use std::alloc::{AllocError, Global};
+use table_rows::place_in;
 use tsql_tree::{ColumnTree, TableTree};
 use value_types::{KEY_LIMIT, Key, Memory, Row, Units, Value};
 

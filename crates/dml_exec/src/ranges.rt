@@ -11,9 +11,9 @@ ghost use Rattle.dml_exec.specs.Asking.{MayWork, beside, seen};
 ghost use Rattle.dml_exec.specs.Reading as spec;
 
 use crate::refusal::Refusal;
-use catalog_rows::{place_in, row_fits};
 use std::alloc::Global;
 use step_model::{Manner, Op, Port, Reply, Start};
+use table_rows::{place_in, row_fits};
 use tsql_tree::{ColumnTree, TableTree};
 use value_types::{KEY_LIMIT, Key, Memory, Row, TableName, Units, Value};
 

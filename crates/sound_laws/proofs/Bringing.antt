@@ -2,7 +2,7 @@
 use Rattle.std.proofs.Common.{◌≡◌, ◌⊎◌, inl, inr, Bool, if◌then◌else◌, List, [], ◌∷◌, ◌++◌, Option, Result, Ok, Err, refl, sym, ap, subst, ◌∙◌, append-nil, append_assoc}
 use Rattle.value_types.specs.declared.value.Value.{Value}
 use Rattle.tsql_tree.specs.declared.definition.Definition.{Definition}
-use Rattle.catalog_rows.specs.Definitions.{IsDefinitionIn}
+use Rattle.table_rows.specs.Definitions.{IsDefinitionIn}
 use Rattle.step_model.specs.declared.op.Op.{Op}
 use Rattle.step_model.specs.declared.op.Op.TheVariants as ops
 use Rattle.step_model.specs.declared.reply.Reply.{Reply}

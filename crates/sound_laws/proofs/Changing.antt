@@ -17,7 +17,7 @@ use Rattle.step_model.specs.Exchange.{Exchange}
 use Rattle.step_model.specs.Log.{Commit as Logged}
 use Rattle.step_model.specs.Ranges.{Rows, no_memory}
 use Rattle.constraint_check.specs.Reads.{all_rows, rows_table, shape_of}
-use Rattle.catalog_rows.specs.Definitions.{tables_of}
+use Rattle.table_rows.specs.Definitions.{tables_of}
 use Rattle.dml_exec.specs.declared.refusal.Level.{Level}
 use Rattle.dml_exec.specs.declared.refusal.Level.TheVariants.{Serializable}
 use Rattle.dml_exec.specs.declared.refusal.Refusal.{Refusal}

@@ -15,7 +15,7 @@ use Rattle.step_model.proofs.Databases.{With-append}
 use Rattle.std.proofs.lemmas.List.{map-append}
 use Rattle.constraint_check.specs.Laws.{behind}
 use Rattle.constraint_check.specs.Reads.{rows_table}
-use Rattle.catalog_rows.specs.Definitions.{object_key, objects_name}
+use Rattle.table_rows.specs.Definitions.{object_key, objects_name}
 use Rattle.write_laws.specs.Reads.{at_place}
 use Rattle.batch_meaning.specs.declared.failure.Failure.{Failure}
 use Rattle.batch_meaning.specs.Asking.{fails, marked, takes_back, unless_refused, where_done, with_room}

@@ -10,7 +10,7 @@ use Rattle.step_model.specs.declared.reply.Reply.TheVariants as replies
 use Rattle.step_model.specs.Database.{Database}
 use Rattle.step_model.specs.Exchange.{Exchange, CanReply}
 use Rattle.step_model.specs.Fits.{AnswersIn}
-use Rattle.catalog_rows.specs.Definitions.{defined_name, is_objects, tables_of}
+use Rattle.table_rows.specs.Definitions.{defined_name, is_objects, tables_of}
 use Rattle.batch_meaning.specs.Asking.{KnownNames, definition_fetch, with_found}
 use Rattle.write_laws.proofs.Changes.{all_both}
 use Rattle.statement_paths.specs.Asked.{AskOnly}

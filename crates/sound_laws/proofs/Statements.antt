@@ -14,7 +14,7 @@ use Rattle.bound_tree.specs.declared.query.BoundQuery.{BoundQuery}
 use Rattle.bound_tree.specs.declared.write.Bound.{Bound}
 use Rattle.bound_tree.specs.declared.write.Bound.TheVariants as bound
 use Rattle.binder.specs.Names.{Layer, form_of, looked_up}
-use Rattle.catalog_rows.specs.Definitions.{Defines, defined_name, is_objects}
+use Rattle.table_rows.specs.Definitions.{Defines, defined_name, is_objects}
 use Rattle.constraint_check.proofs.Lists.{all_more}
 use Rattle.step_model.specs.declared.op.Op.TheVariants as ops
 use Rattle.step_model.specs.declared.reply.Reply.{Reply}

@@ -11,7 +11,7 @@ use Rattle.tsql_tree.specs.declared.definition.TableTree.{TableTree}
 use Rattle.tsql_tree.specs.declared.definition.TriggerTree.{TriggerTree}
 use Rattle.tsql_tree.specs.declared.statement.DropKind.{DropKind}
 use Rattle.tsql_tree.specs.declared.statement.DropKind.TheVariants as drop
-use Rattle.catalog_rows.specs.Definitions.{tables_of}
+use Rattle.table_rows.specs.Definitions.{tables_of}
 use Rattle.value_types.specs.declared.memory.Memory.{Memory}
 use Rattle.step_model.specs.declared.change.Planned.{Planned}
 use Rattle.step_model.specs.Port.{PortPast}

@@ -4,7 +4,7 @@ use Rattle.std.specs.Prelude.{is_some}
 use Rattle.std.proofs.lemmas.List.{drop_all}
 use Rattle.tsql_tree.specs.declared.definition.Definition.{Definition}
 use Rattle.binder.specs.Names.{Layer}
-use Rattle.catalog_rows.specs.Definitions.{is_objects}
+use Rattle.table_rows.specs.Definitions.{is_objects}
 use Rattle.batch_meaning.specs.Asking.{KnownNames, is_table}
 use Rattle.batch_meaning.specs.Raised.{Fired}
 use Rattle.batch_meaning.specs.Working.{asks_any, asks_first, is_of_trigger, is_read_by, known_in, table_called}

@@ -5,7 +5,7 @@ use Rattle.tsql_tree.specs.declared.definition.TableTree.{TableTree}
 use Rattle.tsql_tree.specs.declared.statement.Statement.{Statement}
 use Rattle.bound_tree.specs.declared.write.Bound.{Bound}
 use Rattle.session_vars.specs.declared.Variable.{Variable}
-use Rattle.catalog_rows.specs.Definitions.{tables_of}
+use Rattle.table_rows.specs.Definitions.{tables_of}
 use Rattle.batch_meaning.specs.declared.failure.Failure.{Failure}
 use Rattle.batch_meaning.specs.Failures.{plain}
 use Rattle.batch_meaning.specs.Selecting.{bound_over}

@@ -23,10 +23,10 @@ use Rattle.value_types.specs.declared.table_name.TableName.{TableName}
 use Rattle.value_types.specs.Units.{same_units}
 use Rattle.tsql_tree.specs.declared.definition.TableTree.{TableTree}
 use Rattle.clause_binder.specs.Scope.{or_first, table_of}
-use Rattle.catalog_rows.specs.Definitions.{tables_of}
+use Rattle.table_rows.specs.Definitions.{tables_of}
 use Rattle.std.specs.Cmp.Lexicographic.{pointwise}
 use Rattle.std.specs.Prelude.{IsTrue}
-use Rattle.catalog_rows.specs.Rows.{is_value_of}
+use Rattle.table_rows.specs.Rows.{is_value_of}
 use Rattle.catalog_rows.proofs.Fitting.{image_typed, value_of_type}
 use Rattle.constraint_check.specs.Reads.{shape_of}
 use Rattle.dml_exec.specs.Reading.{query_reads, shared}

@@ -6,7 +6,7 @@ use Rattle.tsql_tree.specs.declared.definition.Definition.{Definition}
 use Rattle.tsql_tree.specs.declared.definition.Definition.TheVariants.{Table, Procedure, Trigger}
 use Rattle.tsql_tree.specs.declared.definition.TableTree.{TableTree}
 use Rattle.tsql_tree.specs.declared.definition.TriggerTree.{TriggerTree}
-use Rattle.catalog_rows.specs.Definitions.{tables_of}
+use Rattle.table_rows.specs.Definitions.{tables_of}
 use Rattle.batch_meaning.specs.Raised.{Around, Fired}
 use Rattle.batch_meaning.specs.Writes.{is_fired, is_within, trigger_in}
 use Rattle.session_state.specs.Parts.{is_trigger_of}

@@ -17,8 +17,8 @@ use Rattle.tsql_tree.specs.declared.statement.Form.{Form-F}
 use Rattle.clause_binder.specs.Operands.{items_of}
 use Rattle.binder.specs.Names.{Layer, form_of}
 use Rattle.query_eval.specs.Ans.{Ans}
-use Rattle.catalog_rows.specs.Definitions.{IsDefinitionIn, tables_of}
-use Rattle.catalog_rows.specs.Rows.{has_columns, is_value_of}
+use Rattle.table_rows.specs.Definitions.{IsDefinitionIn, tables_of}
+use Rattle.table_rows.specs.Rows.{has_columns, is_value_of}
 use Rattle.step_model.specs.declared.op.Op.{Op}
 use Rattle.step_model.specs.declared.op.Op.TheVariants.{Insert}
 use Rattle.step_model.specs.Port.{PortPast}

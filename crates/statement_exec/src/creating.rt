@@ -8,7 +8,7 @@ ghost use Rattle.batch_meaning.specs.Progress.{Ready};
 ghost use Rattle.batch_meaning.specs.Working.{asks_any, binds, known_by, own};
 ghost use Rattle.clause_binder.specs.Scope.{is_long};
 ghost use Rattle.typed_nodes.specs.Nodes.{is_kind};
-ghost use Rattle.catalog_rows.specs.Definitions.{is_objects};
+ghost use Rattle.table_rows.specs.Definitions.{is_objects};
 ghost use Rattle.tsql_tree.specs.declared.definition.Definition.TheVariants.{Procedure, Trigger};
 ghost use Rattle.batch_meaning.specs.Writes.{creates, creates_definition, creates_table, is_odd_list, is_odd_parameter, unless_objects};
 ghost use Rattle.statement_exec.specs.Created.{MayBePut, creates_trigger};
@@ -22,13 +22,13 @@ use crate::prepare::prepare;
 use crate::putting::create;
 use batch_meaning::Failure;
 use binder::names_of;
-use catalog_rows::is_objects;
 use session_state::{
     Around, Effect, LONGEST_NAME, OBJECT_PRESENT, OUTSIDE_LIMITS, SessionState, UNKNOWN_TABLE,
     naming, no_memory,
 };
 use std::alloc::Global;
 use step_model::Port;
+use table_rows::is_objects;
 use tsql_tree::{Definition, DropKind, Parameter, ProcedureTree, Statement, TriggerTree};
 use value_types::{SqlType, Units};
 

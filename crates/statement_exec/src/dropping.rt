@@ -4,7 +4,7 @@ ghost use Rattle.std.specs.Prelude.{◌≡◌, ◌++◌, ◌∷◌, [], map, opt
 ghost use Rattle.std.specs.List.{list_any};
 ghost use Rattle.bound_tree.specs.declared.write.Bound.TheVariants.{Write};
 ghost use Rattle.tsql_tree.specs.declared.statement.DropKind.TheVariants as drop;
-ghost use Rattle.catalog_rows.specs.Definitions.{tables_of as tables_defined};
+ghost use Rattle.table_rows.specs.Definitions.{tables_of as tables_defined};
 ghost use Rattle.dml_exec.specs.declared.refusal.Level.TheVariants.{Serializable};
 ghost use Rattle.dml_exec.specs.Reading.{none_given};
 ghost use Rattle.batch_meaning.specs.Asking.{reads_at, with_room};
@@ -27,13 +27,13 @@ use crate::objects::read_definitions;
 use crate::prepare::bound_over;
 use batch_meaning::Failure;
 use bound_tree::{Bound, BoundWrite, Image};
-use catalog_rows::object_key;
 use dml_exec::Level;
 use session_state::{Around, Effect, IS_PARENT, NOT_THERE, SessionState, naming, no_memory};
 use sqlite_items::Items;
 use std::alloc::Global;
 use std::slice;
 use step_model::{Deed, Planned, Port};
+use table_rows::object_key;
 use tsql_tree::{Definition, DropKind, Statement, TableTree};
 use value_types::{Memory, TableName, Units};
 

@@ -4,7 +4,7 @@ ghost use Rattle.std.specs.Prelude.{◌≡◌, ◌++◌, ◌∷◌, [], if◌the
 ghost use Rattle.tsql_tree.specs.declared.definition.Definition.{Definition as Defined};
 ghost use Rattle.tsql_tree.specs.declared.definition.Definition.TheVariants.{Trigger};
 ghost use Rattle.call_rules.specs.Triggers as seen;
-ghost use Rattle.catalog_rows.specs.Definitions.{tables_of as tables_defined};
+ghost use Rattle.table_rows.specs.Definitions.{tables_of as tables_defined};
 ghost use Rattle.batch_meaning.specs.Writes.{fires_of, is_fired, trigger_in};
 ghost use Rattle.statement_exec.specs.Slots.{AreSlots, table_left};
 ghost use Rattle.session_state.specs.Parts.{IsOrMemory};

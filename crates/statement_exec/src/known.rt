@@ -6,11 +6,11 @@ ghost use Rattle.tsql_tree.specs.declared.statement.Form.{out-Form};
 ghost use Rattle.batch_meaning.specs.Working.{asks_any, is_of_trigger, is_read_by, known_in, table_called};
 ghost use Rattle.statement_exec.specs.Named.{known_so};
 
-use catalog_rows::is_objects;
 use dml_exec::{is_deleted, is_inserted};
 use session_state::{Around, Fired};
 use sqlite_items::Items;
 use std::alloc::Global;
+use table_rows::is_objects;
 use tsql_tree::{ColumnTree, Definition, Form, KeyTree, TableTree};
 use value_types::{Memory, Units};
 

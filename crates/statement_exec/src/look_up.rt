@@ -13,17 +13,18 @@ ghost use Rattle.batch_meaning.specs.Working.{asks_any, asks_first, known_in};
 ghost use Rattle.batch_meaning.specs.Progress.{Ready};
 ghost use Rattle.constraint_check.specs.Reads.{rows_table};
 ghost use Rattle.dml_exec.specs.Asking.{seen};
-ghost use Rattle.catalog_rows.specs.Definitions.{is_objects, objects_name, object_key};
+ghost use Rattle.table_rows.specs.Definitions.{is_objects, objects_name, object_key};
 ghost use Rattle.statement_exec.specs.Fetched.{IsFetch};
 ghost use Rattle.statement_exec.specs.Selected.{IsDefined};
 
 use crate::known::{StandsFor, known, table_called};
 use batch_meaning::Failure;
-use catalog_rows::{definition_in, is_objects, object_key};
+use catalog_rows::definition_in;
 use lock_modes::KeyPart;
 use session_state::{Around, DEADLOCK, LOCK_TIMEOUT, NO_MEMORY, SessionState};
 use std::alloc::Global;
 use step_model::{Hold, Op, Port, Reply, Start, Stop};
+use table_rows::{is_objects, object_key};
 use tsql_tree::{Definition, Form};
 use value_types::{Key, Memory, Row, TableName, Units};
 

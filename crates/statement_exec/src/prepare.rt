@@ -2,7 +2,7 @@
 
 ghost use Rattle.std.specs.Prelude.{◌≡◌, true, Ok, IfOk, IsTrue, option_map};
 ghost use Rattle.binder.specs.Names.{looked_up};
-ghost use Rattle.catalog_rows.specs.Definitions.{tables_of as tables_defined};
+ghost use Rattle.table_rows.specs.Definitions.{tables_of as tables_defined};
 ghost use Rattle.batch_meaning.specs.Doing.{Did};
 ghost use Rattle.batch_meaning.specs.Progress.{Ready};
 ghost use Rattle.batch_meaning.specs.Selecting.{bound_over};
@@ -20,12 +20,12 @@ use crate::look_up::look_up_all;
 use batch_meaning::{Failure, Home};
 use binder::{bind, names_of};
 use bound_tree::Bound;
-use catalog_rows::tables_of;
 use session_state::{Around, Fired, SessionState, no_memory, unbound_by};
 use session_vars::Vars;
 use sqlite_items::Items;
 use std::alloc::Global;
 use step_model::Port;
+use table_rows::tables_of;
 use tsql_tree::{Definition, Statement, TableTree};
 use value_types::Units;
 

@@ -13,12 +13,12 @@ ghost use Rattle.statement_exec.specs.Selected.{IsInsertion};
 
 use crate::look_up::objects;
 use batch_meaning::Failure;
-use catalog_rows::{object_key, row_of};
 use session_state::{
     DEADLOCK, Effect, LOCK_TIMEOUT, OBJECT_PRESENT, SessionState, naming, no_memory,
 };
 use std::alloc::Global;
 use step_model::{Op, Port, Reply};
+use table_rows::{object_key, row_of};
 use value_types::{Memory, Units};
 
 /// Puts a definition into `objects`.

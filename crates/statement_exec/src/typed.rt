@@ -2,11 +2,11 @@
 
 ghost use Rattle.std.specs.Prelude.{◌≡◌};
 ghost use Rattle.std.specs.Cmp.Lexicographic.{pointwise};
-ghost use Rattle.catalog_rows.specs.Rows as rows;
+ghost use Rattle.table_rows.specs.Rows as rows;
 ghost use Rattle.statement_exec.specs.Selected.{are_typed};
 
 use bound_tree::Item;
-use catalog_rows::is_value_of;
+use table_rows::is_value_of;
 use value_types::Row;
 
 /// Whether each row has a value for each item, NULL or of the item's type, and no more.

@@ -7,7 +7,7 @@ use Rattle.tsql_tree.specs.declared.definition.Definition.TheVariants.{Table, Pr
 use Rattle.tsql_tree.specs.declared.definition.ProcedureTree.{ProcedureTree}
 use Rattle.tsql_tree.specs.declared.definition.TriggerTree.{TriggerTree}
 use Rattle.clause_binder.specs.Scope.{is_long}
-use Rattle.catalog_rows.specs.Definitions.{defined_name, is_objects}
+use Rattle.table_rows.specs.Definitions.{defined_name, is_objects}
 use Rattle.step_model.specs.declared.change.Planned.{Planned}
 use Rattle.step_model.specs.Dialog.{IsQuiet}
 use Rattle.step_model.specs.Exchange.{Exchange}

@@ -6,7 +6,7 @@ use Rattle.tsql_tree.specs.declared.statement.Form.{Form-F}
 use Rattle.tsql_tree.specs.declared.statement.Statement.{Statement}
 use Rattle.bound_tree.specs.declared.write.Bound.TheVariants as bound
 use Rattle.binder.specs.Names.{Layer, form_of, looked_up}
-use Rattle.catalog_rows.specs.Definitions.{is_objects, objects_name}
+use Rattle.table_rows.specs.Definitions.{is_objects, objects_name}
 use Rattle.step_model.specs.declared.manner.Manner.{Manner}
 use Rattle.step_model.specs.declared.op.Op.TheVariants.{Begin, Mark, BackTo, Relax, Commit}
 use Rattle.step_model.specs.declared.range.Start.TheVariants.{First}

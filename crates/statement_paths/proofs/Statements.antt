@@ -6,7 +6,7 @@ use Rattle.tsql_tree.specs.declared.definition.TableTree.{TableTree}
 use Rattle.tsql_tree.specs.declared.statement.Statement.{Statement}
 use Rattle.bound_tree.specs.declared.write.Bound.{Bound}
 use Rattle.binder.specs.Names.{looked_up}
-use Rattle.catalog_rows.specs.Definitions.{is_objects, tables_of}
+use Rattle.table_rows.specs.Definitions.{is_objects, tables_of}
 use Rattle.step_model.specs.declared.manner.Manner.{Manner}
 use Rattle.step_model.specs.declared.op.Op.{Op}
 use Rattle.step_model.specs.declared.op.Op.TheVariants as ops

@@ -10,7 +10,7 @@ use Rattle.bound_tree.specs.declared.query.BoundQuery.{BoundQuery}
 use Rattle.bound_tree.specs.declared.write.Bound.{Bound}
 use Rattle.bound_tree.specs.declared.write.Bound.TheVariants as bound
 use Rattle.binder.specs.Names.{Layer}
-use Rattle.catalog_rows.specs.Definitions.{is_objects}
+use Rattle.table_rows.specs.Definitions.{is_objects}
 use Rattle.step_model.specs.declared.change.Planned.{Planned}
 use Rattle.step_model.specs.declared.manner.Manner.{Manner}
 use Rattle.step_model.specs.declared.op.Op.TheVariants as ops

@@ -14,7 +14,7 @@ use Rattle.bound_tree.specs.declared.write.Bound.{Bound}
 use Rattle.bound_tree.specs.declared.write.Bound.TheVariants as bound
 use Rattle.bound_tree.specs.declared.write.BoundWrite.{BoundWrite}
 use Rattle.binder.specs.Names.{Layer, looked_up}
-use Rattle.catalog_rows.specs.Definitions.{is_objects, tables_of}
+use Rattle.table_rows.specs.Definitions.{is_objects, tables_of}
 use Rattle.step_model.specs.declared.change.Planned.{Planned}
 use Rattle.step_model.specs.declared.op.Op.{Op}
 use Rattle.step_model.specs.declared.op.Op.TheVariants as ops

@@ -17,7 +17,7 @@ use Rattle.bound_tree.specs.declared.write.Bound.{Bound}
 use Rattle.bound_tree.specs.declared.write.Bound.TheVariants as bound
 use Rattle.bound_tree.specs.declared.write.BoundWrite.{BoundWrite}
 use Rattle.binder.specs.Names.{Layer, form_of, looked_up}
-use Rattle.catalog_rows.specs.Definitions.{IsDefinitionIn, defined_name, is_objects, objects_name, object_key, row_of, tables_of}
+use Rattle.table_rows.specs.Definitions.{IsDefinitionIn, defined_name, is_objects, objects_name, object_key, row_of, tables_of}
 use Rattle.clause_binder.specs.Scope.{is_long}
 use Rattle.step_model.specs.declared.change.Deed.TheVariants.{Insert}
 use Rattle.step_model.specs.declared.change.Planned.{Planned}

@@ -1,4 +1,3 @@
 pub mod Verdicts
 pub mod Whole
-pub mod OneOutcome
 pub mod Rows

@@ -17,7 +17,7 @@ use Rattle.tsql_grammar.specs.Terminals.{terminals}
 use Rattle.tsql_grammar.specs.Words.{word_kind}
 use Rattle.grammar_laws.specs.Descent.{read}
 use Rattle.lexeme_reader.specs.Reading.{Outcome, applied}
-use Rattle.stmt_parser.specs.Parsed.{lexemes_of, end_of, line_in, near_in, BatchOf}
+use Rattle.tsql_grammar.specs.Parsed.{lexemes_of, end_of, line_in, near_in, BatchOf}
 
 -- the batch without a statement
 empty : BatchOf [] (Ok (batch.Body []))

@@ -18,7 +18,7 @@ use Rattle.tsql_recognizer.specs.declared.recognizer.Verdict.TheVariants.{Stops,
 use Rattle.tsql_recognizer.specs.Verdict.{IsVerdict}
 use Rattle.tsql_grammar.specs.declared.fault.ParseFault.TheVariants as fault
 use Rattle.stmt_parser.specs.Judging.{IsJudged}
-use Rattle.stmt_parser.specs.Parsed.{lexemes_of, flaw_of, Stands, StopsText, line_by, near_by, line_in, near_in, shown_of, number_of, syntax_error, IsFault}
+use Rattle.tsql_grammar.specs.Parsed.{lexemes_of, flaw_of, Stands, StopsText, line_by, near_by, line_in, near_in, shown_of, number_of, syntax_error, IsFault}
 
 -- one lexeme more
 abbrev One : List Spanned → ℕ → Type 0

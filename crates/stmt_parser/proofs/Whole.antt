@@ -17,7 +17,7 @@ use Rattle.lexeme_reader.specs.Reading.{Outcome, Gives, applied, read_in}
 use Rattle.lexeme_reader.specs.declared.fault.ReadFault.{ReadFault}
 use Rattle.lexeme_reader.specs.declared.fault.ReadFault.TheVariants.{Refused}
 use Rattle.stmt_parser.proofs.Verdicts.{lexemes_same}
-use Rattle.stmt_parser.specs.Parsed.{lexemes_of, end_of, Stands, BatchOf, DefinitionOf}
+use Rattle.tsql_grammar.specs.Parsed.{lexemes_of, end_of, Stands, BatchOf, DefinitionOf}
 
 descends : (a : Rule) (text : List ℕ) (tree : Tree a) → Stands a text tree None → read_in text a (terminals (lexemes_of text)) ≡ Some (tree, [])
 unfolding read_in

@@ -1,3 +1,2 @@
-pub mod Parsed  -- what parsing gives
 -- cited by private contracts alone
 pub mod Judging  -- what is known of lexemes that were recognized

@@ -6,7 +6,7 @@ ghost use Rattle.tsql_grammar.specs.Productions.{Tree};
 ghost use Rattle.tsql_recognizer.specs.declared.recognizer.Verdict.TheVariants.{Reads};
 ghost use Rattle.tsql_lexer.specs.Reading.{lexing_of};
 ghost use Rattle.stmt_parser.specs.Judging.{IsJudged};
-ghost use Rattle.stmt_parser.specs.Parsed.{Stands, StopsText, IsFault, number_of, shown_of};
+ghost use Rattle.tsql_grammar.specs.Parsed.{Stands, StopsText, IsFault, number_of, shown_of};
 
 use crate::place::{line_in, near_in};
 use std::alloc::Global;

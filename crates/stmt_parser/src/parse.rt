@@ -4,7 +4,7 @@ ghost use Rattle.std.specs.Prelude.{◌≡◌, None, Ok, IfOk};
 ghost use Rattle.tsql_grammar.specs.declared.rule.Rule.TheVariants as r;
 ghost use Rattle.tsql_grammar.specs.Productions.{Tree};
 ghost use Rattle.tsql_lexer.specs.Reading.{lexing_of};
-ghost use Rattle.stmt_parser.specs.Parsed.{Stands, BatchOf, DefinitionOf};
+ghost use Rattle.tsql_grammar.specs.Parsed.{Stands, BatchOf, DefinitionOf};
 
 use crate::judge::judge;
 use crate::place::end_of;

@@ -3,7 +3,7 @@
 ghost use Rattle.std.specs.Prelude.{◌≡◌, None, IfOk};
 ghost use Rattle.std.specs.List.{slice_get};
 ghost use Rattle.tsql_lexer.specs.Parts.{line_behind};
-ghost use Rattle.stmt_parser.specs.Parsed.{line_by, near_by, end_of};
+ghost use Rattle.tsql_grammar.specs.Parsed.{line_by, near_by, end_of};
 
 use statement_reader::slice;
 use std::alloc::Global;

@@ -21,7 +21,7 @@ use Rattle.tsql_grammar.specs.Productions.{Symbols, Production, Tree, production
 use Rattle.tsql_grammar.specs.Terminals.{Terminal, begins_else, kind, line, terminals}
 use Rattle.tsql_grammar.specs.Trees.{slice}
 use Rattle.tsql_grammar.specs.Words.{kind_of}
-use Rattle.stmt_parser.specs.Parsed.{lexemes_of, end_by, end_of, BatchOf, DefinitionOf}
+use Rattle.tsql_grammar.specs.Parsed.{lexemes_of, end_by, end_of, BatchOf, DefinitionOf}
 use Rattle.grammar_laws.specs.Grammar.{Trees, Derives, join, next}
 use Rattle.grammar_laws.specs.Grammar.Symbol.{lexeme, rule, mark}
 use Rattle.grammar_laws.specs.Alternatives.{IndexOf, at, may_take, kind_of as kind_next}

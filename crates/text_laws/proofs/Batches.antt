@@ -13,8 +13,8 @@ use Rattle.tsql_grammar.specs.PlainText.{plain_language}
 use Rattle.tsql_grammar.specs.Productions.{Tree, outside, productions}
 use Rattle.tsql_grammar.specs.Terminals.{Terminal, terminals}
 use Rattle.tsql_grammar.specs.Trees.{slice, statement}
-use Rattle.stmt_parser.specs.Parsed.{lexemes_of, end_of}
-use Rattle.catalog_rows.specs.Definitions.{longest_text}
+use Rattle.tsql_grammar.specs.Parsed.{lexemes_of, end_of}
+use Rattle.table_rows.specs.Definitions.{longest_text}
 use Rattle.grammar_laws.specs.Grammar.Symbol.{rule}
 use Rattle.grammar_laws.specs.BySymbols.{Within}
 use Rattle.grammar_laws.specs.Alternatives.{at}

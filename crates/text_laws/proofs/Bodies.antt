@@ -13,8 +13,8 @@ use Rattle.tsql_grammar.specs.Noted.{Noted, start, see}
 use Rattle.tsql_grammar.specs.PlainText.{plain_language}
 use Rattle.tsql_grammar.specs.Productions.{outside}
 use Rattle.tsql_grammar.specs.Terminals.{Terminal, terminals}
-use Rattle.stmt_parser.specs.Parsed.{lexemes_of}
-use Rattle.catalog_rows.specs.Definitions.{longest_text}
+use Rattle.tsql_grammar.specs.Parsed.{lexemes_of}
+use Rattle.table_rows.specs.Definitions.{longest_text}
 use Rattle.grammar_laws.specs.Grammar.Symbol.{rule}
 use Rattle.grammar_laws.specs.BySymbols.{OfSymbols, Within}
 use Rattle.grammar_laws.proofs.Cuts.{cuts}

@@ -17,7 +17,7 @@ use Rattle.tsql_grammar.specs.Noted.{Noted, see, note}
 use Rattle.tsql_grammar.specs.Productions.{Symbols, Production, Tree, productions, reserved, way}
 use Rattle.tsql_grammar.specs.Terminals.{Terminal, terminals, line}
 use Rattle.tsql_grammar.specs.Trees.{slice, statement}
-use Rattle.stmt_parser.specs.Parsed.{lexemes_of}
+use Rattle.tsql_grammar.specs.Parsed.{lexemes_of}
 use Rattle.grammar_laws.specs.Grammar.{Trees}
 use Rattle.grammar_laws.specs.Grammar.Symbol.{lexeme, rule, mark}
 use Rattle.grammar_laws.specs.BySymbols.{OfSymbols, Within}

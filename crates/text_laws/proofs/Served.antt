@@ -6,8 +6,8 @@ use Rattle.tsql_tree.specs.declared.definition.Definition.TheVariants as definit
 use Rattle.tsql_tree.specs.declared.definition.Definition.{Definition as Defined}
 use Rattle.tsql_tree.specs.declared.statement.Batch.TheVariants.{Definition, Body}
 use Rattle.tsql_grammar.specs.declared.fault.ParseFault.TheVariants as fault
-use Rattle.stmt_parser.specs.Parsed.{BatchOf}
-use Rattle.catalog_rows.specs.Definitions.{defined_name, longest_text}
+use Rattle.tsql_grammar.specs.Parsed.{BatchOf}
+use Rattle.table_rows.specs.Definitions.{defined_name, longest_text}
 use Rattle.text_laws.specs.Placeless.{AreLike}
 use Rattle.text_laws.specs.Laws.{KeepsDefinition, ServedText, TextReadsBack, are_declared}
 use Rattle.text_laws.proofs.Alone.{kept_definition}

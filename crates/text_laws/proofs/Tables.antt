@@ -17,7 +17,7 @@ use Rattle.tsql_grammar.specs.Terminals.{Terminal, terminals, begins_else}
 use Rattle.tsql_grammar.specs.Trees.{slice}
 use Rattle.tsql_grammar.specs.Words.{kind_of}
 use Rattle.tsql_grammar.proofs.SemicolonKinds.{plain}
-use Rattle.stmt_parser.specs.Parsed.{lexemes_of, DefinitionOf}
+use Rattle.tsql_grammar.specs.Parsed.{lexemes_of, DefinitionOf}
 use Rattle.grammar_laws.specs.Grammar.{Trees, Derives, Reads}
 use Rattle.grammar_laws.specs.Grammar.Symbol.{rule}
 use Rattle.grammar_laws.specs.BySymbols.{Within}

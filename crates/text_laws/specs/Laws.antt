@@ -11,11 +11,11 @@ use Rattle.tsql_tree.specs.declared.statement.Batch.TheVariants.{Body}
 use Rattle.tsql_tree.specs.declared.statement.Form.{Form-F}
 use Rattle.tsql_tree.specs.declared.statement.Statement.{Statement, Statement-F, fold-Statement}
 use Rattle.tsql_grammar.specs.Trees.{slice}
-use Rattle.stmt_parser.specs.Parsed.{lexemes_of, BatchOf, DefinitionOf}
+use Rattle.tsql_grammar.specs.Parsed.{lexemes_of, BatchOf, DefinitionOf}
 use Rattle.session_vars.specs.declared.Variable.{Variable}
 use Rattle.bound_tree.specs.declared.write.Bound.{Bound}
 use Rattle.binder.specs.Names.{Layer, form_of}
-use Rattle.catalog_rows.specs.Definitions.{longest_text, defined_name, Defines}
+use Rattle.table_rows.specs.Definitions.{longest_text, defined_name, Defines}
 use Rattle.batch_meaning.specs.declared.form.ReadText.{ReadText}
 use Rattle.batch_meaning.specs.declared.form.ReadText.TheVariants as text
 use Rattle.batch_meaning.specs.Selecting.{bound_over}

@@ -3,7 +3,7 @@
 //! definition, whose lines count from its own first line.
 //!
 //! Read `specs/Slices.antt` first, then `specs/Rows.antt`, `specs/Placeless.antt` and `specs/Laws.antt`. The functions do nothing: each one's contract is a law of
-//! the lexemes of texts (`tsql_lexer`), of what parsing gives (`stmt_parser`), of what is bound (`binder`) and of what a text is read as
+//! the lexemes of texts (`tsql_lexer`), of what parsing gives (`tsql_grammar`), of what is bound (`binder`) and of what a text is read as
 //! (`batch_meaning`). They ask nothing of their caller; only the definitions that they cite say what they mean. Where a variable is
 //! declared a CHECK of the batch may use it, as in `DECLARE @x INT CREATE TABLE t(a INT CHECK(a=@x))`, and the table's text alone may not:
 //! such a table is never bound. That the text of a batch is not too long is no part of them.

@@ -15,3 +15,4 @@ pub mod SemicolonKinds
 pub mod PlainReadings
 pub mod SemicolonPlaces
 pub mod PlainTexts
+pub mod OneOutcome

@@ -8,6 +8,7 @@ pub mod Lookahead  -- what one lexeme ahead tells of each rule
 pub mod Language  -- all of it, put together
 pub mod BasicTest  -- a test without connectives, as it is written
 pub mod PlainText  -- the grammar where a semicolon is a semicolon
+pub mod Parsed  -- what parsing a whole text gives
 -- cited by private contracts alone
 pub mod WordLetters  -- the words by their first letter
 pub mod Variants  -- kinds by their variants

@@ -1,13 +1,18 @@
 //! The laws of the grammar, which hold of every text and every rule.
 
-ghost use Rattle.std.specs.Prelude.{◌≡◌, ℕ, List, [], Some, false};
+ghost use Rattle.std.specs.Prelude.{◌≡◌, ℕ, List, [], Some, Result, Err, false};
 ghost use Rattle.tsql_lexer.specs.declared.lexeme.Spanned.{Spanned};
+ghost use Rattle.tsql_tree.specs.declared.definition.Definition.{Definition as DefinitionTree};
 ghost use Rattle.tsql_tree.specs.declared.query.Test.{Test};
+ghost use Rattle.tsql_tree.specs.declared.statement.Batch.{Batch as BatchTree};
+ghost use Rattle.tsql_grammar.specs.declared.fault.ParseFault.{ParseFault as Fault};
+ghost use Rattle.tsql_grammar.specs.declared.fault.ParseFault.TheVariants.{Memory as NoMemory};
 ghost use Rattle.tsql_grammar.specs.declared.rule.Rule.{Rule as GrammarRule};
 ghost use Rattle.tsql_grammar.specs.declared.rule.Rule.TheVariants.{Basic};
 ghost use Rattle.tsql_grammar.specs.BasicTest.{IsWritten, basic};
 ghost use Rattle.tsql_grammar.specs.Language.{ReadsAs, IsCut, StopsIn, read_rule};
 ghost use Rattle.tsql_grammar.specs.Noted.{Noted};
+ghost use Rattle.tsql_grammar.specs.Parsed.{BatchOf, DefinitionOf};
 ghost use Rattle.tsql_grammar.specs.PlainText.{ReadsPlain, PlainStopsIn, may_end_before_else};
 ghost use Rattle.tsql_grammar.specs.Productions.{Tree};
 ghost use Rattle.tsql_grammar.specs.Terminals.{Terminal, terminals};
@@ -45,4 +50,11 @@ pub fn law_plain_reads()
 /// not end where an ELSE could come, as one of a batch, a definition, a select, a test or an expression.
 pub fn law_plain_stops()
     ensures { (text : List ℕ) (a : GrammarRule) (w : List Spanned) (s : Noted) (at : ℕ) → may_end_before_else a ≡ false → StopsIn text a (terminals w) s at → PlainStopsIn text a w s at }
+{}
+
+/// A text has one outcome, but for want of memory.
+#[tactic(auto, using(crate::proofs::OneOutcome::one_batch, crate::proofs::OneOutcome::one_definition))]
+pub fn law_one_outcome()
+    ensures batch { (text : List ℕ) (x y : Result BatchTree Fault) → (x ≡ Err NoMemory → ⊥) → (y ≡ Err NoMemory → ⊥) → BatchOf text x → BatchOf text y → x ≡ y }
+    ensures definition { (text : List ℕ) (x y : Result DefinitionTree Fault) → (x ≡ Err NoMemory → ⊥) → (y ≡ Err NoMemory → ⊥) → DefinitionOf text x → DefinitionOf text y → x ≡ y }
 {}

@@ -12,7 +12,7 @@ use Rattle.step_model.specs.declared.change.Deed.TheVariants.{Erase, Replace, In
 use Rattle.step_model.specs.declared.change.Planned.{Planned}
 use Rattle.step_model.specs.Database.{Database}
 use Rattle.step_model.specs.Own.{row_of}
-use Rattle.catalog_rows.specs.Rows.{has_columns, key_of, row_fits}
+use Rattle.table_rows.specs.Rows.{has_columns, key_of, row_fits}
 use Rattle.constraint_check.specs.Laws.{behind}
 use Rattle.constraint_check.specs.Reads.{is_erase, rows_table, shape_of}
 use Rattle.constraint_check.proofs.Behind.{elsewhere, name_is, origin, same, same_on}

@@ -15,7 +15,7 @@ use Rattle.clause_binder.specs.Scope.{key_places}
 use Rattle.step_model.specs.declared.change.Deed.TheVariants.{Replace}
 use Rattle.step_model.specs.declared.change.Planned.{Planned}
 use Rattle.step_model.specs.Own.{row_of}
-use Rattle.catalog_rows.specs.Rows.{has_columns, row_fits, same_key, values_at}
+use Rattle.table_rows.specs.Rows.{has_columns, row_fits, same_key, values_at}
 use Rattle.constraint_check.specs.Local.{first_local}
 use Rattle.constraint_check.specs.Reads.{is_erase, rows_table}
 use Rattle.query_laws.specs.Laws.{AllOf}

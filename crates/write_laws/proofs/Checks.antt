@@ -20,7 +20,7 @@ use Rattle.step_model.specs.Dialog.{Dialog, over, ◌then◌, Held}
 use Rattle.step_model.specs.Exchange.{Exchange}
 use Rattle.step_model.specs.Fits.{AnswersIn}
 use Rattle.step_model.specs.Ranges.{Rows}
-use Rattle.catalog_rows.specs.Rows.{has_columns, key_of, same_key}
+use Rattle.table_rows.specs.Rows.{has_columns, key_of, same_key}
 use Rattle.constraint_check.specs.declared.check_read.CheckRead.{CheckRead}
 use Rattle.constraint_check.specs.Judged.{judge}
 use Rattle.constraint_check.specs.Laws.{KeysAreOne, Passes}

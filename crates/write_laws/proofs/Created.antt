@@ -8,7 +8,7 @@ use Rattle.tsql_tree.specs.declared.definition.ForeignTree.{ForeignTree}
 use Rattle.tsql_tree.specs.declared.definition.TableTree.{TableTree}
 use Rattle.tsql_tree.specs.declared.definition.TriggerTree.{TriggerTree}
 use Rattle.step_model.specs.Database.{Database}
-use Rattle.catalog_rows.specs.Definitions.{Defines, IsDefinitionOf, is_objects, object_key, objects_name, row_of}
+use Rattle.table_rows.specs.Definitions.{Defines, IsDefinitionOf, is_objects, object_key, objects_name, row_of}
 use Rattle.clause_binder.specs.Scope.{max_columns}
 use Rattle.constraint_check.specs.Integrity.{Stands}
 use Rattle.constraint_check.specs.Laws.{behind}

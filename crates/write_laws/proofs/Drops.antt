@@ -20,8 +20,8 @@ use Rattle.step_model.specs.declared.change.Planned.{Planned}
 use Rattle.step_model.specs.Database.{Database, With, with_change}
 use Rattle.step_model.specs.Own.{change_of, row_of}
 use Rattle.step_model.proofs.Databases.{With-append}
-use Rattle.catalog_rows.specs.Definitions.{defined_name, object_key, objects_name, tables_of}
-use Rattle.catalog_rows.specs.Rows.{has_columns, key_of, same_key}
+use Rattle.table_rows.specs.Definitions.{defined_name, object_key, objects_name, tables_of}
+use Rattle.table_rows.specs.Rows.{has_columns, key_of, same_key}
 use Rattle.constraint_check.specs.Laws.{behind}
 use Rattle.constraint_check.specs.Reads.{is_erase, rows_table}
 use Rattle.constraint_check.proofs.Behind.{same, same_back, same_itself, same_on}

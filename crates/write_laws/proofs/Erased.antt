@@ -10,7 +10,7 @@ use Rattle.tsql_tree.specs.declared.definition.TableTree.{TableTree}
 use Rattle.tsql_tree.specs.declared.definition.TriggerTree.{TriggerTree}
 use Rattle.step_model.specs.declared.change.Planned.{Planned}
 use Rattle.step_model.specs.Database.{Database}
-use Rattle.catalog_rows.specs.Definitions.{IsDefinitionOf, is_objects, object_key, objects_name}
+use Rattle.table_rows.specs.Definitions.{IsDefinitionOf, is_objects, object_key, objects_name}
 use Rattle.constraint_check.specs.Laws.{behind}
 use Rattle.constraint_check.specs.Reads.{rows_table}
 use Rattle.constraint_check.proofs.Behind.{one_behind, same}

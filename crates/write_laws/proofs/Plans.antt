@@ -15,7 +15,7 @@ use Rattle.binder.specs.Statements.{bind_checks}
 use Rattle.clause_binder.specs.Scope.{key_places}
 use Rattle.step_model.specs.declared.change.Deed.TheVariants.{Replace}
 use Rattle.step_model.specs.declared.change.Planned.{Planned}
-use Rattle.catalog_rows.specs.Rows.{values_at}
+use Rattle.table_rows.specs.Rows.{values_at}
 use Rattle.constraint_check.specs.Local.{first_local}
 use Rattle.constraint_check.specs.Reads.{shape_of}
 use Rattle.dml_exec.specs.declared.rewritten.Rewritten.{Rewritten}

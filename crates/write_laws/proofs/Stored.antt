@@ -15,7 +15,7 @@ use Rattle.bound_tree.specs.Outcomes.{after}
 use Rattle.bound_tree.specs.Typed.{GivesOf}
 use Rattle.bound_tree.proofs.Kept.{conversion_kept}
 use Rattle.query_eval.proofs.Images.{by_last, by_steps}
-use Rattle.catalog_rows.specs.Rows.{has_columns, is_value_of}
+use Rattle.table_rows.specs.Rows.{has_columns, is_value_of}
 use Rattle.catalog_rows.proofs.Fitting.{value_of_type}
 use Rattle.dml_exec.specs.Filling.{Given, Row, filled, null_row, stored, stored_as, stored_at, with_given}
 

@@ -12,7 +12,7 @@ use Rattle.clause_binder.specs.Scope.{key_places}
 use Rattle.binder.specs.Statements.{bind_checks}
 use Rattle.step_model.specs.declared.change.Planned.{Planned}
 use Rattle.step_model.specs.Database.{Database}
-use Rattle.catalog_rows.specs.Definitions.{objects_name, object_key}
+use Rattle.table_rows.specs.Definitions.{objects_name, object_key}
 use Rattle.constraint_check.specs.Integrity.{AreKept, IsKept}
 use Rattle.constraint_check.specs.Laws.{behind}
 use Rattle.constraint_check.specs.Reads.{is_shape_of, rows_table, shape_of}

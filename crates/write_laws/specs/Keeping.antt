@@ -14,8 +14,8 @@ use Rattle.clause_binder.specs.Scope.{key_places, max_columns}
 use Rattle.binder.specs.Statements.{bind_checks}
 use Rattle.step_model.specs.declared.change.Planned.{Planned}
 use Rattle.step_model.specs.Database.{Database, nothing}
-use Rattle.catalog_rows.specs.Definitions.{Defines, defined_name, is_objects, object_key, objects_name, tables_of}
-use Rattle.catalog_rows.specs.Rows.{same_key}
+use Rattle.table_rows.specs.Definitions.{Defines, defined_name, is_objects, object_key, objects_name, tables_of}
+use Rattle.table_rows.specs.Rows.{same_key}
 use Rattle.constraint_check.specs.Integrity.{AreKept}
 use Rattle.constraint_check.specs.Laws.{behind}
 use Rattle.constraint_check.specs.Reads.{is_erase, rows_table, shape_of}

@@ -13,7 +13,7 @@ use Rattle.binder.specs.Names.{form_of}
 use Rattle.session_vars.specs.declared.Variable.{Variable}
 use Rattle.step_model.specs.declared.change.Planned.{Planned}
 use Rattle.step_model.specs.Database.{Database}
-use Rattle.catalog_rows.specs.Definitions.{defined_name, tables_of}
+use Rattle.table_rows.specs.Definitions.{defined_name, tables_of}
 use Rattle.constraint_check.specs.Laws.{Passes, behind}
 use Rattle.constraint_check.specs.Reads.{all_rows, reads_for, shape_of}
 use Rattle.dml_exec.specs.Filling.{Row}

@@ -25,7 +25,7 @@ use Rattle.step_model.specs.Exchange.{CanReply, Exchange}
 use Rattle.step_model.specs.Fits.{place_of, view}
 use Rattle.step_model.specs.Log.{Commit as Logged}
 use Rattle.step_model.specs.Ranges.{Keeps, Rows}
-use Rattle.catalog_rows.specs.Rows.{row_fits}
+use Rattle.table_rows.specs.Rows.{row_fits}
 use Rattle.constraint_check.specs.Integrity.{Stands}
 use Rattle.constraint_check.specs.Reads.{places_of, rows_table, shape_of}
 use Rattle.dml_exec.specs.Reading.{GivenRows, TableRead, behind_gone, fits}

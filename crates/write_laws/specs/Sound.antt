@@ -14,8 +14,8 @@ use Rattle.bound_tree.specs.declared.expr.BoundTest.{BoundTest}
 use Rattle.clause_binder.specs.Scope.{key_places, max_columns}
 use Rattle.binder.specs.Statements.{bind_checks}
 use Rattle.step_model.specs.Database.{Database}
-use Rattle.catalog_rows.specs.Definitions.{IsDefinitionOf, is_objects, object_key, objects_name}
-use Rattle.catalog_rows.specs.Rows.{row_fits, same_key}
+use Rattle.table_rows.specs.Definitions.{IsDefinitionOf, is_objects, object_key, objects_name}
+use Rattle.table_rows.specs.Rows.{row_fits, same_key}
 use Rattle.constraint_check.specs.Integrity.{HasParents, IsKept, IsUnique, Stands, has_false}
 use Rattle.constraint_check.specs.Laws.{KeysAreOne}
 use Rattle.constraint_check.specs.Local.{null_in}

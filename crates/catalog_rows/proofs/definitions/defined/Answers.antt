@@ -1,7 +1,7 @@
 use Rattle.std.proofs.Common.{Result, Err, ap, subst, ◌∙◌}
 use Rattle.tsql_tree.specs.declared.definition.Definition.{Definition}
 use Rattle.tsql_grammar.specs.declared.fault.ParseFault.{ParseFault}
-use Rattle.stmt_parser.specs.Parsed.{DefinitionOf}
+use Rattle.tsql_grammar.specs.Parsed.{DefinitionOf}
 use Rattle.catalog_rows.proofs.Defining.{refused}
 use Rattle.catalog_rows.proofs.definitions.defined.Goals as goal
 

@@ -1,6 +1,6 @@
 use Rattle.std.proofs.Common.{◌≡◌, ◌++◌, drop}
 use Rattle.std.specs.List.{flat_map}
-use Rattle.catalog_rows.specs.Rows.{values_at}
+use Rattle.table_rows.specs.Rows.{values_at}
 use Rattle.constraint_check.specs.Reads as spec
 use Rattle.constraint_check.proofs.reads.child_reads.Given as goal
 

@@ -1,5 +1,5 @@
 use Rattle.std.proofs.Common.{◌≡◌, ◌++◌, drop}
-use Rattle.catalog_rows.specs.Rows.{values_at}
+use Rattle.table_rows.specs.Rows.{values_at}
 use Rattle.constraint_check.proofs.reads.values_at.Given as goal
 
 -- the values, and those at the places that are left, are all values

@@ -3,7 +3,7 @@ use Rattle.std.specs.Vec.{with_items}
 use Rattle.std.proofs.lemmas.List.{with_items_is}
 use Rattle.tsql_tree.specs.declared.definition.Definition.{Definition}
 use Rattle.call_rules.specs.Triggers.{triggers_for}
-use Rattle.catalog_rows.specs.Definitions.{tables_of}
+use Rattle.table_rows.specs.Definitions.{tables_of}
 use Rattle.statement_exec.specs.Slots.{AreSlots, table_left}
 use Rattle.statement_exec.proofs.Slots.{fires_at, slots_all, slots_tables}
 use Rattle.statement_exec.proofs.fired.parted.Goals as goal

@@ -1,6 +1,6 @@
 use Rattle.std.proofs.Common.{◌≡◌, drop}
 use Rattle.std.specs.Cmp.Lexicographic.{pointwise}
-use Rattle.catalog_rows.specs.Rows.{is_value_of}
+use Rattle.table_rows.specs.Rows.{is_value_of}
 use Rattle.statement_exec.proofs.typed.is_typed.Given as goal
 
 -- the items and values that are left decide

@@ -5,7 +5,7 @@ use Rattle.value_types.specs.declared.sql_type.SqlType.TheVariants.{TinyInt, NTe
 use Rattle.value_types.specs.declared.value.Value.{Value}
 use Rattle.value_types.specs.declared.value.Value.TheVariants.{Null, Whole, Bit, Text}
 use Rattle.tsql_tree.specs.declared.definition.TableTree.{TableTree}
-use Rattle.catalog_rows.specs.Rows.{key_of, row_fits}
+use Rattle.table_rows.specs.Rows.{key_of, row_fits}
 
 abbrev t : TableTree
 t = record {

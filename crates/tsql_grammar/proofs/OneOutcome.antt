@@ -15,7 +15,7 @@ use Rattle.tsql_grammar.proofs.PlainTexts.{plain_reads}
 use Rattle.tsql_grammar.proofs.Readings.{one_reading}
 use Rattle.tsql_grammar.specs.declared.fault.ParseFault.{ParseFault}
 use Rattle.tsql_grammar.specs.declared.fault.ParseFault.TheVariants as fault
-use Rattle.stmt_parser.specs.Parsed.{lexemes_of, end_of, Stands, BeginsText, StopsText, line_in, near_in, shown_of, number_of, IsUnread, IsWrong, BatchOf, DefinitionOf}
+use Rattle.tsql_grammar.specs.Parsed.{lexemes_of, end_of, Stands, BeginsText, StopsText, line_in, near_in, shown_of, number_of, IsUnread, IsWrong, BatchOf, DefinitionOf}
 
 one_tree : (a : Rule) (text : List ℕ) (x y : Tree a) (f g : Option (TextFault × ℕ)) → Stands a text x f → Stands a text y g → (x ≡ y) × (f ≡ g)
 one_tree a text x y f g s u =

@@ -7,7 +7,7 @@ ghost use Rattle.value_types.specs.Order as order;
 ghost use Rattle.convert_rules.specs.Types.{is_in_range};
 ghost use Rattle.bound_tree.specs.Setting.{value_at};
 ghost use Rattle.clause_binder.specs.Scope as scope;
-ghost use Rattle.catalog_rows.specs.Rows as spec;
+ghost use Rattle.table_rows.specs.Rows as spec;
 
 use tsql_tree::{ColumnTree, TableTree};
 use value_types::{Key, Row, SqlType, Units, Value, compare};

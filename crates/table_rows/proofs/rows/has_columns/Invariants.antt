@@ -1,6 +1,6 @@
 use Rattle.std.proofs.Common.{◌≡◌, drop}
-use Rattle.catalog_rows.specs.Rows.{has_columns}
-use Rattle.catalog_rows.proofs.rows.has_columns.Given as goal
+use Rattle.table_rows.specs.Rows.{has_columns}
+use Rattle.table_rows.proofs.rows.has_columns.Given as goal
 
 -- the columns and values that are left decide
 abbrev pub invariant-loop-column : goal.invariant-loop-column

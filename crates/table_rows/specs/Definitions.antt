@@ -8,8 +8,8 @@ use Rattle.value_types.specs.declared.value.Value.TheVariants.{Text}
 use Rattle.tsql_tree.specs.declared.definition.TableTree.{TableTree}
 use Rattle.tsql_tree.specs.declared.definition.Definition.{Definition}
 use Rattle.tsql_tree.specs.declared.definition.Definition.TheVariants.{Table, Procedure, Trigger}
-use Rattle.stmt_parser.specs.Parsed.{DefinitionOf}
-use Rattle.catalog_rows.specs.Rows.{same_key}
+use Rattle.tsql_grammar.specs.Parsed.{DefinitionOf}
+use Rattle.table_rows.specs.Rows.{same_key}
 
 -- ---- rows of `objects`
 

@@ -1,8 +1,8 @@
 use Rattle.std.proofs.Common.{◌≡◌, drop}
 use Rattle.std.specs.Ordering.{eq_by_cmp}
 use Rattle.value_types.specs.Order.{key_cmp}
-use Rattle.catalog_rows.specs.Rows.{values_at}
-use Rattle.catalog_rows.proofs.rows.has_values.Given as goal
+use Rattle.table_rows.specs.Rows.{values_at}
+use Rattle.table_rows.proofs.rows.has_values.Given as goal
 
 -- the places and values that are left decide
 abbrev pub invariant-loop-place : goal.invariant-loop-place

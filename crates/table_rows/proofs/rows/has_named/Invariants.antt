@@ -3,8 +3,8 @@ use Rattle.std.specs.Prelude.{filter_map}
 use Rattle.std.specs.Ordering.{eq_by_cmp}
 use Rattle.value_types.specs.Order.{key_cmp}
 use Rattle.clause_binder.specs.Scope.{place_in}
-use Rattle.catalog_rows.specs.Rows.{values_at}
-use Rattle.catalog_rows.proofs.rows.has_named.Given as goal
+use Rattle.table_rows.specs.Rows.{values_at}
+use Rattle.table_rows.proofs.rows.has_named.Given as goal
 
 -- the names and values that are left decide
 abbrev pub invariant-loop-name : goal.invariant-loop-name

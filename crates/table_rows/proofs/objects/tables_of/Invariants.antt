@@ -1,6 +1,6 @@
 use Rattle.std.proofs.Common.{◌≡◌, ◌++◌}
-use Rattle.catalog_rows.specs.Definitions.{tables_of}
-use Rattle.catalog_rows.proofs.definitions.tables_of.Given as goal
+use Rattle.table_rows.specs.Definitions.{tables_of}
+use Rattle.table_rows.proofs.objects.tables_of.Given as goal
 
 -- the tables so far, and those among what is left, are all
 abbrev pub invariant-loop-definition : goal.invariant-loop-definition

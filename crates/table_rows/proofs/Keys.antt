@@ -4,7 +4,7 @@ use Rattle.std.proofs.lemmas.List.{length-drop}
 use Rattle.std.specs.Ordering.{eq_by_cmp}
 use Rattle.value_types.specs.declared.value.Value.{Value}
 use Rattle.value_types.specs.Order.{key_cmp}
-use Rattle.catalog_rows.specs.Rows.{values_at}
+use Rattle.table_rows.specs.Rows.{values_at}
 
 -- a key that has no value is none of places
 no_value : (places : List ℕ) (row rest : List Value) → 0 < length places → length rest < 1 → false ≡ eq_by_cmp key_cmp (values_at places row) rest
