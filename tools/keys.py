@@ -24,7 +24,7 @@ import dist
 import rows
 
 STATEMENTS_OF_A_TABLE = 40
-NUMBERS = {"TINYINT": (0, 255), "SMALLINT": (-(2**15), 2**15 - 1), "INT": (-(2**31), 2**31 - 1), "BIGINT": (-(2**63), 2**63 - 1)}
+NUMBERS = {"TINYINT": (0, 255), "SMALLINT": (-(2**15), 2**15 - 1), "INT": (-(2**31), 2**31 - 1), "BIGINT": (1 - 2**63, 2**63 - 1)}
 TEXTS = ("", " ", "a", "a ", "ab", "b", "b  ", "A", "a0")
 COMPARED = ("=", "=", "=", "=", "<", "<=", ">", ">=", "<>")
 VALUE = re.compile(r"NULL|-?\d+|'(?:[^']|'')*'")
