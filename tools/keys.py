@@ -10,7 +10,8 @@ references of the table, a DELETE or an UPDATE; behind the last two the whole ta
 
 It prints how many rows came, and ends with 1 at the first statement whose answer differs.
 
-Texts are compared as if padded with blanks on both sides: by the collation RTRIM there. All units are letters, digits and blanks."""
+Texts are compared as if padded with blanks, there by a collation of our own. IN is written there as comparisons, and no index is made by
+itself: SQLite 3.40 errs in both where a collation is not that of bytes. All units are letters, digits and blanks."""
 import argparse
 import os
 import re
@@ -52,12 +53,18 @@ class Table:
 
     def setup(self, is_ours):
         """The statements that make it."""
-        kinds = [(it.kind if is_ours else "TEXT COLLATE RTRIM" if it.is_text else "INTEGER") for it in self.columns]
+        kinds = [(it.kind if is_ours else "TEXT COLLATE padded" if it.is_text else "INTEGER") for it in self.columns]
         columns = ", ".join(f"{it.name} {kind} NOT NULL" for it, kind in zip(self.columns, kinds))
         key = f", PRIMARY KEY ({', '.join(it.name for it in self.key)})" if is_ours else ""
         yield f"CREATE TABLE t ({columns}, v INT{'' if is_ours else 'EGER'}{key})"
         for at, row in enumerate(self.rows.values()):
             yield f"INSERT INTO t VALUES ({', '.join(written(value, is_ours) for value in row)}, {at % 5 if at % 7 else 'NULL'})"
+
+
+def by_padded(one, other):
+    """How two texts compare that have no unit below the blank."""
+    one, other = one.rstrip(" "), other.rstrip(" ")
+    return (one > other) - (one < other)
 
 
 def written(value, is_ours):
@@ -106,7 +113,7 @@ class Maker:
             return tuple(f"{name} BETWEEN {low[side]} AND {high[side]}" for side in (0, 1))
         if form < 0.88:
             of = [self.operand(column) for _ in range(rand.randint(1, 4))]
-            return tuple(f"{name} IN ({', '.join(it[side] for it in of)})" for side in (0, 1))
+            return f"{name} IN ({', '.join(it[0] for it in of)})", f"({' OR '.join(f'{name} = {it[1]}' for it in of)})"
         if form < 0.92:
             return (f"{name} IS NULL",) * 2 if rand.random() < 0.3 else (f"{name} IS NOT NULL",) * 2
         if form < 0.96:
@@ -173,6 +180,8 @@ def compare(said, rand, seen):
     table = Table(rand)
     maker = Maker(rand, table)
     base = sqlite3.connect(":memory:")
+    base.create_collation("padded", by_padded)
+    base.execute("PRAGMA automatic_index = OFF")
     for text in table.setup(False):
         base.execute(text)
     asked, wanted = [], []
