@@ -2,6 +2,7 @@
 use Rattle.std.proofs.Common.{◌≡◌, ◌⊎◌, inl, inr, ℕ, ℤ, Bool, true, false, List, [], ◌∷◌, ◌++◌, Option, None, Some, Ok, refl, sym, ap, ◌∙◌, subst, append_assoc, append-nil}
 use Rattle.tsql_tree.specs.declared.definition.Definition.{Definition}
 use Rattle.tsql_tree.specs.declared.definition.Definition.TheVariants.{Table, Procedure, Trigger}
+use Rattle.value_types.specs.declared.value.Value.{Value}
 use Rattle.tsql_tree.specs.declared.definition.TableTree.{TableTree}
 use Rattle.tsql_tree.specs.declared.statement.DropKind.{DropKind}
 use Rattle.tsql_tree.specs.declared.statement.DropKind.TheVariants as drop
@@ -36,7 +37,7 @@ use Rattle.write_laws.proofs.Parts.{from_both}
 use Rattle.write_laws.proofs.Writes.{whole_adds}
 use Rattle.batch_meaning.specs.Asking.{KnownNames, is_table, with_found}
 use Rattle.batch_meaning.specs.Changing.{created, whole}
-use Rattle.batch_meaning.specs.Progress.{SessionProgress}
+use Rattle.batch_meaning.specs.Progress.{SessionProgress, values_of}
 use Rattle.batch_meaning.specs.Raised.{Around, around_batch}
 use Rattle.batch_meaning.specs.Selecting.{Effect, no_effect}
 use Rattle.batch_meaning.specs.Working.{given_in, known_by}
@@ -141,12 +142,12 @@ wrote_quiet stand exchanges more quiet own = let is = quiet_stand exchanges stan
 
 -- ---- the parts of work
 
-wrote_images : (stand : Stand) (manner : Manner) (given : GivenRows) (shapes : List TableTree) (level : Level) (of : Bound) (exchanges : List Exchange) (images : List Rows) → said.Held manner (images_of given shapes level of) exchanges (Ok images) → Wrote stand exchanges []
-wrote_images stand manner given shapes level of exchanges images held = wrote_fetches stand exchanges (says_held IsFetch manner (images_of given shapes level of) exchanges (Ok images) (images_say IsFetch (λ op is. is) given shapes level of) held)
+wrote_images : (stand : Stand) (manner : Manner) (given : GivenRows) (shapes : List TableTree) (level : Level) (vars : List Value) (of : Bound) (exchanges : List Exchange) (images : List Rows) → said.Held manner (images_of given shapes level vars of) exchanges (Ok images) → Wrote stand exchanges []
+wrote_images stand manner given shapes level vars of exchanges images held = wrote_fetches stand exchanges (says_held IsFetch manner (images_of given shapes level vars of) exchanges (Ok images) (images_say IsFetch (λ op is. is) given shapes level vars of) held)
 
-wrote_read : (stand : Stand) (manner : Manner) (given : GivenRows) (level : Level) (shapes : List TableTree) (of : Bound) (exchanges : List Exchange) (images : List Rows) → AreRead manner given level shapes of exchanges images → Wrote stand exchanges []
-wrote_read stand manner given level [] of exchanges images is = subst (λ (l : List Exchange). Wrote stand l []) (sym is.0) (wrote_none stand)
-wrote_read stand manner given level (shape ∷ shapes) of exchanges images is = wrote_images stand manner given (shape ∷ shapes) level of exchanges images is
+wrote_read : (stand : Stand) (manner : Manner) (given : GivenRows) (level : Level) (vars : List Value) (shapes : List TableTree) (of : Bound) (exchanges : List Exchange) (images : List Rows) → AreRead manner given level vars shapes of exchanges images → Wrote stand exchanges []
+wrote_read stand manner given level vars [] of exchanges images is = subst (λ (l : List Exchange). Wrote stand l []) (sym is.0) (wrote_none stand)
+wrote_read stand manner given level vars (shape ∷ shapes) of exchanges images is = wrote_images stand manner given (shape ∷ shapes) level vars of exchanges images is
 
 looked_fetch : (manner : Manner) (is_own : Bool) (name : List ℕ) (exchanges : List Exchange) (found : Option Definition) → IsLookedUp manner is_own name exchanges found → AskOnly IsFetch exchanges
 looked_fetch manner true name exchanges found is = subst (AskOnly IsFetch) (sym is.0) tt
@@ -197,7 +198,7 @@ wrote_parts stand exchanges defined read applied planned parts fetches reads app
 
 module _ (stand : Stand) (around : Around) (p : SessionProgress) where
   wrote_answered : (shapes : List TableTree) (query : BoundQuery) (rows : Rows) (exchanges : List Exchange) → IsAnswered around p shapes query rows exchanges → Wrote stand exchanges []
-  wrote_answered shapes query rows exchanges a = wrote_read stand p.settings.manner (given_in around.fired) p.settings.level shapes (bound.Query query) exchanges a.images a.reads
+  wrote_answered shapes query rows exchanges a = wrote_read stand p.settings.manner (given_in around.fired) p.settings.level (values_of p.vars) shapes (bound.Query query) exchanges a.images a.reads
 
   nothing_planned : (exchanges : List Exchange) (planned : List Planned) → planned ≡ [] → Wrote stand exchanges [] → Wrote stand exchanges planned
   nothing_planned exchanges planned none wrote = subst (Wrote stand exchanges) (sym none) wrote
@@ -218,7 +219,7 @@ module _ (stand : Stand) (around : Around) (p : SessionProgress) where
   wrote_change [] of planned done exchanges is = absurd is
   wrote_change (shape ∷ shapes) (bound.Write write) planned done exchanges w =
       wrote_parts stand exchanges w.defined w.read w.applied planned w.parts (defined_fetch p.settings.manner w.defined First [] w.definitions w.defines)
-      (λ s. wrote_images s p.settings.manner (given_in around.fired) (shape ∷ shapes) p.settings.level (bound.Write write) w.read w.images w.reads) (λ s. wrote_applied s p.settings.manner (tables_of w.definitions) planned w.applied w.applies)
+      (λ s. wrote_images s p.settings.manner (given_in around.fired) (shape ∷ shapes) p.settings.level (values_of p.vars) (bound.Write write) w.read w.images w.reads) (λ s. wrote_applied s p.settings.manner (tables_of w.definitions) planned w.applied w.applies)
   wrote_change (shape ∷ shapes) (bound.Query query) planned done exchanges is = absurd is
   wrote_change (shape ∷ shapes) (bound.Assign query places) planned done exchanges is = absurd is
   wrote_change (shape ∷ shapes) bound.Plain planned done exchanges is = absurd is
@@ -226,7 +227,7 @@ module _ (stand : Stand) (around : Around) (p : SessionProgress) where
   wrote_table : (shape : TableTree) (name : List ℕ) (planned : List Planned) (effect : Effect) (exchanges : List Exchange) → IsTableDropped around p shape name planned effect exchanges → Wrote stand exchanges planned
   wrote_table shape name planned effect exchanges d =
       wrote_parts stand exchanges d.defined d.read d.applied planned d.parts (defined_fetch p.settings.manner d.defined First [] d.definitions d.defines)
-      (λ s. wrote_images s p.settings.manner none_given (shape ∷ []) Serializable (bound.Write (whole name)) d.read d.images d.reads) (λ s. wrote_applied s p.settings.manner [] planned d.applied d.applies)
+      (λ s. wrote_images s p.settings.manner none_given (shape ∷ []) Serializable [] (bound.Write (whole name)) d.read d.images d.reads) (λ s. wrote_applied s p.settings.manner [] planned d.applied d.applies)
 
   wrote_drop : (kind : DropKind) (name : List ℕ) (found : Option Definition) (planned : List Planned) (effect : Effect) (exchanges : List Exchange) → IsDrop around p kind name found planned effect exchanges → Wrote stand exchanges planned
   wrote_drop drop.Table name (Some (Table table)) planned effect exchanges d = wrote_table table name planned effect exchanges d.1

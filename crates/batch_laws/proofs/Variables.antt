@@ -124,8 +124,8 @@ module _ (around : Around) (p0 : SessionProgress) where
   table_still shape name =
       only_bind IsTouch AnyOp reads_definitions _ (reads_still reads_definitions definitions_read) (λ definitions.
       only_bind IsTouch AnyOp (comes_to (unless_referred name (tables_of definitions))) _ (only_comes IsTouch AnyOp (unless_referred name (tables_of definitions))) (λ free.
-      only_bind IsTouch AnyOp (with_room (reads_at none_given Serializable (shape ∷ []) (bound.Write (whole name)))) _
-      (only_room IsTouch AnyOp (reads_at none_given Serializable (shape ∷ []) (bound.Write (whole name))) (reads_still (reads_at none_given Serializable (shape ∷ []) (bound.Write (whole name))) (at_level_reads none_given Serializable (shape ∷ []) (bound.Write (whole name))))) (λ images.
+      only_bind IsTouch AnyOp (with_room (reads_at none_given Serializable [] (shape ∷ []) (bound.Write (whole name)))) _
+      (only_room IsTouch AnyOp (reads_at none_given Serializable [] (shape ∷ []) (bound.Write (whole name))) (reads_still (reads_at none_given Serializable [] (shape ∷ []) (bound.Write (whole name))) (at_level_reads none_given Serializable [] (shape ∷ []) (bound.Write (whole name))))) (λ images.
       only_bind IsTouch AnyOp (reads λ p. comes_to (dropped around p definitions shape name images)) _ (λ p. only_comes IsTouch AnyOp (dropped around p definitions shape name images)) (λ planned.
       only_bind IsTouch AnyOp (applies [] planned) (λ put. over (Ok no_effect)) (applies_still [] planned) (λ put. tt)))))
 

@@ -28,8 +28,8 @@ use Rattle.dml_exec.specs.declared.refusal.Refusal.TheVariants.{Memory}
 use Rattle.dml_exec.specs.declared.written.Attempt.{Attempt}
 use Rattle.dml_exec.specs.declared.written.Written.{Written}
 use Rattle.dml_exec.specs.Asking.{on_ok, ◌>>=◌, with_room, with_room_if}
-use Rattle.dml_exec.specs.Reading.{behind_gone, fits, fetch_of, fetches, from, is_short, key_width, reads_on, rows_from, rows_in}
-use Rattle.dml_exec.specs.Writing.{no_room, done_by, asks_deed, writes_one, writes_all, halted, is_one_key, rows_checked, broken_by, checks_one, checks_all, works, ends, marked, attempts, writes}
+use Rattle.dml_exec.specs.Reading.{behind_gone, fits, fetches, from, is_short, key_width, reads_on, rows_from, rows_in}
+use Rattle.dml_exec.specs.Writing.{no_room, done_by, asks_deed, writes_one, writes_all, halted, rows_checked, broken_by, checks_one, checks_all, checks_range, works, ends, marked, attempts, writes}
 use Rattle.dml_exec.proofs.Halts.{by_outcome}
 use Rattle.batch_laws.specs.Committing.{put_by}
 use Rattle.batch_laws.specs.Laws.{WritesWhole}
@@ -105,7 +105,7 @@ reads_rows shape false fetch = reads_from (key_width shape) (fits shape) range_l
 
 reads_checked : (shapes : List TableTree) (range : KeyRange) → Reads (rows_checked shapes range)
 unfolding rows_checked
-reads_checked shapes range = reads_room no_room _ (reads_then (rows_in (shape_of range.table shapes) (is_one_key range.start) (fetch_of range _ _)) halted (reads_rows _ _ _) by_came)
+reads_checked shapes range = reads_room no_room _ (reads_then (checks_range (shape_of range.table shapes) range) halted (reads_rows _ _ _) by_came)
   where
     by_came : (came : Result Rows Refusal) → Reads (halted came)
     by_came (Ok rows) = λ stand. refl

@@ -33,7 +33,7 @@ use Rattle.batch_meaning.specs.declared.failure.Failure.{Failure}
 use Rattle.batch_meaning.specs.Failures.{plain, naming}
 use Rattle.batch_meaning.specs.Selecting.{result_full}
 use Rattle.batch_meaning.specs.Values.{Assigned}
-use Rattle.batch_meaning.specs.Progress.{assigns, size_of, touches}
+use Rattle.batch_meaning.specs.Progress.{assigns, size_of, touches, values_of}
 use Rattle.batch_meaning.specs.Doing.{Doing, over, reads, makes, defines, asks, room, never, ◌then◌}
 
 -- ---- parts of a statement, which may fail
@@ -213,13 +213,14 @@ abbrev pub touches_if : {A : Type 0} → Bool → Doing A → Doing A
 touches_if true tree = makes touches tree
 touches_if false tree = tree
 
--- the tables that a statement reads, at the session's level or at another one; where it names none, nothing is read
-unfoldable pub reads_at : GivenRows → Level → List TableTree → Bound → Doing (Result (List Rows) Failure)
-reads_at given level [] of = over (Ok [])
-reads_at given level (shape ∷ shapes) of = touches_if (fetches_any given of) (images_of given (shape ∷ shapes) level of gives unless_stopped)
+-- What a statement reads of its tables, at the session's level or at another one, with the values of variables; where it names no table,
+-- nothing is read.
+unfoldable pub reads_at : GivenRows → Level → List Value → List TableTree → Bound → Doing (Result (List Rows) Failure)
+reads_at given level vars [] of = over (Ok [])
+reads_at given level vars (shape ∷ shapes) of = touches_if (fetches_any given of) (images_of given (shape ∷ shapes) level vars of gives unless_stopped)
 
 unfoldable pub reads_images : GivenRows → List TableTree → Bound → Doing (Result (List Rows) Failure)
-reads_images given shapes of = reads λ p. reads_at given p.settings.level shapes of
+reads_images given shapes of = reads λ p. reads_at given p.settings.level (values_of p.vars) shapes of
 
 -- changes are asked, and checked by these shapes
 unfoldable pub applies : List TableTree → List Planned → Doing (Result ℕ Failure)

@@ -110,7 +110,7 @@ module _ (around : Around) where
   drops_table shape name = do
     definitions ← reads_definitions
     free ← comes_to (unless_referred name (tables_of definitions))
-    images ← with_room (reads_at none_given level.Serializable (shape ∷ []) (bound.Write (whole name)))
+    images ← with_room (reads_at none_given level.Serializable [] (shape ∷ []) (bound.Write (whole name)))
     planned ← (reads λ p. comes_to (dropped around p definitions shape name images))
     put ← applies [] planned
     over (Ok no_effect)

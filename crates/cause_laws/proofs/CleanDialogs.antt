@@ -29,8 +29,8 @@ use Rattle.dml_exec.specs.declared.written.Attempt.{Attempt}
 use Rattle.dml_exec.specs.declared.written.Written.{Written}
 use Rattle.dml_exec.specs.declared.written.Written.TheVariants as written
 use Rattle.dml_exec.specs.Asking.{with_room, with_room_if}
-use Rattle.dml_exec.specs.Reading.{GivenRows, TableRead, behind_gone, fetch_of, fetches, fits, from, images_from, images_of, is_short, key_width, read_by, reads_of, reads_on, reads_table, rows_from, rows_in, table_fetch, unless_given}
-use Rattle.dml_exec.specs.Writing.{asks_deed, attempts, broken, broken_by, checks_all, checks_one, done_by, ends, halted, is_one_key, marked, no_room, object_present, or_nameless, outcome, present, primary_name, rows_checked, told, where_done, works, writes_all, writes_one}
+use Rattle.dml_exec.specs.Reading.{GivenRows, TableRead, behind_gone, fetch_of, fetches, fits, from, images_from, images_of, is_one_key, is_short, key_width, read_by, reads_of, reads_on, reads_range, reads_table, rows_from, rows_in, table_fetch, unless_given}
+use Rattle.dml_exec.specs.Writing.{asks_deed, attempts, broken, broken_by, checks_all, checks_one, checks_range, done_by, ends, halted, marked, no_room, object_present, or_nameless, outcome, present, primary_name, rows_checked, told, where_done, works, writes_all, writes_one}
 use Rattle.batch_meaning.specs.Asking.{number_of}
 use Rattle.cause_laws.specs.Causes.{LockError, Deadlock, LockTimeout, IsOther, is_answer}
 use Rattle.cause_laws.proofs.Usual.{UsualIf}
@@ -89,10 +89,10 @@ module _ (error : LockError) where
   module _ (given : GivenRows) (shapes : List TableTree) (level : Level) where
     clean_table : (read : TableRead) → Reads (reads_table given shapes level read)
     unfolding reads_table
-    clean_table read = by_given (given read.0)
+    clean_table read = by_given (given read.0.table)
       where
-        by_given : (found : Option Rows) → Reads (unless_given found (rows_in (shape_of read.0 shapes) false (table_fetch level read)))
-        by_given None = clean_range (shape_of read.0 shapes) false (table_fetch level read)
+        by_given : (found : Option Rows) → Reads (unless_given found (reads_range (shape_of read.0.table shapes) level read))
+        by_given None = clean_range (shape_of read.0.table shapes) (is_one_key (key_width (shape_of read.0.table shapes)) read.0.start read.0.stop) (table_fetch level read)
         by_given (Some rows) = dialog_room error OtherRefusal Memory (said.over (Ok rows)) memory_other tt
 
     clean_from : (images : List Rows) (reads : List TableRead) → Reads (images_from given shapes level images reads)
@@ -101,9 +101,9 @@ module _ (error : LockError) where
     clean_from images (read ∷ reads) = dialog_bind error OtherRefusal (reads_table given shapes level read) (λ rows. with_room Memory (images_from given shapes level (images ++ rows ∷ []) reads)) (clean_table read)
         (λ rows. dialog_room error OtherRefusal Memory (images_from given shapes level (images ++ rows ∷ []) reads) memory_other (clean_from (images ++ rows ∷ []) reads))
 
-    pub clean_images : (of : Bound) → Reads (images_of given shapes level of)
+    pub clean_images : (vars : List Value) (of : Bound) → Reads (images_of given shapes level vars of)
     unfolding images_of
-    clean_images of = dialog_room error OtherRefusal Memory (images_from given shapes level [] (reads_of of)) memory_other (clean_from [] (reads_of of))
+    clean_images vars of = dialog_room error OtherRefusal Memory (images_from given shapes level [] (reads_of vars shapes of)) memory_other (clean_from [] (reads_of vars shapes of))
 
   -- ---- writing
 
@@ -152,7 +152,8 @@ module _ (error : LockError) where
   clean_checked : (shapes : List TableTree) (range : KeyRange) → CleanDialog error (FineOr error (λ why. OtherWritten (outcome why))) (rows_checked shapes range)
   unfolding rows_checked
   clean_checked shapes range = dialog_room error (λ why. OtherWritten (outcome why)) no_room _ memory_other
-      (dialog_then error (FineOr error OtherRefusal) (FineOr error (λ why. OtherWritten (outcome why))) (rows_in (shape_of range.table shapes) (is_one_key range.start) (fetch_of range hold.Range S)) halted (clean_range (shape_of range.table shapes) (is_one_key range.start) (fetch_of range hold.Range S)) by_came)
+      (dialog_then error (FineOr error OtherRefusal) (FineOr error (λ why. OtherWritten (outcome why))) (checks_range (shape_of range.table shapes) range) halted
+      (clean_range (shape_of range.table shapes) (is_one_key (key_width (shape_of range.table shapes)) range.start range.stop) (fetch_of range hold.Range S)) by_came)
     where
       by_came : (came : Result Rows Refusal) → FineOr error OtherRefusal came → CleanDialog error (FineOr error (λ why. OtherWritten (outcome why))) (halted came)
       by_came (Ok rows) fine = tt

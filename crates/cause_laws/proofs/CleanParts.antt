@@ -48,7 +48,7 @@ use Rattle.batch_meaning.specs.Calls.{Call, call_over, finds_call}
 use Rattle.batch_meaning.specs.Changing.{definition_erased, dropped, not_there, planned_over, told_by, unless_referred, whole, write_command}
 use Rattle.batch_meaning.specs.Doing.{Doing, asks, defines, over, reads, ◌then◌}
 use Rattle.batch_meaning.specs.Failures.{plain}
-use Rattle.batch_meaning.specs.Progress.{size_of}
+use Rattle.batch_meaning.specs.Progress.{size_of, values_of}
 use Rattle.batch_meaning.specs.Raised.{Around, info_token}
 use Rattle.batch_meaning.specs.Selecting.{Effect, answer_in, assigning_to, bound_over, columns_of, made_of, messages, no_effect, not_bound_so, raised_by, result_full, result_of, row_limit, sending}
 use Rattle.batch_meaning.specs.Tokens.{done_kind, result_tokens, row_tokens, statement_done}
@@ -152,25 +152,25 @@ module _ (error : LockError) where
 
   -- ---- tables that are read, and changes
 
-  clean_reads_at : (given : GivenRows) (at : Level) (shapes : List TableTree) (of : Bound) → Parts (reads_at given at shapes of)
+  clean_reads_at : (given : GivenRows) (at : Level) (vars : List Value) (shapes : List TableTree) (of : Bound) → Parts (reads_at given at vars shapes of)
   unfolding reads_at
-  clean_reads_at given at [] of = tt
-  clean_reads_at given at (shape ∷ shapes) of = by_touch (fetches_any given of)
+  clean_reads_at given at vars [] of = tt
+  clean_reads_at given at vars (shape ∷ shapes) of = by_touch (fetches_any given of)
     where
       by_came : (came : Result (List Rows) Refusal) → FineOr error (OtherRefusal error) came → Parts (unless_stopped came)
       by_came (Ok images) fine = tt
       by_came (Err why) fine = fine
 
-      goes : Parts (images_of given (shape ∷ shapes) at of gives unless_stopped)
-      goes = clean_gives error (FineOr error (OtherRefusal error)) (OtherOr error {A = List Rows} Anything) (images_of given (shape ∷ shapes) at of) unless_stopped (clean_images error given (shape ∷ shapes) at of) by_came
+      goes : Parts (images_of given (shape ∷ shapes) at vars of gives unless_stopped)
+      goes = clean_gives error (FineOr error (OtherRefusal error)) (OtherOr error {A = List Rows} Anything) (images_of given (shape ∷ shapes) at vars of) unless_stopped (clean_images error given (shape ∷ shapes) at vars of) by_came
 
-      by_touch : (b : Bool) → Parts (touches_if b (images_of given (shape ∷ shapes) at of gives unless_stopped))
+      by_touch : (b : Bool) → Parts (touches_if b (images_of given (shape ∷ shapes) at vars of gives unless_stopped))
       by_touch true = (tt, goes)
       by_touch false = goes
 
   clean_reads : (given : GivenRows) (shapes : List TableTree) (of : Bound) → Parts (reads_images given shapes of)
   unfolding reads_images
-  clean_reads given shapes of = λ p. clean_reads_at given p.settings.level shapes of
+  clean_reads given shapes of = λ p. clean_reads_at given p.settings.level (values_of p.vars) shapes of
 
   clean_applies : (shapes : List TableTree) (planned : List Planned) → Parts (applies shapes planned)
   unfolding applies
@@ -362,7 +362,7 @@ module _ (error : LockError) where
     clean_dropped shape name =
         clean_bind error {A = List Definition} Anything EffectOther reads_definitions _ clean_definitions (λ definitions any.
         clean_bind error {A = Unit {0}} Anything EffectOther (comes_to (unless_referred name (tables_of definitions))) _ (clean_comes error Anything (unless_referred name (tables_of definitions)) (referred_usual name (tables_of definitions))) (λ free any.
-        clean_bind error {A = List Rows} Anything EffectOther (with_room (reads_at none_given level.Serializable (shape ∷ []) (bound.Write (whole name)))) _ (clean_room error {A = List Rows} Anything (reads_at none_given level.Serializable (shape ∷ []) (bound.Write (whole name))) (clean_reads_at none_given level.Serializable (shape ∷ []) (bound.Write (whole name)))) (λ images any.
+        clean_bind error {A = List Rows} Anything EffectOther (with_room (reads_at none_given level.Serializable [] (shape ∷ []) (bound.Write (whole name)))) _ (clean_room error {A = List Rows} Anything (reads_at none_given level.Serializable [] (shape ∷ []) (bound.Write (whole name))) (clean_reads_at none_given level.Serializable [] (shape ∷ []) (bound.Write (whole name)))) (λ images any.
         clean_bind error {A = List Planned} Anything EffectOther (reads λ p. comes_to (dropped around p definitions shape name images)) _ (λ p. clean_comes error {A = List Planned} Anything (dropped around p definitions shape name images) (dropped_usual around p definitions shape name images)) (λ planned any.
         clean_bind error {A = ℕ} Anything EffectOther (applies [] planned) (λ put. over (Ok no_effect)) (clean_applies [] planned) (λ put any. tt)))))
 

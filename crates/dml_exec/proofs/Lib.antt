@@ -4,7 +4,8 @@ pub mod Pairs  -- two lists at once
 pub mod Filled  -- the next value of a row
 pub mod Updated  -- the steps of an UPDATE
 pub mod Held  -- what a dialog comes to, from its parts
-pub mod Fetched  -- the reads of a query, its inner queries' first
+pub mod Fetched  -- the tables of a query, its inner queries' first
+pub mod ReadTables  -- the tables of what is read for a statement
 pub mod RangeSteps  -- ranges and parts, by a loop
 pub mod Writes  -- what comes of a change and of a check
 pub mod Halts  -- how it is told why changes are taken back

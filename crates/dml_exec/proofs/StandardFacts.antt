@@ -1,5 +1,5 @@
 -- Worked rows of the definitions, over CREATE TABLE t (k INT PRIMARY KEY, n NVARCHAR(3), b TINYINT NOT NULL).
-use Rattle.std.proofs.Common.{◌≡◌, ℕ, Bool, true, false, refl, pos, List, [], ◌∷◌, Some, Ok, Err}
+use Rattle.std.proofs.Common.{◌≡◌, ℕ, Bool, true, false, refl, pos, List, [], ◌∷◌, Some, None, Ok, Err}
 use Rattle.std.specs.Prelude.{codes}
 use Rattle.value_types.specs.declared.sql_type.SqlType.{SqlType}
 use Rattle.value_types.specs.declared.sql_type.SqlType.TheVariants.{Int, NText, TinyInt, BigInt}
@@ -11,12 +11,15 @@ use Rattle.tsql_tree.specs.declared.definition.ColumnTree.{ColumnTree}
 use Rattle.tsql_tree.specs.declared.definition.TableTree.{TableTree}
 use Rattle.scalar_eval.specs.declared.fault.EvalFault.TheVariants.{Number, Named}
 use Rattle.clause_binder.specs.Scope.{key_places}
+use Rattle.step_model.specs.declared.range.Start.TheVariants.{First, At}
+use Rattle.step_model.specs.declared.range.Stop.TheVariants.{Last, Within}
 use Rattle.step_model.specs.declared.change.Deed.{Deed}
 use Rattle.step_model.specs.declared.change.Deed.TheVariants.{Erase, Replace, Insert}
 use Rattle.step_model.specs.declared.change.Planned.{Planned}
 use Rattle.dml_exec.specs.declared.rewritten.Rewritten.TheVariants.{Inserted, Set, Erased}
 use Rattle.dml_exec.specs.Filling.{Row, filled, null_row, stored}
 use Rattle.dml_exec.specs.Planning.{changes_of, checked, has_key}
+use Rattle.dml_exec.specs.Reading.{is_one_key, target_read}
 
 abbrev column : List ℕ → SqlType → Bool → ColumnTree
 column name kind required = record { name = name; kind = kind; required = required }
@@ -149,3 +152,23 @@ error_first = refl
 
 keyless : has_key [] ≡ false
 keyless = refl
+
+-- ---- ranges
+
+-- a target without WHERE is read whole, whatever the variables are
+whole_target : target_read (number 1 ∷ []) (t ∷ []) table None ≡ (record { table = table; start = First; stop = Last }, true)
+whole_target = refl
+
+-- k = 1 AND k <= 1 of a key of one column, and of a front of a longer one
+whole_key : is_one_key 1 (At (number 1 ∷ [])) (Within (number 1 ∷ [])) ≡ true
+whole_key = refl
+
+front : is_one_key 2 (At (number 1 ∷ [])) (Within (number 1 ∷ [])) ≡ false
+front = refl
+
+-- from one key to another, and to keys that differ in spaces at their end
+two_keys : is_one_key 1 (At (number 1 ∷ [])) (Within (number 2 ∷ [])) ≡ false
+two_keys = refl
+
+tied_keys : is_one_key 1 (At (Text a ∷ [])) (Within (Text (codes "a ") ∷ [])) ≡ true
+tied_keys = refl

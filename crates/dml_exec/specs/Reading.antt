@@ -1,7 +1,7 @@
 -- Own: how the rows of a range are fetched: from its start, and then from behind the last key, until End. A range of one whole key is
 -- one fetch. A range that was answered by so many keys is read no further. The code goes on in a loop; here the rest of the
 -- range is a dialog again.
-use Rattle.std.specs.Prelude.{ℕ, zero, suc, codes, is_some, nat_lt, not, Bool, true, false, if◌then◌else◌, List, [], ◌∷◌, ◌++◌, length, map, Option, Some, None, Result, Ok, Err}
+use Rattle.std.specs.Prelude.{ℕ, zero, suc, ◌&&◌, codes, is_some, nat_eq, nat_lt, not, Bool, true, false, if◌then◌else◌, List, [], ◌∷◌, ◌++◌, length, map, Option, Some, None, Result, Ok, Err}
 use Rattle.std.specs.List.{flat_map, list_any}
 use Rattle.lock_modes.specs.declared.KeyPart.{KeyPart}
 use Rattle.lock_modes.specs.declared.KeyPart.TheVariants.{S, U}
@@ -10,6 +10,7 @@ use Rattle.value_types.specs.declared.table_name.TableName.{TableName}
 use Rattle.value_types.specs.declared.value.Value.{Value}
 use Rattle.value_types.specs.declared.value.Value.TheVariants.{Null}
 use Rattle.tsql_tree.specs.declared.definition.TableTree.{TableTree}
+use Rattle.bound_tree.specs.declared.expr.BoundTest.{BoundTest}
 use Rattle.bound_tree.specs.declared.query.BoundQuery.{BoundQuery}
 use Rattle.bound_tree.specs.declared.query.InnerQuery.{InnerQuery, out-InnerQuery}
 use Rattle.bound_tree.specs.declared.write.Bound.{Bound}
@@ -27,13 +28,16 @@ use Rattle.step_model.specs.declared.op.Op.TheVariants.{Fetch}
 use Rattle.step_model.specs.declared.range.KeyRange.{KeyRange}
 use Rattle.step_model.specs.declared.range.Start.{Start}
 use Rattle.step_model.specs.declared.range.Start.TheVariants.{First, At, Past}
-use Rattle.step_model.specs.declared.range.Stop.TheVariants.{Last}
+use Rattle.step_model.specs.declared.range.Stop.{Stop}
+use Rattle.step_model.specs.declared.range.Stop.TheVariants.{Last, Within}
 use Rattle.step_model.specs.declared.reply.Reply.{Reply}
 use Rattle.step_model.specs.declared.reply.Reply.TheVariants as replies
 use Rattle.step_model.specs.Exchange.{IsPartOfFetch}
 use Rattle.step_model.specs.Dialog.{Dialog, over, asks, never}
 use Rattle.step_model.specs.Ranges.{Rows, Keeps, range_limit, with_row}
-use Rattle.table_rows.specs.Rows.{row_fits}
+use Rattle.range_plan.specs.RangeOf.{RangeOf}
+use Rattle.range_plan.specs.OnRanges.{ranges_of}
+use Rattle.table_rows.specs.Rows.{row_fits, same_key}
 use Rattle.constraint_check.specs.Reads.{shape_of}
 use Rattle.dml_exec.specs.declared.refusal.Refusal.{Refusal}
 use Rattle.dml_exec.specs.declared.refusal.Refusal.TheVariants.{Victim, TimedOut, Limit, Memory}
@@ -47,6 +51,13 @@ use Rattle.dml_exec.specs.Asking.{◌>>=◌, with_room, with_room_if}
 abbrev pub fits : Option TableTree → Keeps
 fits None row = false
 fits (Some shape) row = row_fits shape 0 row.0 row.1
+
+-- A range of one whole key: keys that compare equal are one key. A front of a key is none, as many keys may begin with it.
+abbrev pub is_one_key : ℕ → Start → Stop → Bool
+is_one_key width First stop = false
+is_one_key width (At key) Last = false
+is_one_key width (At key) (Within last) = nat_eq (length key) width && same_key key last
+is_one_key width (Past key) stop = false
 
 -- the fetch of a range
 abbrev pub fetch_of : KeyRange → Hold → KeyPart → Op
@@ -109,34 +120,39 @@ rows_in shape false fetch = rows_from (key_width shape) (fits shape) range_limit
 
 -- ---- the images of a statement
 
--- a table that is read, and whether it is the target of UPDATE or DELETE
+-- the range of a table that is read, and whether that is the target of UPDATE or DELETE
 abbrev pub TableRead : Type 0
-TableRead = TableName × Bool
+TableRead = KeyRange × Bool
 
-abbrev pub shared : TableName → TableRead
-shared table = (table, false)
+abbrev pub shared : KeyRange → TableRead
+shared range = (range, false)
 
-abbrev pub query_reads : BoundQuery → List TableRead
-query_reads query = map shared (tables_read query)
+-- each reference is read on its range
+abbrev pub query_reads : List Value → BoundQuery → List TableRead
+query_reads vars query = map shared (ranges_of vars query)
 
-abbrev pub inner_reads : List InnerQuery → List TableRead
-inner_reads inner = flat_map (λ of. query_reads (out-InnerQuery of).query) inner
+abbrev pub inner_reads : List Value → List InnerQuery → List TableRead
+inner_reads vars inner = flat_map (λ of. query_reads vars (out-InnerQuery of).query) inner
 
-abbrev pub rows_reads : BoundRows → List TableRead
-rows_reads (rows.Values values inner) = inner_reads inner
-rows_reads (rows.Query query) = query_reads query
+abbrev pub rows_reads : List Value → BoundRows → List TableRead
+rows_reads vars (rows.Values values inner) = inner_reads vars inner
+rows_reads vars (rows.Query query) = query_reads vars query
 
-abbrev pub write_reads : BoundWrite → List TableRead
-write_reads (write.Insert table places given) = rows_reads given
-write_reads (write.Update table sets filter inner) = inner_reads inner ++ (table, true) ∷ []
-write_reads (write.Delete table filter inner) = inner_reads inner ++ (table, true) ∷ []
+-- and so is a target, by the key of its shape
+abbrev pub target_read : List Value → List TableTree → TableName → Option BoundTest → TableRead
+target_read vars shapes table filter = (RangeOf filter 0 table (key_places (shape_of table shapes)) vars, true)
 
--- the tables that are read for a statement, those of inner queries first
-abbrev pub reads_of : Bound → List TableRead
-reads_of (bound.Query query) = query_reads query
-reads_of (bound.Assign query places) = query_reads query
-reads_of (bound.Write of) = write_reads of
-reads_of bound.Plain = []
+abbrev pub write_reads : List Value → List TableTree → BoundWrite → List TableRead
+write_reads vars shapes (write.Insert table places given) = rows_reads vars given
+write_reads vars shapes (write.Update table sets filter inner) = inner_reads vars inner ++ target_read vars shapes table filter ∷ []
+write_reads vars shapes (write.Delete table filter inner) = inner_reads vars inner ++ target_read vars shapes table filter ∷ []
+
+-- what is read for a statement, for inner queries first
+abbrev pub reads_of : List Value → List TableTree → Bound → List TableRead
+reads_of vars shapes (bound.Query query) = query_reads vars query
+reads_of vars shapes (bound.Assign query places) = query_reads vars query
+reads_of vars shapes (bound.Write of) = write_reads vars shapes of
+reads_of vars shapes bound.Plain = []
 
 -- what a level holds of the tables that it reads
 abbrev pub hold_at : Level → Hold
@@ -148,9 +164,9 @@ abbrev pub part_of : Bool → KeyPart
 part_of true = U
 part_of false = S
 
--- the fetch of a whole table
+-- the fetch of a range that is read
 abbrev pub table_fetch : Level → TableRead → Op
-table_fetch level read = Fetch read.0 First Last (hold_at level) (part_of read.1)
+table_fetch level read = fetch_of read.0 (hold_at level) (part_of read.1)
 
 -- the rows of tables that are given, and not fetched
 abbrev pub GivenRows : Type 0
@@ -181,26 +197,53 @@ abbrev pub unless_given : Option Rows → Dialog (Result Rows Refusal) → Dialo
 unless_given None fetched = fetched
 unless_given (Some rows) fetched = with_room Memory (over (Ok rows))
 
-unfoldable pub reads_table : GivenRows → List TableTree → Level → TableRead → Dialog (Result Rows Refusal)
-reads_table given shapes level read = unless_given (given read.0) (rows_in (shape_of read.0 shapes) false (table_fetch level read))
+-- the rows of a range that is read, of a table of this shape
+abbrev pub reads_range : Option TableTree → Level → TableRead → Dialog (Result Rows Refusal)
+reads_range shape level read = rows_in shape (is_one_key (key_width shape) read.0.start read.0.stop) (table_fetch level read)
 
--- tables are read one after another, behind these images
+unfoldable pub reads_table : GivenRows → List TableTree → Level → TableRead → Dialog (Result Rows Refusal)
+reads_table given shapes level read = unless_given (given read.0.table) (reads_range (shape_of read.0.table shapes) level read)
+
+-- ranges are read one after another, behind these images
 unfoldable pub images_from : GivenRows → List TableTree → Level → List Rows → List TableRead → Dialog (Result (List Rows) Refusal)
 images_from given shapes level images [] = over (Ok images)
 images_from given shapes level images (read ∷ reads) = do
   rows ← reads_table given shapes level read
   with_room Memory (images_from given shapes level (images ++ rows ∷ []) reads)
 
--- the images that a statement is answered or planned on
-unfoldable pub images_of : GivenRows → List TableTree → Level → Bound → Dialog (Result (List Rows) Refusal)
-images_of given shapes level of = with_room Memory (images_from given shapes level [] (reads_of of))
+-- the images that a statement is answered or planned on, with these variables
+unfoldable pub images_of : GivenRows → List TableTree → Level → List Value → Bound → Dialog (Result (List Rows) Refusal)
+images_of given shapes level vars of = with_room Memory (images_from given shapes level [] (reads_of vars shapes of))
 
 -- ---- whether anything is asked
 
+-- the tables of what is read for a statement, in the same order
+abbrev pub inner_tables : List InnerQuery → List TableName
+inner_tables inner = flat_map (λ of. tables_read (out-InnerQuery of).query) inner
+
+abbrev pub rows_tables : BoundRows → List TableName
+rows_tables (rows.Values values inner) = inner_tables inner
+rows_tables (rows.Query query) = tables_read query
+
+abbrev pub write_tables : BoundWrite → List TableName
+write_tables (write.Insert table places given) = rows_tables given
+write_tables (write.Update table sets filter inner) = inner_tables inner ++ table ∷ []
+write_tables (write.Delete table filter inner) = inner_tables inner ++ table ∷ []
+
+abbrev pub tables_of_reads : Bound → List TableName
+tables_of_reads (bound.Query query) = tables_read query
+tables_of_reads (bound.Assign query places) = tables_read query
+tables_of_reads (bound.Write of) = write_tables of
+tables_of_reads bound.Plain = []
+
 -- a table is fetched, and not given
-abbrev pub is_fetched : GivenRows → TableRead → Bool
-is_fetched given read = not (is_some (given read.0))
+abbrev pub is_fetched : GivenRows → TableName → Bool
+is_fetched given table = not (is_some (given table))
+
+-- a read is of one that is
+abbrev pub is_read_fetched : GivenRows → TableRead → Bool
+is_read_fetched given read = is_fetched given read.0.table
 
 -- one of those that are read for a statement is
 abbrev pub fetches_any : GivenRows → Bound → Bool
-fetches_any given of = list_any (is_fetched given) (reads_of of)
+fetches_any given of = list_any (is_fetched given) (tables_of_reads of)

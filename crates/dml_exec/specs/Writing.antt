@@ -1,7 +1,7 @@
 -- Own: what is asked for the changes of a write. A mark comes first; then the changes in their order; then the reads of UNIQUE
 -- and FOREIGN KEY, each judged before the next. At an error or a refusal the rest is left, and the changes are taken back to
 -- the mark. The end of the statement's locks is no part of it.
-use Rattle.std.specs.Prelude.{◌≡◌, ◌⊎◌, ℕ, ℤ, pos, Bool, true, false, List, [], ◌∷◌, Option, Some, None, Result, Ok, Err, if◌then◌else◌}
+use Rattle.std.specs.Prelude.{◌≡◌, ◌⊎◌, ℕ, ℤ, pos, List, [], ◌∷◌, Option, Some, None, Result, Ok, Err, if◌then◌else◌}
 use Rattle.lock_modes.specs.declared.KeyPart.TheVariants.{S}
 use Rattle.value_types.specs.declared.table_name.TableName.{TableName}
 use Rattle.value_types.specs.declared.value.Value.{Value}
@@ -13,8 +13,6 @@ use Rattle.step_model.specs.declared.change.Planned.{Planned}
 use Rattle.step_model.specs.declared.op.Hold.TheVariants as hold
 use Rattle.step_model.specs.declared.op.Op.TheVariants as ops
 use Rattle.step_model.specs.declared.range.KeyRange.{KeyRange}
-use Rattle.step_model.specs.declared.range.Start.{Start}
-use Rattle.step_model.specs.declared.range.Start.TheVariants.{At}
 use Rattle.step_model.specs.declared.reply.Reply.{Reply}
 use Rattle.step_model.specs.declared.reply.Reply.TheVariants as replies
 use Rattle.step_model.specs.Dialog.{Dialog, over, asks, never, tries, ◌then◌}
@@ -31,7 +29,7 @@ use Rattle.dml_exec.specs.declared.written.Halt.TheVariants as halt
 use Rattle.dml_exec.specs.declared.written.Written.{Written}
 use Rattle.dml_exec.specs.declared.written.Written.TheVariants as written
 use Rattle.dml_exec.specs.Asking.{◌>>=◌, with_room}
-use Rattle.dml_exec.specs.Reading.{fetch_of, rows_in}
+use Rattle.dml_exec.specs.Reading.{fetch_of, is_one_key, key_width, rows_in}
 
 -- memory is wanting
 abbrev pub no_room : Halt
@@ -110,14 +108,13 @@ abbrev pub halted : Result Rows Refusal → Dialog (Result Rows Halt)
 halted (Ok rows) = over (Ok rows)
 halted (Err refusal) = over (Err (halt.Refused refusal))
 
--- the range is one whole key
-abbrev pub is_one_key : Start → Bool
-is_one_key (At key) = true
-is_one_key start = false
+-- the rows of a check's range, of a table of this shape
+abbrev pub checks_range : Option TableTree → KeyRange → Dialog (Result Rows Refusal)
+checks_range shape range = rows_in shape (is_one_key (key_width shape) range.start range.stop) (fetch_of range hold.Range S)
 
 -- the rows are read
 unfoldable pub rows_checked : List TableTree → KeyRange → Dialog (Result Rows Halt)
-rows_checked shapes range = with_room no_room (rows_in (shape_of range.table shapes) (is_one_key range.start) (fetch_of range hold.Range S) then halted)
+rows_checked shapes range = with_room no_room (checks_range (shape_of range.table shapes) range then halted)
 
 -- the error that rows that were read give
 abbrev pub broken_by : CheckRead → Option ℤ → Dialog (Result (Unit {0}) Halt)

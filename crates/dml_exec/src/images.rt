@@ -1,23 +1,30 @@
 //! The images that a statement is answered or planned on.
 
-ghost use Rattle.std.specs.Prelude.{◌≡◌, ◌++◌, [], ◌∷◌, IfOk, IsTrue, OnErr, Err, true, false, not, is_some, option_map};
+ghost use Rattle.std.specs.Prelude.{◌≡◌, ◌++◌, [], ◌∷◌, IfOk, IsTrue, OnErr, Err, true, not, is_some, option_map};
 ghost use Rattle.std.specs.List.{list_any};
 ghost use Rattle.value_types.specs.Units.{same_units};
+ghost use Rattle.scalar_eval.specs.Scopes.{values_of};
+ghost use Rattle.clause_binder.specs.Scope as scope;
+ghost use Rattle.query_eval.specs.Given.{tables_read};
 ghost use Rattle.step_model.specs.Dialog.{Asks};
 ghost use Rattle.constraint_check.specs.Reads as find;
 ghost use Rattle.dml_exec.specs.Asking.{MayWork, seen};
 ghost use Rattle.dml_exec.specs.Reading as spec;
 
-use crate::ranges::{read_range, shape_of};
+use crate::keys::key_places;
+use crate::ranges::{is_one_key, key_width, read_range, shape_of};
 use crate::refusal::{Level, Refusal};
-use bound_tree::{Bound, BoundQuery, BoundRows, BoundWrite, Image, InnerQuery, Reference};
+use bound_tree::{
+    Bound, BoundQuery, BoundRows, BoundTest, BoundWrite, Image, InnerQuery, Reference,
+};
 use lock_modes::KeyPart;
-use query_eval::tables_read;
+use range_plan::{plan_range, query_ranges};
+use session_vars::Vars;
 use std::alloc::Global;
 use std::marker::Model;
-use step_model::{Hold, Manner, Op, Port, Start, Stop};
+use step_model::{Hold, KeyRange, Manner, Op, Port};
 use tsql_tree::TableTree;
-use value_types::{Memory, Row, TableName, Units};
+use value_types::{Memory, Row, TableName, Units, letting_go};
 
 /// The rows of the tables of a trigger, which are not fetched.
 pub struct GivenTables<'g> {
@@ -65,7 +72,8 @@ pub fn is_deleted(name: &Units) -> bool
 }
 
 /// Reads the images of a statement: of the references of its inner queries, then of its own, then of the target of UPDATE or
-/// DELETE. `shapes` are the tables that it names. Where all are given nothing is asked.
+/// DELETE, each on its range of keys by the values of variables. `shapes` are the tables that it names. Where all are given
+/// nothing is asked.
 ///
 /// # Errors
 ///
@@ -75,31 +83,32 @@ pub fn read_images<P: Port>(
     of: &Bound,
     shapes: &[TableTree],
     given: Option<&GivenTables<'_>>,
+    vars: &Vars,
     level: Level,
     manner: Manner,
     port: &mut P,
 ) -> Result<Vec<Image>, Refusal>
     requires may { spec.fetches_any (spec.given_of (option_map (λ tables. tables.now) given)) of.now ≡ true → MayWork (P.past port.old) manner }
-    ensures asks { Asks (P.past port.old) (P.past port.new) manner (spec.images_of (spec.given_of (option_map (λ tables. tables.now) given.entry)) shapes.now level of.now) (seen result) }
+    ensures asks { Asks (P.past port.old) (P.past port.new) manner (spec.images_of (spec.given_of (option_map (λ tables. tables.now) given.entry)) shapes.now level (values_of vars.now) of.now) (seen result) }
     ensures standing { (P.past port.new).standing ≡ (P.past port.old).standing }
 {
-    match reads_of(alloc, of) {
+    match reads_of(alloc, of, shapes, vars) {
         Ok(reads) => read_all(alloc, reads, shapes, given, level, manner, port),
         Err(_) => Err(Refusal::Memory),
     }
 }
 
-/// Reads tables one after another.
+/// Reads ranges one after another.
 fn read_all<P: Port>(
     alloc: Global,
-    reads: Vec<(TableName, bool)>,
+    reads: Vec<(KeyRange, bool)>,
     shapes: &[TableTree],
     given: Option<&GivenTables<'_>>,
     level: Level,
     manner: Manner,
     port: &mut P,
 ) -> Result<Vec<Image>, Refusal>
-    requires may { list_any (spec.is_fetched (spec.given_of (option_map (λ tables. tables.now) given))) reads.items ≡ true → MayWork (P.past port.old) manner }
+    requires may { list_any (spec.is_read_fetched (spec.given_of (option_map (λ tables. tables.now) given))) reads.items ≡ true → MayWork (P.past port.old) manner }
     ensures asks { Asks (P.past port.old) (P.past port.new) manner (spec.images_from (spec.given_of (option_map (λ tables. tables.now) given.entry)) shapes.now level [] reads.items) (seen result) }
     ensures standing { (P.past port.new).standing ≡ (P.past port.old).standing }
 {
@@ -120,23 +129,23 @@ fn add(images: &mut Vec<Image>, rows: Vec<Row>) -> bool
     images.push(Image::from(rows)).is_ok()
 }
 
-/// Reads a whole table.
+/// Reads the range of a table.
 fn read_table<P: Port>(
     alloc: Global,
-    read: (TableName, bool),
+    read: (KeyRange, bool),
     shapes: &[TableTree],
     given: Option<&GivenTables<'_>>,
     level: Level,
     manner: Manner,
     port: &mut P,
 ) -> Result<Vec<Row>, Refusal>
-    requires may { spec.is_fetched (spec.given_of (option_map (λ tables. tables.now) given)) read ≡ true → MayWork (P.past port.old) manner }
+    requires may { spec.is_read_fetched (spec.given_of (option_map (λ tables. tables.now) given)) read ≡ true → MayWork (P.past port.old) manner }
     ensures asks { Asks (P.past port.old) (P.past port.new) manner (spec.reads_table (spec.given_of (option_map (λ tables. tables.now) given.entry)) shapes.now level read) (seen result) }
     ensures standing { (P.past port.new).standing ≡ (P.past port.old).standing }
 {
-    match rows_given(&read.0, given) {
-        Some(rows) => copy_given(alloc, rows.as_slice()),
-        None => fetch_table(alloc, read, shapes, level, manner, port),
+    match rows_given(&read.0.table, given) {
+        Some(rows) => letting_go(read.0, copy_given(alloc, rows.as_slice())),
+        None => fetch_range(alloc, read, shapes, level, manner, port),
     }
 }
 
@@ -172,34 +181,36 @@ fn copied(alloc: Global, rows: &[Row]) -> Result<Vec<Row>, Memory>
     Ok(copies)
 }
 
-/// Fetches a whole table.
-fn fetch_table<P: Port>(
+/// Fetches the range of a table.
+fn fetch_range<P: Port>(
     alloc: Global,
-    read: (TableName, bool),
+    read: (KeyRange, bool),
     shapes: &[TableTree],
     level: Level,
     manner: Manner,
     port: &mut P,
 ) -> Result<Vec<Row>, Refusal>
     requires may { MayWork (P.past port.old) manner }
-    ensures asks { Asks (P.past port.old) (P.past port.new) manner (spec.rows_in (find.shape_of read.0 shapes.now) false (spec.table_fetch level read)) (seen result) }
+    ensures asks { Asks (P.past port.old) (P.past port.new) manner (spec.reads_range (find.shape_of read.0.table shapes.now) level read) (seen result) }
     ensures standing { (P.past port.new).standing ≡ (P.past port.old).standing }
 {
-    let shape = shape_of(&read.0, shapes);
+    let shape = shape_of(&read.0.table, shapes);
+    let one = is_one_key(key_width(shape), &read.0.start, &read.0.stop);
     let fetch = table_fetch(level, read);
-    read_range(alloc, port, manner, shape, false, fetch)
+    read_range(alloc, port, manner, shape, one, fetch)
 }
 
-/// The fetch of a whole table.
-fn table_fetch(level: Level, read: (TableName, bool)) -> Op
+/// The fetch of a range that is read.
+fn table_fetch(level: Level, read: (KeyRange, bool)) -> Op
     ensures { result ≡ spec.table_fetch level read }
 {
+    let (range, is_target) = read;
     Op::Fetch {
-        table: read.0,
-        start: Start::First,
-        stop: Stop::Last,
+        table: range.table,
+        start: range.start,
+        stop: range.stop,
         hold: hold_at(level),
-        part: part_of(read.1),
+        part: part_of(is_target),
     }
 }
 
@@ -234,7 +245,7 @@ pub fn fetches_any(of: &Bound, given: Option<&GivenTables<'_>>) -> bool
 
 /// Whether one is fetched for a write.
 fn fetches_for(write: &BoundWrite, given: Option<&GivenTables<'_>>) -> bool
-    ensures { result ≡ list_any (spec.is_fetched (spec.given_of (option_map (λ tables. tables.now) given.entry))) (spec.write_reads write.now) }
+    ensures { result ≡ list_any (spec.is_fetched (spec.given_of (option_map (λ tables. tables.now) given.entry))) (spec.write_tables write.now) }
 {
     match write {
         BoundWrite::Insert { rows, .. } => fetches_of(rows, given),
@@ -249,7 +260,7 @@ fn fetches_for(write: &BoundWrite, given: Option<&GivenTables<'_>>) -> bool
 
 /// Whether one is fetched for the rows of an INSERT.
 fn fetches_of(rows: &BoundRows, given: Option<&GivenTables<'_>>) -> bool
-    ensures { result ≡ list_any (spec.is_fetched (spec.given_of (option_map (λ tables. tables.now) given.entry))) (spec.rows_reads rows.now) }
+    ensures { result ≡ list_any (spec.is_fetched (spec.given_of (option_map (λ tables. tables.now) given.entry))) (spec.rows_tables rows.now) }
 {
     match rows {
         BoundRows::Values(_, inner) => fetches_within(inner.as_slice(), given),
@@ -260,7 +271,7 @@ fn fetches_of(rows: &BoundRows, given: Option<&GivenTables<'_>>) -> bool
 /// Whether one is fetched for a query. It recurses as deep as inner queries nest.
 #[cycle(fetching)]
 fn fetches_in(query: &BoundQuery, given: Option<&GivenTables<'_>>) -> bool
-    ensures { result ≡ list_any (spec.is_fetched (spec.given_of (option_map (λ tables. tables.now) given.entry))) (spec.query_reads query.now) }
+    ensures { result ≡ list_any (spec.is_fetched (spec.given_of (option_map (λ tables. tables.now) given.entry))) (tables_read query.now) }
 {
     fetches_within(query.inner.as_slice(), given) || fetches_own(query.refs.as_slice(), given)
 }
@@ -268,7 +279,7 @@ fn fetches_in(query: &BoundQuery, given: Option<&GivenTables<'_>>) -> bool
 /// Whether one is fetched for inner queries.
 #[cycle(fetching)]
 fn fetches_within(inner: &[InnerQuery], given: Option<&GivenTables<'_>>) -> bool
-    ensures { result ≡ list_any (spec.is_fetched (spec.given_of (option_map (λ tables. tables.now) given.entry))) (spec.inner_reads inner.now) }
+    ensures { result ≡ list_any (spec.is_fetched (spec.given_of (option_map (λ tables. tables.now) given.entry))) (spec.inner_tables inner.now) }
 {
     for of in inner {
         if fetches_in(&of.query, given) {
@@ -280,7 +291,7 @@ fn fetches_within(inner: &[InnerQuery], given: Option<&GivenTables<'_>>) -> bool
 
 /// Whether one of references is fetched.
 fn fetches_own(refs: &[Reference], given: Option<&GivenTables<'_>>) -> bool
-    ensures { result ≡ list_any (λ ref. spec.is_fetched (spec.given_of (option_map (λ tables. tables.now) given.entry)) (spec.shared ref.table)) refs.now }
+    ensures { result ≡ list_any (λ ref. spec.is_fetched (spec.given_of (option_map (λ tables. tables.now) given.entry)) ref.table) refs.now }
 {
     for reference in refs {
         if is_fetched(&reference.table, given) {
@@ -297,91 +308,125 @@ fn is_fetched(table: &TableName, given: Option<&GivenTables<'_>>) -> bool
     rows_given(table, given).is_none()
 }
 
-/// The tables that are read for a statement, those of inner queries first.
-fn reads_of(alloc: Global, of: &Bound) -> Result<Vec<(TableName, bool)>, Memory>
-    ensures { IfOk result (λ reads. reads.items ≡ spec.reads_of of.now) }
+/// What is read for a statement, for inner queries first: each range, and whether it is the target's.
+fn reads_of(
+    alloc: Global,
+    of: &Bound,
+    shapes: &[TableTree],
+    vars: &Vars,
+) -> Result<Vec<(KeyRange, bool)>, Memory>
+    ensures { IfOk result (λ reads. reads.items ≡ spec.reads_of (values_of vars.now) shapes.now of.now) }
 {
     let mut reads = Vec::new(alloc);
     match of {
-        Bound::Query(query) => add_query(alloc, query, &mut reads)?,
-        Bound::Assign(query, _) => add_query(alloc, query, &mut reads)?,
-        Bound::Write(write) => add_write(alloc, write, &mut reads)?,
+        Bound::Query(query) => add_query(alloc, query, vars, &mut reads)?,
+        Bound::Assign(query, _) => add_query(alloc, query, vars, &mut reads)?,
+        Bound::Write(write) => add_write(alloc, write, shapes, vars, &mut reads)?,
         Bound::Plain => {}
     }
     Ok(reads)
 }
 
-/// Adds those of a write.
+/// Adds that of a write.
 fn add_write(
     alloc: Global,
     write: &BoundWrite,
-    reads: &mut Vec<(TableName, bool)>,
+    shapes: &[TableTree],
+    vars: &Vars,
+    reads: &mut Vec<(KeyRange, bool)>,
 ) -> Result<(), Memory>
-    ensures { IfOk result (λ _. reads.new.items ≡ reads.old.items ++ spec.write_reads write.now) }
+    ensures { IfOk result (λ _. reads.new.items ≡ reads.old.items ++ spec.write_reads (values_of vars.now) shapes.now write.now) }
 {
     match write {
-        BoundWrite::Insert { rows, .. } => add_rows(alloc, rows, reads),
-        BoundWrite::Update { table, inner, .. } => {
-            add_inner(alloc, inner.as_slice(), reads)?;
-            add_target(alloc, table, reads)
+        BoundWrite::Insert { rows, .. } => add_rows(alloc, rows, vars, reads),
+        BoundWrite::Update {
+            table,
+            filter,
+            inner,
+            ..
+        } => {
+            add_inner(alloc, inner.as_slice(), vars, reads)?;
+            add_target(alloc, table, filter, shapes, vars, reads)
         }
-        BoundWrite::Delete { table, inner, .. } => {
-            add_inner(alloc, inner.as_slice(), reads)?;
-            add_target(alloc, table, reads)
+        BoundWrite::Delete {
+            table,
+            filter,
+            inner,
+        } => {
+            add_inner(alloc, inner.as_slice(), vars, reads)?;
+            add_target(alloc, table, filter, shapes, vars, reads)
         }
     }
 }
 
-/// Adds those of the rows of an INSERT.
+/// Adds that of the rows of an INSERT.
 fn add_rows(
     alloc: Global,
     rows: &BoundRows,
-    reads: &mut Vec<(TableName, bool)>,
+    vars: &Vars,
+    reads: &mut Vec<(KeyRange, bool)>,
 ) -> Result<(), Memory>
-    ensures { IfOk result (λ _. reads.new.items ≡ reads.old.items ++ spec.rows_reads rows.now) }
+    ensures { IfOk result (λ _. reads.new.items ≡ reads.old.items ++ spec.rows_reads (values_of vars.now) rows.now) }
 {
     match rows {
-        BoundRows::Values(_, inner) => add_inner(alloc, inner.as_slice(), reads),
-        BoundRows::Query(query) => add_query(alloc, query, reads),
+        BoundRows::Values(_, inner) => add_inner(alloc, inner.as_slice(), vars, reads),
+        BoundRows::Query(query) => add_query(alloc, query, vars, reads),
     }
 }
 
-/// Adds those of inner queries.
+/// Adds that of inner queries.
 fn add_inner(
     alloc: Global,
     inner: &[InnerQuery],
-    reads: &mut Vec<(TableName, bool)>,
+    vars: &Vars,
+    reads: &mut Vec<(KeyRange, bool)>,
 ) -> Result<(), Memory>
-    ensures { IfOk result (λ _. reads.new.items ≡ reads.old.items ++ spec.inner_reads inner.now) }
+    ensures { IfOk result (λ _. reads.new.items ≡ reads.old.items ++ spec.inner_reads (values_of vars.now) inner.now) }
 {
     for of in inner {
-        add_query(alloc, &of.query, reads)?;
+        add_query(alloc, &of.query, vars, reads)?;
     }
     Ok(())
 }
 
-/// Adds those of a query.
+/// Adds that of a query.
 fn add_query(
     alloc: Global,
     query: &BoundQuery,
-    reads: &mut Vec<(TableName, bool)>,
+    vars: &Vars,
+    reads: &mut Vec<(KeyRange, bool)>,
 ) -> Result<(), Memory>
-    ensures { IfOk result (λ _. reads.new.items ≡ reads.old.items ++ spec.query_reads query.now) }
+    ensures { IfOk result (λ _. reads.new.items ≡ reads.old.items ++ spec.query_reads (values_of vars.now) query.now) }
 {
-    for table in tables_read(alloc, query)? {
-        reads.push((table, false))?;
+    for range in query_ranges(alloc, query, vars)? {
+        reads.push((range, false))?;
     }
     Ok(())
 }
 
-/// Adds the target.
+/// Adds the range of a target.
 fn add_target(
     alloc: Global,
     table: &TableName,
-    reads: &mut Vec<(TableName, bool)>,
+    filter: &Option<BoundTest>,
+    shapes: &[TableTree],
+    vars: &Vars,
+    reads: &mut Vec<(KeyRange, bool)>,
 ) -> Result<(), Memory>
-    ensures { IfOk result (λ _. reads.new.items ≡ reads.old.items ++ (table.now, true) ∷ []) }
+    ensures { IfOk result (λ _. reads.new.items ≡ reads.old.items ++ spec.target_read (values_of vars.now) shapes.now table.now filter.now ∷ []) }
 {
-    reads.push((table.copy(alloc)?, true))?;
+    let key = places_of(alloc, shape_of(table, shapes))?;
+    let range = plan_range(alloc, filter, 0, table, key.as_slice(), vars)?;
+    reads.push((range, true))?;
     Ok(())
+}
+
+/// The places of the columns of a table's key, if its shape is known.
+fn places_of(alloc: Global, shape: Option<&TableTree>) -> Result<Vec<u16>, Memory>
+    ensures { IfOk result (λ places. places.items ≡ scope.key_places (option_map (λ of. of.now) shape.entry)) }
+{
+    match shape {
+        Some(shape) => key_places(alloc, shape),
+        None => Ok(Vec::new(alloc)),
+    }
 }

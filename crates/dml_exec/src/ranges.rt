@@ -4,6 +4,7 @@ ghost use Rattle.std.specs.Prelude.{◌≡◌, ◌++◌, [], ◌∷◌, IfOk, Is
 ghost use Rattle.std.specs.Option.{option_map};
 ghost use Rattle.value_types.specs.declared.value.Value.TheVariants.{Null};
 ghost use Rattle.clause_binder.specs.Scope.{place_in};
+ghost use Rattle.step_model.specs.declared.range.Start.TheVariants.{At};
 ghost use Rattle.step_model.specs.Dialog.{Asks};
 ghost use Rattle.step_model.specs.Ranges.{range_limit, with_row};
 ghost use Rattle.constraint_check.specs.Reads as checks;
@@ -12,7 +13,7 @@ ghost use Rattle.dml_exec.specs.Reading as spec;
 
 use crate::refusal::Refusal;
 use std::alloc::Global;
-use step_model::{Manner, Op, Port, Reply, Start};
+use step_model::{Manner, Op, Port, Reply, Start, Stop};
 use table_rows::{place_in, row_fits};
 use tsql_tree::{ColumnTree, TableTree};
 use value_types::{KEY_LIMIT, Key, Memory, Row, TableName, Units, Value};
@@ -131,8 +132,29 @@ fn behind_gone(alloc: Global, shape: Option<&TableTree>, key: Key) -> Result<Sta
     }
 }
 
+/// Whether a range is one whole key, where keys have so many values.
+pub(crate) fn is_one_key(width: usize, start: &Start, stop: &Stop) -> bool
+    ensures { result ≡ spec.is_one_key width start.now stop.now }
+{
+    match start {
+        Start::First => false,
+        Start::At(key) => ends_there(width, key, stop),
+        Start::Past(_) => false,
+    }
+}
+
+/// Whether a range that starts at a key stops there, where that is a whole key.
+fn ends_there(width: usize, key: &Key, stop: &Stop) -> bool
+    ensures { result ≡ spec.is_one_key width (At key.now) stop.now }
+{
+    match stop {
+        Stop::Last => false,
+        Stop::Within(last) => key.as_slice().len() == width && *key == *last,
+    }
+}
+
 /// How many values the keys of a table have.
-fn key_width(shape: Option<&TableTree>) -> usize
+pub(crate) fn key_width(shape: Option<&TableTree>) -> usize
     ensures { result ≡ spec.key_width (option_map (λ of. of.now) shape.entry) }
 {
     match shape {

@@ -12,14 +12,14 @@ ghost use Rattle.dml_exec.specs.Asking.{MayWork};
 ghost use Rattle.dml_exec.specs.Reading.{fetch_of};
 ghost use Rattle.dml_exec.specs.Writing as spec;
 
-use crate::ranges::{read_range, shape_of};
+use crate::ranges::{is_one_key, key_width, read_range, shape_of};
 use crate::refusal::Refusal;
 use crate::written::{Attempt, Halt, Written};
 use bound_tree::Image;
 use constraint_check::{CheckRead, judge, reads_for};
 use lock_modes::KeyPart;
 use std::alloc::Global;
-use step_model::{Deed, Hold, KeyRange, Manner, Op, Planned, Port, Reply, Start};
+use step_model::{Deed, Hold, KeyRange, Manner, Op, Planned, Port, Reply};
 use table_rows::is_objects;
 use tsql_tree::TableTree;
 use value_types::{Key, Memory, Row, TableName, Units, Value};
@@ -343,7 +343,7 @@ fn rows_checked<P: Port>(
         return Err(Halt::Refused(Refusal::Memory));
     };
     let shape = shape_of(&range.table, shapes);
-    let one = is_one_key(&range.start);
+    let one = is_one_key(key_width(shape), &range.start, &range.stop);
     match read_range(alloc, port, manner, shape, one, fetch) {
         Ok(rows) => Ok(Image::from(rows)),
         Err(refusal) => Err(Halt::Refused(refusal)),
@@ -361,11 +361,4 @@ fn fetch_of(alloc: Global, range: &KeyRange) -> Result<Op, Memory>
         hold: Hold::Range,
         part: KeyPart::S,
     })
-}
-
-/// Whether a check's range is one whole key.
-fn is_one_key(start: &Start) -> bool
-    ensures { result ≡ spec.is_one_key start.now }
-{
-    matches!(start, Start::At(_))
 }

@@ -3,6 +3,7 @@ use Rattle.std.proofs.Common.{◌≡◌, ℕ, Bool, true, false, if◌then◌els
 use Rattle.std.specs.Prelude.{nat_lt}
 use Rattle.std.specs.Option.{ForSome}
 use Rattle.tsql_tree.specs.declared.definition.Definition.{Definition}
+use Rattle.value_types.specs.declared.value.Value.{Value}
 use Rattle.tsql_tree.specs.declared.definition.TableTree.{TableTree}
 use Rattle.tsql_tree.specs.declared.definition.TriggerTree.{TriggerTree}
 use Rattle.bound_tree.specs.declared.write.Bound.{Bound}
@@ -22,7 +23,8 @@ use Rattle.dml_exec.specs.declared.refusal.Level.{Level}
 use Rattle.dml_exec.specs.declared.refusal.Level.TheVariants.{Serializable}
 use Rattle.dml_exec.specs.declared.refusal.Refusal.{Refusal}
 use Rattle.dml_exec.specs.Planning.{table_written}
-use Rattle.dml_exec.specs.Reading.{GivenRows, fetches_any, fits, images_of, none_given, reads_of}
+use Rattle.dml_exec.specs.Reading.{GivenRows, TableRead, fetches_any, fits, images_of, none_given, reads_of}
+use Rattle.dml_exec.proofs.ReadTables.{target_whole}
 use Rattle.write_laws.specs.Planning.{HaveColumns, rows_before}
 use Rattle.write_laws.proofs.TargetImages.{rows_read}
 use Rattle.statement_paths.specs.Asked.{AskOnly, IsFetch}
@@ -34,7 +36,7 @@ use Rattle.batch_meaning.specs.Asking.{applies, comes_to, fails, reads_at, reads
 use Rattle.batch_meaning.specs.Changing.{definition_erased, dropped, planned_over, told_by, unless_referred, whole}
 use Rattle.batch_meaning.specs.Doing.{Doing, over, reads, Held}
 use Rattle.batch_meaning.specs.Failures.{plain}
-use Rattle.batch_meaning.specs.Progress.{SessionProgress, size_of}
+use Rattle.batch_meaning.specs.Progress.{SessionProgress, size_of, values_of}
 use Rattle.batch_meaning.specs.Selecting.{Effect, no_effect, result_full}
 use Rattle.batch_meaning.specs.Tokens.{done_kind}
 use Rattle.batch_meaning.specs.Working.{given_in, if_it_fits}
@@ -71,29 +73,29 @@ fits_fetch effect = λ p. only_if IsTouch IsFetch (nat_lt p.bytes_left (size_of 
 -- ---- images
 
 -- where there are tables they were read, but for those whose rows are given
-abbrev WereRead : Manner → GivenRows → Level → List TableTree → Bound → List Exchange → List Rows → Type 0
-WereRead manner given level [] of exchanges images = Unit {0}
-WereRead manner given level (shape ∷ shapes) of exchanges images = Said manner (images_of given (shape ∷ shapes) level of) exchanges (Ok images)
+abbrev WereRead : Manner → GivenRows → Level → List Value → List TableTree → Bound → List Exchange → List Rows → Type 0
+WereRead manner given level vars [] of exchanges images = Unit {0}
+WereRead manner given level vars (shape ∷ shapes) of exchanges images = Said manner (images_of given (shape ∷ shapes) level vars of) exchanges (Ok images)
 
-image_apart : (given : GivenRows) (level : Level) (shapes : List TableTree) (of : Bound) (p new : SessionProgress) (exchanges : List Exchange) (images : List Rows) → Held (reads_at given level shapes of) p exchanges (Ok images) new → WereRead p.settings.manner given level shapes of exchanges images
+image_apart : (given : GivenRows) (level : Level) (vars : List Value) (shapes : List TableTree) (of : Bound) (p new : SessionProgress) (exchanges : List Exchange) (images : List Rows) → Held (reads_at given level vars shapes of) p exchanges (Ok images) new → WereRead p.settings.manner given level vars shapes of exchanges images
 unfolding reads_at Held
-image_apart given level [] of p new exchanges images held = tt
-image_apart given level (shape ∷ shapes) of p new exchanges images held = by_touch (fetches_any given of) held
+image_apart given level vars [] of p new exchanges images held = tt
+image_apart given level vars (shape ∷ shapes) of p new exchanges images held = by_touch (fetches_any given of) held
   where
     Reading : Doing (Result (List Rows) Failure)
-    Reading = images_of given (shape ∷ shapes) level of gives unless_stopped
+    Reading = images_of given (shape ∷ shapes) level vars of gives unless_stopped
 
-    by_came : (p : SessionProgress) (front back : List Exchange) (came : Result (List Rows) Refusal) (mid : SessionProgress) → exchanges ≡ front ++ back → Said p.settings.manner (images_of given (shape ∷ shapes) level of) front came → Held (unless_stopped came) mid back (Ok images) new
-        → Said p.settings.manner (images_of given (shape ∷ shapes) level of) exchanges (Ok images)
+    by_came : (p : SessionProgress) (front back : List Exchange) (came : Result (List Rows) Refusal) (mid : SessionProgress) → exchanges ≡ front ++ back → Said p.settings.manner (images_of given (shape ∷ shapes) level vars of) front came → Held (unless_stopped came) mid back (Ok images) new
+        → Said p.settings.manner (images_of given (shape ∷ shapes) level vars of) exchanges (Ok images)
     by_came p front back (Ok rows) mid parts was rest =
-        subst (λ (l : List Exchange). Said p.settings.manner (images_of given (shape ∷ shapes) level of) l (Ok images)) (sym (parts ∙ ap (λ (l : List Exchange). front ++ l) rest.0 ∙ append-nil front))
-        (subst (λ (r : List Rows). Said p.settings.manner (images_of given (shape ∷ shapes) level of) front (Ok r)) (sym (ok_same {E = Failure} images rows rest.1)) was)
+        subst (λ (l : List Exchange). Said p.settings.manner (images_of given (shape ∷ shapes) level vars of) l (Ok images)) (sym (parts ∙ ap (λ (l : List Exchange). front ++ l) rest.0 ∙ append-nil front))
+        (subst (λ (r : List Rows). Said p.settings.manner (images_of given (shape ∷ shapes) level vars of) front (Ok r)) (sym (ok_same {E = Failure} images rows rest.1)) was)
     by_came p front back (Err why) mid parts was rest = absurd (let no : Ok images ≡ Err _ = rest.1 in cc)
 
-    by_gives : (q : SessionProgress) → Held Reading q exchanges (Ok images) new → Said q.settings.manner (images_of given (shape ∷ shapes) level of) exchanges (Ok images)
-    by_gives q held = let on = gives_apart (images_of given (shape ∷ shapes) level of) unless_stopped q new exchanges (Ok images) held in by_came q on.front on.back on.came _ on.parts on.held on.rest
+    by_gives : (q : SessionProgress) → Held Reading q exchanges (Ok images) new → Said q.settings.manner (images_of given (shape ∷ shapes) level vars of) exchanges (Ok images)
+    by_gives q held = let on = gives_apart (images_of given (shape ∷ shapes) level vars of) unless_stopped q new exchanges (Ok images) held in by_came q on.front on.back on.came _ on.parts on.held on.rest
 
-    by_touch : (b : Bool) → Held (touches_if b Reading) p exchanges (Ok images) new → Said p.settings.manner (images_of given (shape ∷ shapes) level of) exchanges (Ok images)
+    by_touch : (b : Bool) → Held (touches_if b Reading) p exchanges (Ok images) new → Said p.settings.manner (images_of given (shape ∷ shapes) level vars of) exchanges (Ok images)
     by_touch true held = by_gives (record p { touched = true }) held
     by_touch false held = by_gives p held
 
@@ -105,27 +107,31 @@ HaveAll shapes write images = (shape : TableTree) → shape_of (table_written wr
 none_columns : (shape : TableTree) (given : Option Rows) → given ≡ None → ForSome given (HaveColumns shape)
 none_columns shape given none = λ rows is. absurd (let no : None ≡ Some rows = sym none ∙ is in cc)
 
-all_columns : (manner : Manner) (given : GivenRows) (level : Level) (shapes : List TableTree) (write : BoundWrite) (exchanges : List Exchange) (images : List Rows) → ((shape : TableTree) → shape_of (table_written write) shapes ≡ Some shape → given (table_written write) ≡ None)
-    → WereRead manner given level shapes (bound.Write write) exchanges images → HaveAll shapes write images
-all_columns manner given level [] write exchanges images none was shape known = absurd (let no : None ≡ Some shape = known in cc)
-all_columns manner given level (one ∷ shapes) write exchanges images none was shape known = rows_read given (one ∷ shapes) level write shape manner exchanges images known (none_columns shape (given (table_written write)) (none shape known)) was
+all_columns : (manner : Manner) (given : GivenRows) (level : Level) (vars : List Value) (shapes : List TableTree) (write : BoundWrite) (exchanges : List Exchange) (images : List Rows) → ((shape : TableTree) → shape_of (table_written write) shapes ≡ Some shape → given (table_written write) ≡ None)
+    → WereRead manner given level vars shapes (bound.Write write) exchanges images → HaveAll shapes write images
+all_columns manner given level vars [] write exchanges images none was shape known = absurd (let no : None ≡ Some shape = known in cc)
+all_columns manner given level vars (one ∷ shapes) write exchanges images none was shape known = rows_read given (one ∷ shapes) level vars write shape manner exchanges images known (none_columns shape (given (table_written write)) (none shape known)) was
 
 -- the rows of a table that is dropped are one image
 abbrev IsImage : Database → Option TableTree → List ℕ → List Rows → Type 0
 IsImage db found name images = (rows : Rows) × (images ≡ rows ∷ []) × IsRead db (fits found) (all_rows name) rows
 
-one_image : (db : Database) (named : List TableTree) (name : List ℕ) (images : List Rows) → AreImages none_given db named (reads_of (bound.Write (whole name))) images → IsImage db (shape_of (rows_table name) named) name images
-one_image db named name images (rows, rest, is, read, none) = (rows, is ∙ ap (λ (rest : List Rows). rows ∷ rest) none, read)
+one_image : (db : Database) (named : List TableTree) (name : List ℕ) (images : List Rows) → AreImages none_given db named (reads_of [] named (bound.Write (whole name))) images → IsImage db (shape_of (rows_table name) named) name images
+one_image db named name images (rows, rest, is, read, none) = (
+  rows,
+  is ∙ ap (λ (rest : List Rows). rows ∷ rest) none,
+  subst (λ (target : TableRead). IsRead db (fits (shape_of target.0.table named)) target.0 rows) (target_whole [] named (rows_table name)) read,
+)
 
 module _ (session : ℕ) (begin log : List Logged) (mine : List Exchange) (tied : Tied session begin log mine) where
   -- that was read in the database at the transaction's place
   whole_read : (before part later : List Exchange) (manner : Manner) (shape : TableTree) (images : List Rows) → mine ≡ before ++ (part ++ later)
-      → WereRead manner none_given Serializable (shape ∷ []) (bound.Write (whole shape.name)) part images → KeysHave (length (key_places (Some shape))) (at_place log before (part ++ later)) (rows_table shape.name)
+      → WereRead manner none_given Serializable [] (shape ∷ []) (bound.Write (whole shape.name)) part images → KeysHave (length (key_places (Some shape))) (at_place log before (part ++ later)) (rows_table shape.name)
       → IsImage (at_place log before (part ++ later)) (Some shape) shape.name images
   whole_read before part later manner shape images is was long =
-      let fetches : AskOnly IsFetch part = images_fetch manner none_given (shape ∷ []) Serializable (bound.Write (whole shape.name)) part (Ok images) was in
+      let fetches : AskOnly IsFetch part = images_fetch manner none_given (shape ∷ []) Serializable [] (bound.Write (whole shape.name)) part (Ok images) was in
       let there : at_place log before (part ++ later) ≡ at_place log before later = front_place log before part later fetches in
-      let image = images_read log mine before part later manner none_given (shape ∷ []) (bound.Write (whole shape.name)) images is tied.ranges was
+      let image = images_read log mine before part later manner none_given (shape ∷ []) [] (bound.Write (whole shape.name)) images is tied.ranges was
       (subst (λ (o : Option TableTree). KeysHave (length (key_places o)) (at_place log before later) (rows_table shape.name)) (sym itself) (subst (λ (db : Database). KeysHave (length (key_places (Some shape))) db (rows_table shape.name)) there long), tt) in
       subst (λ (o : Option TableTree). IsImage (at_place log before (part ++ later)) o shape.name images) itself
       (subst (λ (db : Database). IsImage db (shape_of (rows_table shape.name) (shape ∷ [])) shape.name images) (sym there) (one_image (at_place log before later) (shape ∷ []) shape.name images image))
@@ -230,7 +236,7 @@ module _ (session : ℕ) (begin log : List Logged) (mine : List Exchange) (tied 
         (images_fetched given named (bound.Write write))
         (λ before part later p new images is held intact known. (
           known,
-          all_columns p.settings.manner given p.settings.level named write part images (λ of found. (known.0 of found).1) (image_apart given p.settings.level named (bound.Write write) p new part images held),
+          all_columns p.settings.manner given p.settings.level (values_of p.vars) named write part images (λ of found. (known.0 of found).1) (image_apart given p.settings.level (values_of p.vars) named (bound.Write write) p new part images held),
         ))
         (on_images definitions)
 
@@ -268,7 +274,7 @@ module _ (session : ℕ) (begin log : List Logged) (mine : List Exchange) (tied 
         record { parents = tt; rows = tt; intact = λ passes. firm_drop_planned around p db definitions shape image.0 planned intact there.1 plan }
 
     abbrev Fetching : Doing (Result (List Rows) Failure)
-    Fetching = with_room (reads_at none_given Serializable (shape ∷ []) (bound.Write (whole shape.name)))
+    Fetching = with_room (reads_at none_given Serializable [] (shape ∷ []) (bound.Write (whole shape.name)))
 
     abbrev Dropping : List Definition → List Rows → Doing (Result (List Planned) Failure)
     Dropping definitions images = reads λ p. comes_to (dropped around p definitions shape shape.name images)
@@ -293,11 +299,11 @@ module _ (session : ℕ) (begin log : List Logged) (mine : List Exchange) (tied 
         on_free : (definitions : List Definition) → Brings log mine (StandsWith log (Free definitions)) (Fetching >>= λ images. Dropping definitions images >>= λ planned. applies [] planned >>= λ put. over (Ok no_effect)) Dropped
         on_free definitions =
             reads_bind session begin log mine tied (Free definitions) Fetching (λ images db. Free definitions db × IsImage db (Some shape) shape.name images) (λ images. Dropping definitions images >>= λ planned. applies [] planned >>= λ put. over (Ok no_effect))
-            (only_room IsTouch IsFetch (reads_at none_given Serializable (shape ∷ []) (bound.Write (whole shape.name))) (at_level_reads none_given Serializable (shape ∷ []) (bound.Write (whole shape.name))))
+            (only_room IsTouch IsFetch (reads_at none_given Serializable [] (shape ∷ []) (bound.Write (whole shape.name))) (at_level_reads none_given Serializable [] (shape ∷ []) (bound.Write (whole shape.name))))
             (λ before part later p new images is held intact there. (
               there,
               whole_read before part later p.settings.manner shape images is
-                  (image_apart none_given Serializable (shape ∷ []) (bound.Write (whole shape.name)) p new part images (room_apart (reads_at none_given Serializable (shape ∷ []) (bound.Write (whole shape.name))) p new part images held))
+                  (image_apart none_given Serializable [] (shape ∷ []) (bound.Write (whole shape.name)) p new part images (room_apart (reads_at none_given Serializable [] (shape ∷ []) (bound.Write (whole shape.name))) p new part images held))
                   ((keys_sized (at_place log before (part ++ later)) intact).1 shape there.0.0),
             ))
             (on_images definitions)

@@ -44,7 +44,7 @@ use Rattle.batch_meaning.specs.declared.raised.Raised.{Raised}
 use Rattle.batch_meaning.specs.Raised.{Around}
 use Rattle.batch_meaning.specs.Values.{Assigned}
 use Rattle.batch_meaning.specs.Selecting.{Effect}
-use Rattle.batch_meaning.specs.Progress.{SessionProgress, SessionStep, begins, counts, made}
+use Rattle.batch_meaning.specs.Progress.{SessionProgress, SessionStep, begins, counts, made, values_of}
 use Rattle.batch_meaning.specs.Doing.{Doing, over, reads, makes, defines, asks, room, never, ◌then◌, Held, Left, Did}
 use Rattle.batch_meaning.specs.Asking.{KnownNames, ◌>>=◌, ◌gives◌, applies, assigns_all, defined_by, defined_from, defined_on, fails_naming, finds_by, holds, if_bytes_left, is_table, known, look_up, looks_up, marked, on_ok, reads_at, reads_definitions, reads_images, takes_back, touches_if, unless_broken, unless_refused, unless_stopped, where_begun, where_done, where_ended, with_found, with_room}
 use Rattle.batch_meaning.specs.Working.{answers, assigns_rows, asks_any, binds, closes, composes, composes_bound, computes, enters, given_in, if_it_fits, known_by, leaves, own, prepares, relaxes, select_bound, selects, selects_into, status_bound, statuses, tests, tests_bound, values_bound, within, works, works_bound}
@@ -265,14 +265,14 @@ pub none_touches : {A : Type 0} (test : Bool) (tree : Doing A) → BeginsNone tr
 none_touches true tree none = none_makes _ _ tt none
 none_touches false tree none = none
 
-pub none_reads_at : (given : GivenRows) (level : Level) (shapes : List TableTree) (of : Bound) → BeginsNone (reads_at given level shapes of)
+pub none_reads_at : (given : GivenRows) (level : Level) (vars : List Value) (shapes : List TableTree) (of : Bound) → BeginsNone (reads_at given level vars shapes of)
 unfolding reads_at
-none_reads_at given level [] of = none_over _
-none_reads_at given level (shape ∷ shapes) of = none_touches _ _ (none_gives _ unless_stopped none_stopped)
+none_reads_at given level vars [] of = none_over _
+none_reads_at given level vars (shape ∷ shapes) of = none_touches _ _ (none_gives _ unless_stopped none_stopped)
 
 pub none_images : (given : GivenRows) (shapes : List TableTree) (of : Bound) → BeginsNone (reads_images given shapes of)
 unfolding reads_images
-none_images given shapes of = none_reads _ (λ p. none_reads_at given p.settings.level shapes of)
+none_images given shapes of = none_reads _ (λ p. none_reads_at given p.settings.level (values_of p.vars) shapes of)
 
 pub none_applies : (shapes : List TableTree) (changes : List Planned) → BeginsNone (applies shapes changes)
 unfolding applies
@@ -381,7 +381,7 @@ module _ (around : Around) where
 
   pub none_drops_table : (shape : TableTree) (name : List ℕ) → BeginsNone (drops_table around shape name)
   unfolding drops_table
-  none_drops_table shape name = none_bind reads_definitions _ none_definitions (λ definitions. none_bind _ _ (none_made _) (λ free. none_bind _ _ (none_roomed _ (none_reads_at _ _ (shape ∷ []) _))
+  none_drops_table shape name = none_bind reads_definitions _ none_definitions (λ definitions. none_bind _ _ (none_made _) (λ free. none_bind _ _ (none_roomed _ (none_reads_at _ _ _ (shape ∷ []) _))
       (λ images. none_bind _ _ (none_comes _) (λ planned. none_bind _ _ (none_applies [] planned) (λ put. none_over _)))))
 
   pub none_drops_definition : (name : List ℕ) → BeginsNone (drops_definition around name)

@@ -4,6 +4,7 @@ use Rattle.std.proofs.lemmas.List.{map-append, take_all, take_more}
 use Rattle.std.proofs.lemmas.List.Elements.{filter_map-append}
 use Rattle.std.specs.List.{list_any}
 use Rattle.value_types.specs.Units.{same_units}
+use Rattle.value_types.specs.declared.value.Value.{Value}
 use Rattle.tsql_tree.specs.declared.definition.Definition.{Definition}
 use Rattle.tsql_tree.specs.declared.definition.Definition.TheVariants.{Table, Procedure, Trigger}
 use Rattle.tsql_tree.specs.declared.definition.ProcedureTree.{ProcedureTree}
@@ -11,20 +12,23 @@ use Rattle.tsql_tree.specs.declared.definition.TableTree.{TableTree}
 use Rattle.tsql_tree.specs.declared.definition.TriggerTree.{TriggerTree}
 use Rattle.tsql_tree.specs.declared.statement.DropKind.{DropKind}
 use Rattle.tsql_tree.specs.declared.statement.DropKind.TheVariants as drop
+use Rattle.bound_tree.specs.declared.write.Bound.TheVariants as bound
 use Rattle.table_rows.specs.Definitions.{tables_of}
 use Rattle.value_types.specs.declared.memory.Memory.{Memory}
 use Rattle.step_model.specs.declared.change.Planned.{Planned}
 use Rattle.step_model.specs.Port.{PortPast}
-use Rattle.step_model.specs.Ranges.{no_memory}
+use Rattle.step_model.specs.Ranges.{Rows, no_memory}
+use Rattle.dml_exec.specs.declared.refusal.Level.{Level}
+use Rattle.dml_exec.specs.Reading.{GivenRows, images_of}
 use Rattle.batch_meaning.specs.declared.failure.Failure.{Failure}
 use Rattle.batch_meaning.specs.Failures.{plain}
 use Rattle.batch_meaning.specs.Raised.{Around}
-use Rattle.batch_meaning.specs.Changing.{definition_erased, is_parent, is_referred, not_there, refers, trigger_of, unless_referred, with_definitions}
+use Rattle.batch_meaning.specs.Changing.{definition_erased, is_parent, is_referred, not_there, refers, trigger_of, unless_referred, whole, with_definitions}
 use Rattle.session_state.specs.Parts.{IsNamed, IsOrMemory}
 use Rattle.batch_meaning.specs.Doing.{Did, Doing}
 use Rattle.batch_meaning.specs.Progress.{SessionProgress}
 use Rattle.batch_meaning.specs.Selecting.{Effect}
-use Rattle.batch_meaning.specs.Asking.{fails_naming, reads_definitions}
+use Rattle.batch_meaning.specs.Asking.{fails_naming, reads_at, reads_definitions}
 use Rattle.batch_meaning.specs.Writes.{drops_definition, drops_found, drops_table}
 use Rattle.batch_meaning.proofs.Composed.{does_fail, does_over, does_room}
 use Rattle.statement_exec.specs.Dropped.{is_found, refers_from}
@@ -170,3 +174,10 @@ all_erased table definitions i old planned new (Ok done) past so_far added =
     added ∙ ap (λ (l : List Planned). l ++ definition_erased table ∷ []) (so_far ∙ ap (λ (ds : List Definition). old ++ map definition_erased (filter_map (trigger_of table) ds)) (take_all i definitions past))
     ∙ append_assoc old (map definition_erased (filter_map (trigger_of table) definitions)) (definition_erased table ∷ [])
 all_erased table definitions i old planned new (Err memory) past so_far added = tt
+
+-- a table that is dropped is read whole, whatever the variables are
+pub does_whole : {before after : PortPast} (given : GivenRows) (level : Level) (vars : List Value) (shapes : List TableTree) (name : List ℕ) {p new : SessionProgress} {result : Result (Result (List Rows) Failure) Memory}
+    → Did before after (reads_at given level vars shapes (bound.Write (whole name))) p result new → Did before after (reads_at given level [] shapes (bound.Write (whole name))) p result new
+unfolding reads_at images_of
+does_whole given level vars [] name did = did
+does_whole given level vars (shape ∷ shapes) name did = did

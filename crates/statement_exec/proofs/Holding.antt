@@ -33,11 +33,12 @@ use Rattle.dml_exec.specs.declared.refusal.Level.{Level}
 use Rattle.dml_exec.specs.declared.refusal.Refusal.{Refusal}
 use Rattle.dml_exec.specs.declared.refusal.Refusal.TheVariants as refusal
 use Rattle.dml_exec.specs.Asking.{on_ok, with_room, with_room_if}
-use Rattle.dml_exec.specs.Reading.{GivenRows, TableRead, fetches_any, is_fetched, unless_given, fetch_of, fetches, fits, from, images_from, images_of, is_short, key_width, read_by, reads_of, reads_on, reads_table, rows_from, rows_in, table_fetch}
+use Rattle.dml_exec.specs.Reading.{GivenRows, TableRead, fetches_any, is_one_key, is_read_fetched, unless_given, fetch_of, fetches, fits, from, images_from, images_of, is_short, key_width, read_by, reads_of, reads_on, reads_range, reads_table, rows_from, rows_in, table_fetch}
+use Rattle.dml_exec.proofs.ReadTables.{reads_fetched}
 use Rattle.dml_exec.specs.declared.written.Attempt.{Attempt}
 use Rattle.dml_exec.specs.declared.written.Written.{Written}
 use Rattle.dml_exec.specs.declared.written.Written.TheVariants as written
-use Rattle.dml_exec.specs.Writing.{asks_deed, attempts, broken_by, checks_all, checks_one, done_by, ends, halted, is_one_key, marked, no_room, outcome, rows_checked, told, where_done, works, writes_all, writes_one}
+use Rattle.dml_exec.specs.Writing.{asks_deed, attempts, broken_by, checks_all, checks_one, checks_range, done_by, ends, halted, marked, no_room, outcome, rows_checked, told, where_done, works, writes_all, writes_one}
 use Rattle.dml_exec.proofs.Halts.{by_outcome}
 use Rattle.constraint_check.specs.declared.check_read.CheckRead.{CheckRead}
 use Rattle.constraint_check.specs.Judged.{judge}
@@ -244,7 +245,7 @@ only_given (Some rows) fetched only = only_room refusal.Memory _ (only_over _)
 
 only_table : (given : GivenRows) (shapes : List TableTree) (level : Level) (read : TableRead) → GoesOnly (reads_table given shapes level read)
 unfolding reads_table
-only_table given shapes level read = only_given (given read.0) _ (only_rows (shape_of read.0 shapes) false (table_fetch level read))
+only_table given shapes level read = only_given (given read.0.table) _ (only_rows (shape_of read.0.table shapes) (is_one_key (key_width (shape_of read.0.table shapes)) read.0.start read.0.stop) (table_fetch level read))
 
 only_images : (given : GivenRows) (shapes : List TableTree) (level : Level) (images : List Rows) (reads : List TableRead) → GoesOnly (images_from given shapes level images reads)
 unfolding images_from
@@ -252,9 +253,9 @@ only_images given shapes level images [] = only_over _
 only_images given shapes level images (read ∷ reads) = only_then (reads_table given shapes level read) (on_ok (λ rows. with_room refusal.Memory (images_from given shapes level (images ++ rows ∷ []) reads))) (only_table given shapes level read)
     (only_on (λ rows. with_room refusal.Memory (images_from given shapes level (images ++ rows ∷ []) reads)) (λ rows. only_room refusal.Memory _ (only_images given shapes level (images ++ rows ∷ []) reads)))
 
-only_reads : (given : GivenRows) (shapes : List TableTree) (level : Level) (of : Bound) → GoesOnly (images_of given shapes level of)
+only_reads : (given : GivenRows) (shapes : List TableTree) (level : Level) (vars : List Value) (of : Bound) → GoesOnly (images_of given shapes level vars of)
 unfolding images_of
-only_reads given shapes level of = only_room refusal.Memory _ (only_images given shapes level [] (reads_of of))
+only_reads given shapes level vars of = only_room refusal.Memory _ (only_images given shapes level [] (reads_of vars shapes of))
 
 -- ---- where all are given nothing is asked
 
@@ -295,11 +296,11 @@ none_on : {A B E : Type 0} (go : A → Dialog (Result B E)) → ((a : A) → Ask
 none_on go none (Ok a) = none a
 none_on go none (Err e) = none_over (Err e)
 
-none_table : (given : GivenRows) (shapes : List TableTree) (level : Level) (read : TableRead) → is_fetched given read ≡ false → AsksNone (reads_table given shapes level read)
+none_table : (given : GivenRows) (shapes : List TableTree) (level : Level) (read : TableRead) → is_read_fetched given read ≡ false → AsksNone (reads_table given shapes level read)
 unfolding reads_table
-none_table given shapes level read same = by_given (given read.0) same
+none_table given shapes level read same = by_given (given read.0.table) same
   where
-    by_given : (rows : Option Rows) → not (is_some rows) ≡ false → AsksNone (unless_given rows (rows_in (shape_of read.0 shapes) false (table_fetch level read)))
+    by_given : (rows : Option Rows) → not (is_some rows) ≡ false → AsksNone (unless_given rows (reads_range (shape_of read.0.table shapes) level read))
     by_given None no_rows = absurd (let not_so : true ≡ false = no_rows in cc)
     by_given (Some rows) has = none_room refusal.Memory _ (none_over _)
 
@@ -307,30 +308,30 @@ either_none : (first rest : Bool) → (first || rest) ≡ false → (first ≡ f
 either_none true rest same = absurd (let not_so : true ≡ false = same in cc)
 either_none false rest same = (refl, same)
 
-none_images : (given : GivenRows) (shapes : List TableTree) (level : Level) (images : List Rows) (reads : List TableRead) → list_any (is_fetched given) reads ≡ false → AsksNone (images_from given shapes level images reads)
+none_images : (given : GivenRows) (shapes : List TableTree) (level : Level) (images : List Rows) (reads : List TableRead) → list_any (is_read_fetched given) reads ≡ false → AsksNone (images_from given shapes level images reads)
 unfolding images_from
 none_images given shapes level images [] same = none_over _
 none_images given shapes level images (read ∷ reads) same =
-    let both = either_none (is_fetched given read) (list_any (is_fetched given) reads) same in
+    let both = either_none (is_read_fetched given read) (list_any (is_read_fetched given) reads) same in
     none_then (reads_table given shapes level read) (on_ok (λ rows. with_room refusal.Memory (images_from given shapes level (images ++ rows ∷ []) reads))) (none_table given shapes level read both.0)
     (none_on (λ rows. with_room refusal.Memory (images_from given shapes level (images ++ rows ∷ []) reads)) (λ rows. none_room refusal.Memory _ (none_images given shapes level (images ++ rows ∷ []) reads both.1)))
 
-none_reads : (given : GivenRows) (shapes : List TableTree) (level : Level) (of : Bound) → fetches_any given of ≡ false → AsksNone (images_of given shapes level of)
+none_reads : (given : GivenRows) (shapes : List TableTree) (level : Level) (vars : List Value) (of : Bound) → fetches_any given of ≡ false → AsksNone (images_of given shapes level vars of)
 unfolding images_of
-none_reads given shapes level of same = none_room refusal.Memory _ (none_images given shapes level [] (reads_of of) same)
+none_reads given shapes level vars of same = none_room refusal.Memory _ (none_images given shapes level [] (reads_of vars shapes of) (reads_fetched given vars shapes of ∙ same))
 
 -- what a statement reads is read, and behind it another thing is done
-pub does_images : {before mid after : PortPast} {B : Type 0} (given : GivenRows) (shapes : List TableTree) (level : Level) (of : Bound) (go : Result (List Rows) Refusal → Doing B) {p q new : SessionProgress} {a : Result (List Rows) Refusal} {result : Result B Memory}
-    → q ≡ touched_if (fetches_any given of) p → Asks before mid q.settings.manner (images_of given shapes level of) a → Did mid after (go a) q result new
-    → Did before after (touches_if (fetches_any given of) (images_of given shapes level of gives go)) p result new
-does_images {before = before} {mid = mid} {after = after} given shapes level of go {p = p} {q = q} {new = new} {a = a} {result = result} same asks more = by_fetch (fetches_any given of) refl same
+pub does_images : {before mid after : PortPast} {B : Type 0} (given : GivenRows) (shapes : List TableTree) (level : Level) (vars : List Value) (of : Bound) (go : Result (List Rows) Refusal → Doing B) {p q new : SessionProgress} {a : Result (List Rows) Refusal} {result : Result B Memory}
+    → q ≡ touched_if (fetches_any given of) p → Asks before mid q.settings.manner (images_of given shapes level vars of) a → Did mid after (go a) q result new
+    → Did before after (touches_if (fetches_any given of) (images_of given shapes level vars of gives go)) p result new
+does_images {before = before} {mid = mid} {after = after} given shapes level vars of go {p = p} {q = q} {new = new} {a = a} {result = result} same asks more = by_fetch (fetches_any given of) refl same
   where
-    by_fetch : (test : Bool) → fetches_any given of ≡ test → q ≡ touched_if test p → Did before after (touches_if test (images_of given shapes level of gives go)) p result new
-    by_fetch true fetched is = does_holds (images_of given shapes level of) go (only_reads given shapes level of) is asks more
+    by_fetch : (test : Bool) → fetches_any given of ≡ test → q ≡ touched_if test p → Did before after (touches_if test (images_of given shapes level vars of gives go)) p result new
+    by_fetch true fetched is = does_holds (images_of given shapes level vars of) go (only_reads given shapes level vars of) is asks more
     by_fetch false unfetched is =
-        let none : asks.exchanges ≡ [] = unasked q.settings.manner (images_of given shapes level of) asks.exchanges a (none_reads given shapes level of unfetched) asks.held in
-        subst (λ (x : SessionProgress). Did before after (images_of given shapes level of gives go) x result new) is
-        (does_gives (images_of given shapes level of) go asks (subst (λ (f : List Exchange). Did mid after (go a) (asked_all f q) result new) (sym none) more))
+        let none : asks.exchanges ≡ [] = unasked q.settings.manner (images_of given shapes level vars of) asks.exchanges a (none_reads given shapes level vars of unfetched) asks.held in
+        subst (λ (x : SessionProgress). Did before after (images_of given shapes level vars of gives go) x result new) is
+        (does_gives (images_of given shapes level vars of) go asks (subst (λ (f : List Exchange). Did mid after (go a) (asked_all f q) result new) (sym none) more))
 
 -- ---- and the changes of a write, with what checks them
 
@@ -360,7 +361,8 @@ only_halted (Err why) = only_over _
 
 only_checked : (shapes : List TableTree) (range : KeyRange) → GoesOnly (rows_checked shapes range)
 unfolding rows_checked
-only_checked shapes range = only_room no_room _ (only_then (rows_in (shape_of range.table shapes) (is_one_key range.start) (fetch_of range hold.Range S)) halted (only_rows (shape_of range.table shapes) (is_one_key range.start) (fetch_of range hold.Range S)) only_halted)
+only_checked shapes range = only_room no_room _ (only_then (checks_range (shape_of range.table shapes) range) halted
+    (only_rows (shape_of range.table shapes) (is_one_key (key_width (shape_of range.table shapes)) range.start range.stop) (fetch_of range hold.Range S)) only_halted)
 
 only_broken : (read : CheckRead) (judged : Option ℤ) → GoesOnly (broken_by read judged)
 only_broken read None = only_over _

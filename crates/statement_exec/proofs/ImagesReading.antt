@@ -3,6 +3,7 @@ use Rattle.std.proofs.Common.{◌≡◌, ℕ, zero, suc, if◌then◌else◌, Bo
 use Rattle.std.proofs.lemmas.Bool.{and_parts}
 use Rattle.std.proofs.lemmas.List.Elements.{All-append, All-cons, All-nil}
 use Rattle.std.specs.Prelude.{IsTrue}
+use Rattle.value_types.specs.declared.table_name.TableName.{TableName}
 use Rattle.value_types.specs.declared.value.Value.{Value}
 use Rattle.tsql_tree.specs.declared.definition.TableTree.{TableTree}
 use Rattle.bound_tree.specs.declared.write.Bound.{Bound}
@@ -23,7 +24,8 @@ use Rattle.dml_exec.specs.declared.refusal.Level.{Level}
 use Rattle.dml_exec.specs.declared.refusal.Refusal.{Refusal}
 use Rattle.dml_exec.specs.declared.refusal.Refusal.TheVariants.{Memory}
 use Rattle.dml_exec.specs.Asking.{on_ok, with_room, with_room_if}
-use Rattle.dml_exec.specs.Reading.{GivenRows, TableRead, given_of, behind_gone, fetches, fits, from, images_from, images_of, is_short, key_width, read_by, reads_of, reads_on, reads_table, rows_from, rows_in, table_fetch}
+use Rattle.dml_exec.specs.Reading.{GivenRows, TableRead, given_of, behind_gone, fetches, fits, from, images_from, images_of, is_one_key, is_short, key_width, read_by, reads_of, reads_on, reads_table, rows_from, rows_in, table_fetch, tables_of_reads}
+use Rattle.dml_exec.proofs.ReadTables.{tables_of, tables_of_reads_are}
 use Rattle.statement_exec.specs.Selected.{AreKept, ImagesFit}
 
 -- nothing is given
@@ -135,11 +137,25 @@ none_kept : (shape : Option TableTree) → AreKept shape []
 none_kept None = refl
 none_kept (Some shape) = All-nil (λ row. IsTrue (has_columns shape.columns row))
 
-table_kept : (manner : Manner) (shapes : List TableTree) (level : Level) (read : TableRead) (rows : Rows) → Comes manner (reads_table none_known shapes level read) (Ok rows) → AreKept (shape_of read.0 shapes) rows
-unfolding reads_table rows_in
+one_kept : (manner : Manner) (shape : Option TableTree) (op : Op) (rows : Rows) (first : Result (Rows × Option Start) Refusal) → Comes manner (fetches (key_width shape) (fits shape) op []) first
+    → Comes manner (on_ok (λ (came : Rows × Option Start). over (Ok came.0)) first) (Ok rows) → AreKept shape rows
+unfolding Held
+one_kept manner shape op rows (Err refusal) came rest = no_failure rest.1.1
+one_kept manner shape op rows (Ok (more, next)) came rest =
+    subst (AreKept shape) (sym (ap rows_or_none rest.1.1)) (fetch_keeps manner (key_width shape) (fits shape) (AreKept shape) (kept_stays shape) op [] more next came.0 (none_kept shape) came.1)
+
+-- of one whole key, and of a range
+in_kept : (manner : Manner) (shape : Option TableTree) (one : Bool) (op : Op) (rows : Rows) (exchanges : List Exchange) → Held manner (rows_in shape one op) exchanges (Ok rows) → AreKept shape rows
+unfolding rows_in
+in_kept manner shape true op rows exchanges held =
+    let b = behind manner (fetches (key_width shape) (fits shape) op []) (on_ok (λ (came : Rows × Option Start). over (Ok came.0))) exchanges (Ok rows) held in one_kept manner shape op rows b.first b.came b.more
+in_kept manner shape false op rows exchanges held = range_keeps manner (key_width shape) (fits shape) (AreKept shape) (kept_stays shape) range_limit op [] rows exchanges (none_kept shape) held
+
+table_kept : (manner : Manner) (shapes : List TableTree) (level : Level) (read : TableRead) (rows : Rows) → Comes manner (reads_table none_known shapes level read) (Ok rows) → AreKept (shape_of read.0.table shapes) rows
+unfolding reads_table
 table_kept manner shapes level read rows came =
-    let shape = shape_of read.0 shapes in
-    range_keeps manner (key_width shape) (fits shape) (AreKept shape) (kept_stays shape) range_limit (table_fetch level read) [] rows came.0 (none_kept shape) came.1
+    let shape = shape_of read.0.table shapes in
+    in_kept manner shape (is_one_key (key_width shape) read.0.start read.0.stop) (table_fetch level read) rows came.0 came.1
 
 -- ---- the images of a statement
 
@@ -147,14 +163,14 @@ table_kept manner shapes level read rows came =
 record AreMore (shapes : List TableTree) (reads : List TableRead) (images all : List Rows) : Type 0 where
   rest : List Rows
   is : all ≡ images ++ rest
-  fit : ImagesFit shapes reads rest
+  fit : ImagesFit shapes (tables_of reads) rest
 
 abbrev images_or_none : Result (List Rows) Refusal → List Rows
 images_or_none (Ok images) = images
 images_or_none (Err refusal) = []
 
 module _ (manner : Manner) (shapes : List TableTree) (level : Level) where
-  image_added : (images all : List Rows) (read : TableRead) (reads : List TableRead) (rows : Rows) → AreKept (shape_of read.0 shapes) rows
+  image_added : (images all : List Rows) (read : TableRead) (reads : List TableRead) (rows : Rows) → AreKept (shape_of read.0.table shapes) rows
       → ((exchanges : List Exchange) → Held manner (images_from none_known shapes level (images ++ rows ∷ []) reads) exchanges (Ok all) → AreMore shapes reads (images ++ rows ∷ []) all)
       → (enough : Bool) (exchanges : List Exchange) → Held manner (if enough then images_from none_known shapes level (images ++ rows ∷ []) reads else over (Err Memory)) exchanges (Ok all) → AreMore shapes (read ∷ reads) images all
   unfolding Held
@@ -178,12 +194,14 @@ module _ (manner : Manner) (shapes : List TableTree) (level : Level) where
       let b = behind manner (reads_table none_known shapes level read) (on_ok (λ rows. with_room Memory (images_from none_known shapes level (images ++ rows ∷ []) reads))) exchanges (Ok all) held in
       image_behind images all read reads (λ rows later went. images_more (images ++ rows ∷ []) all reads later went) b.first b.came b.more
 
-  images_whole : (all : List Rows) (reads : List TableRead) (enough : Bool) (exchanges : List Exchange) → Held manner (if enough then images_from none_known shapes level [] reads else over (Err Memory)) exchanges (Ok all) → ImagesFit shapes reads all
+  images_whole : (all : List Rows) (reads : List TableRead) (enough : Bool) (exchanges : List Exchange) → Held manner (if enough then images_from none_known shapes level [] reads else over (Err Memory)) exchanges (Ok all) → ImagesFit shapes (tables_of reads) all
   unfolding Held
-  images_whole all reads true exchanges held = let more = images_more [] all reads exchanges held in subst (λ (images : List Rows). ImagesFit shapes reads images) (sym more.is) more.fit
+  images_whole all reads true exchanges held = let more = images_more [] all reads exchanges held in subst (λ (images : List Rows). ImagesFit shapes (tables_of reads) images) (sym more.is) more.fit
   images_whole all reads false exchanges held = no_failure held.1
 
 -- what a statement has read fits its tables
-pub images_fit : {before after : PortPast} (manner : Manner) (shapes : List TableTree) (level : Level) (of : Bound) (images : List Rows) → Asks before after manner (images_of (given_of None) shapes level of) (Ok images) → ImagesFit shapes (reads_of of) images
+pub images_fit : {before after : PortPast} (manner : Manner) (shapes : List TableTree) (level : Level) (vars : List Value) (of : Bound) (images : List Rows)
+    → Asks before after manner (images_of (given_of None) shapes level vars of) (Ok images) → ImagesFit shapes (tables_of_reads of) images
 unfolding images_of Held
-images_fit manner shapes level of images was = images_whole manner shapes level images (reads_of of) was.held.0 was.exchanges was.held.1
+images_fit manner shapes level vars of images was =
+    subst (λ (tables : List TableName). ImagesFit shapes tables images) (tables_of_reads_are vars shapes of) (images_whole manner shapes level images (reads_of vars shapes of) was.held.0 was.exchanges was.held.1)

@@ -127,16 +127,16 @@ does_key key row so_far new (Ok None) is = absurd is
 does_key {past = past} key row so_far new (Err failure) {p = p} is = subst (λ (f : Failure). Did past past (defined_by so_far (replies.Row key row 0)) p (Ok (Err f)) p) (sym is) (does_room false (does_over refl))
 
 -- the tables that are named are read
-pub does_shaped : {before after : PortPast} (given : GivenRows) (level : Level) (shapes : List TableTree) (of : Bound) {p new : SessionProgress} {result : Result (Result (List Rows) Failure) Memory} → (shapes ≡ [] → ⊥)
-    → Did before after (touches_if (fetches_any given of) (images_of given shapes level of gives unless_stopped)) p result new → Did before after (reads_at given level shapes of) p result new
+pub does_shaped : {before after : PortPast} (given : GivenRows) (level : Level) (vars : List Value) (shapes : List TableTree) (of : Bound) {p new : SessionProgress} {result : Result (Result (List Rows) Failure) Memory} → (shapes ≡ [] → ⊥)
+    → Did before after (touches_if (fetches_any given of) (images_of given shapes level vars of gives unless_stopped)) p result new → Did before after (reads_at given level vars shapes of) p result new
 unfolding reads_at
-does_shaped given level [] of some did = absurd (some refl)
-does_shaped given level (shape ∷ shapes) of some did = did
+does_shaped given level vars [] of some did = absurd (some refl)
+does_shaped given level vars (shape ∷ shapes) of some did = did
 
 -- where none is named, nothing is
-pub does_unshaped : {past : PortPast} (given : GivenRows) (level : Level) (shapes : List TableTree) (of : Bound) {p : SessionProgress} → shapes ≡ [] → Did past past (reads_at given level shapes of) p (Ok (Ok [])) p
+pub does_unshaped : {past : PortPast} (given : GivenRows) (level : Level) (vars : List Value) (shapes : List TableTree) (of : Bound) {p : SessionProgress} → shapes ≡ [] → Did past past (reads_at given level vars shapes of) p (Ok (Ok [])) p
 unfolding reads_at
-does_unshaped given level shapes of none = rw none (does_over refl)
+does_unshaped given level vars shapes of none = rw none (does_over refl)
 
 -- ---- a statement's transaction
 

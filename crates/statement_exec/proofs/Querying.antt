@@ -11,11 +11,12 @@ use Rattle.bound_tree.specs.declared.write.Bound.TheVariants as bound
 use Rattle.bound_tree.specs.Outcomes as value
 use Rattle.bound_tree.specs.Typed.{AreOf, system_kinds}
 use Rattle.query_eval.specs.Ans.{Ans}
+use Rattle.query_eval.specs.Given.{tables_read}
 use Rattle.step_model.specs.Port.{PortPast}
 use Rattle.step_model.specs.Ranges.{Rows}
 use Rattle.dml_exec.specs.declared.refusal.Level.{Level}
 use Rattle.dml_exec.specs.Asking.{seen}
-use Rattle.dml_exec.specs.Reading.{GivenRows, fetches_any, images_of, query_reads, reads_of}
+use Rattle.dml_exec.specs.Reading.{GivenRows, fetches_any, images_of, tables_of_reads}
 use Rattle.batch_meaning.specs.declared.failure.Failure.{Failure}
 use Rattle.batch_meaning.specs.Raised.{Around}
 use Rattle.batch_meaning.specs.Progress.{SessionProgress, system_in, values_of}
@@ -29,23 +30,24 @@ use Rattle.session_state.specs.Parts.{IsOrMemory}
 use Rattle.session_state.proofs.Stepping.{meant_ok}
 
 -- where no table is named there is no image
-pub unshaped_images : {before after : PortPast} (given : GivenRows) (level : Level) (shapes : List TableTree) (of : Bound) {images : List Rows} {p q : SessionProgress} → Did before after (reads_at given level shapes of) p (Ok (Ok images)) q → shapes ≡ [] → images ≡ []
+pub unshaped_images : {before after : PortPast} (given : GivenRows) (level : Level) (vars : List Value) (shapes : List TableTree) (of : Bound) {images : List Rows} {p q : SessionProgress} → Did before after (reads_at given level vars shapes of) p (Ok (Ok images)) q → shapes ≡ [] → images ≡ []
 unfolding reads_at Held
-unshaped_images given level [] of {images = images} did none = (let is : ◌≡◌ {A = Result (List Rows) Failure} (Ok images) (Ok []) = did.came.1 in cc)
-unshaped_images given level (shape ∷ shapes) of did none = absurd cc
+unshaped_images given level vars [] of {images = images} did none = (let is : ◌≡◌ {A = Result (List Rows) Failure} (Ok images) (Ok []) = did.came.1 in cc)
+unshaped_images given level vars (shape ∷ shapes) of did none = absurd cc
 
 -- the tables of a query are read, whether it is answered or assigned
-pub same_reads : (given : GivenRows) (level : Level) (shapes : List TableTree) (of : Bound) (query : BoundQuery) → IsOfQuery query of → reads_at given level shapes of ≡ reads_at given level shapes (bound.Query query)
+pub same_reads : (given : GivenRows) (level : Level) (vars : List Value) (shapes : List TableTree) (of : Bound) (query : BoundQuery) → IsOfQuery query of
+    → reads_at given level vars shapes of ≡ reads_at given level vars shapes (bound.Query query)
 unfolding reads_at images_of
-same_reads given level shapes (bound.Query of) query is = ap (λ (q : BoundQuery). reads_at given level shapes (bound.Query q)) is
-same_reads given level [] (bound.Assign of places) query is = refl
-same_reads given level (shape ∷ shapes) (bound.Assign of places) query is = ap (λ (q : BoundQuery). reads_at given level (shape ∷ shapes) (bound.Query q)) is
-same_reads given level shapes bound.Plain query is = absurd is
-same_reads given level shapes (bound.Write write) query is = absurd is
+same_reads given level vars shapes (bound.Query of) query is = ap (λ (q : BoundQuery). reads_at given level vars shapes (bound.Query q)) is
+same_reads given level vars [] (bound.Assign of places) query is = refl
+same_reads given level vars (shape ∷ shapes) (bound.Assign of places) query is = ap (λ (q : BoundQuery). reads_at given level vars (shape ∷ shapes) (bound.Query q)) is
+same_reads given level vars shapes bound.Plain query is = absurd is
+same_reads given level vars shapes (bound.Write write) query is = absurd is
 
-reads_same : (of : Bound) (query : BoundQuery) → IsOfQuery query of → reads_of of ≡ query_reads query
-reads_same (bound.Query of) query is = ap query_reads is
-reads_same (bound.Assign of places) query is = ap query_reads is
+reads_same : (of : Bound) (query : BoundQuery) → IsOfQuery query of → tables_of_reads of ≡ tables_read query
+reads_same (bound.Query of) query is = ap tables_read is
+reads_same (bound.Assign of places) query is = ap tables_read is
 reads_same bound.Plain query is = absurd is
 reads_same (bound.Write write) query is = absurd is
 
@@ -62,7 +64,7 @@ answer_of (Err number) rows is = absurd cc
 
 -- what it answers on them; in a trigger its rows were looked at
 pub answer_is : (around : Around) (p : SessionProgress) (shapes : List TableTree) (of : Bound) (query : BoundQuery) (images : List Rows) (result : Result (Vec (List Value) Global) Failure) → IsOfQuery query of
-    → (around.fired ≡ None → (shapes ≡ [] → ⊥) → ImagesFit shapes (reads_of of) images) → (shapes ≡ [] → images ≡ []) → IfOk result (λ rows. All HasItsType p.vars × AreOf system_kinds (system_in around p))
+    → (around.fired ≡ None → (shapes ≡ [] → ⊥) → ImagesFit shapes (tables_of_reads of) images) → (shapes ≡ [] → images ≡ []) → IfOk result (λ rows. All HasItsType p.vars × AreOf system_kinds (system_in around p))
     → IfOk result (λ rows. (around.fired ≡ None) ⊎ IsTrue (are_typed (items_of query) rows.items))
     → IsOrMemory (answer_in around p query images) (seen result) → IfOk result (λ rows. IsAnswer around p shapes query rows.items)
 answer_is around p shapes of query images (Ok rows) same fit none typed (inl batch) is = inl (record {

@@ -29,13 +29,13 @@ use Rattle.std.specs.Prelude.{IsTrue}
 use Rattle.table_rows.specs.Rows.{is_value_of}
 use Rattle.catalog_rows.proofs.Fitting.{image_typed, value_of_type}
 use Rattle.constraint_check.specs.Reads.{shape_of}
-use Rattle.dml_exec.specs.Reading.{query_reads, shared}
 use Rattle.typed_nodes.specs.Nodes.{is_kind}
 use Rattle.typed_nodes.specs.Refusals.{Outcome, after}
 use Rattle.clause_binder.specs.declared.operand.Selected.{Selected}
 use Rattle.clause_binder.specs.Bind.{query_of}
 use Rattle.clause_binder.specs.Operands.{items_of}
 use Rattle.query_eval.specs.Ans.{Ans, references_of}
+use Rattle.query_eval.specs.Given.{tables_read}
 use Rattle.query_laws.specs.Columns.{tables_in}
 use Rattle.query_laws.specs.Formed.{items_kinds}
 use Rattle.query_laws.specs.Laws.{AllOf, AreExactly, ImagesOf, IsFit as IsNamed, RowsOf}
@@ -207,7 +207,7 @@ kept_typed definitions table rows are = by_shape (shape_of table (tables_of defi
     by_shape (Some shape) is kept = image_typed definitions table shape rows (table_named definitions table shape is) kept
 
 -- the images of its references are those of the tables that are read
-images_typed : (definitions : List Definition) (refs : List Reference) (images : List Rows) → ImagesFit (tables_of definitions) (map shared (map (λ ref. ref.table) refs)) images → ImagesOf (tables_in definitions) refs images
+images_typed : (definitions : List Definition) (refs : List Reference) (images : List Rows) → ImagesFit (tables_of definitions) (map (λ ref. ref.table) refs) images → ImagesOf (tables_in definitions) refs images
 images_typed definitions [] images fit = tt
 images_typed definitions (ref ∷ refs) [] fit = absurd fit
 images_typed definitions (ref ∷ refs) (rows ∷ images) fit = (kept_typed definitions ref.table rows fit.0, images_typed definitions refs images fit.1)
@@ -250,7 +250,7 @@ module _ (around : Around) (p : SessionProgress) (vars : List Variable) (shapes 
 
       by_shapes : (given : List TableTree) → shapes ≡ given → RowsOf (items_kinds (items_of query)) rows
       by_shapes [] none = typed_on (subst (λ (images : List Rows). ImagesOf (tables_in definitions) (references_of query) images) (sym (answer.none none)) (no_images (tables_in definitions) (references_of query)))
-      by_shapes (shape ∷ others) some = typed_on (images_typed definitions (references_of query) answer.images (subst (λ (s : List TableTree). ImagesFit s (query_reads query) answer.images) over.1 (answer.fit (λ (none : shapes ≡ []). let no : shape ∷ others ≡ [] = sym some ∙ none in absurd cc))))
+      by_shapes (shape ∷ others) some = typed_on (images_typed definitions (references_of query) answer.images (subst (λ (s : List TableTree). ImagesFit s (tables_read query) answer.images) over.1 (answer.fit (λ (none : shapes ≡ []). let no : shape ∷ others ≡ [] = sym some ∙ none in absurd cc))))
 
   -- or where they were looked at
   pub answer_typed : IsBoundOver shapes vars statement of → p.vars ≡ vars → IsSelect statement → of ≡ bound.Query query → IsAnswer around p shapes query rows → RowsOf (items_kinds (items_of query)) rows

@@ -2,6 +2,7 @@
 use Rattle.std.specs.Prelude.{◌≡◌, ◌⊎◌, ◌==◌, ℕ, Bool, true, false, All, IsTrue, List, [], ◌∷◌, Option, None, Some, Result, Ok, Err}
 use Rattle.std.specs.List.{list_all, list_any}
 use Rattle.std.specs.Cmp.Lexicographic.{pointwise}
+use Rattle.value_types.specs.declared.table_name.TableName.{TableName}
 use Rattle.value_types.specs.declared.value.Value.{Value}
 use Rattle.tsql_tree.specs.declared.definition.Definition.{Definition}
 use Rattle.tsql_tree.specs.declared.definition.TableTree.{TableTree}
@@ -17,6 +18,7 @@ use Rattle.tsql_tree.specs.declared.statement.Form.{Form-F}
 use Rattle.clause_binder.specs.Operands.{items_of}
 use Rattle.binder.specs.Names.{Layer, form_of}
 use Rattle.query_eval.specs.Ans.{Ans}
+use Rattle.query_eval.specs.Given.{tables_read}
 use Rattle.table_rows.specs.Definitions.{IsDefinitionIn, tables_of}
 use Rattle.table_rows.specs.Rows.{has_columns, is_value_of}
 use Rattle.step_model.specs.declared.op.Op.{Op}
@@ -28,7 +30,7 @@ use Rattle.dml_exec.specs.declared.refusal.Refusal.{Refusal}
 use Rattle.dml_exec.specs.declared.written.Attempt.{Attempt}
 use Rattle.dml_exec.specs.declared.written.Written.{Written}
 use Rattle.dml_exec.specs.declared.written.Written.TheVariants as written
-use Rattle.dml_exec.specs.Reading.{GivenRows, TableRead, fetches_any, query_reads}
+use Rattle.dml_exec.specs.Reading.{GivenRows, fetches_any}
 use Rattle.batch_meaning.specs.declared.failure.Failure.{Failure}
 use Rattle.batch_meaning.specs.Failures.{plain}
 use Rattle.batch_meaning.specs.Raised.{Around}
@@ -64,11 +66,11 @@ AreKept None rows = rows ≡ []
 AreKept (Some shape) rows = All (λ row. IsTrue (has_columns shape.columns row)) rows
 
 -- each image has rows of its table
-abbrev pub ImagesFit : List TableTree → List TableRead → List Rows → Type 0
+abbrev pub ImagesFit : List TableTree → List TableName → List Rows → Type 0
 ImagesFit shapes [] [] = Unit {0}
 ImagesFit shapes [] (rows ∷ images) = ⊥
-ImagesFit shapes (read ∷ reads) [] = ⊥
-ImagesFit shapes (read ∷ reads) (rows ∷ images) = AreKept (shape_of read.0 shapes) rows × ImagesFit shapes reads images
+ImagesFit shapes (table ∷ tables) [] = ⊥
+ImagesFit shapes (table ∷ tables) (rows ∷ images) = AreKept (shape_of table shapes) rows × ImagesFit shapes tables images
 
 -- the statement is bound to this query, which is answered or assigned
 abbrev pub IsOfQuery : BoundQuery → Bound → Type 0
@@ -79,7 +81,7 @@ IsOfQuery query of = ⊥
 -- the query answers this on images that fit, with variables and values of the session that are of their types
 pub record IsReadAnswer (around : Around) (p : SessionProgress) (shapes : List TableTree) (query : BoundQuery) (rows : Rows) : Type 0 where
   pub images : List Rows
-  pub fit : (shapes ≡ [] → ⊥) → ImagesFit shapes (query_reads query) images
+  pub fit : (shapes ≡ [] → ⊥) → ImagesFit shapes (tables_read query) images
   pub none : shapes ≡ [] → images ≡ []
   pub vars : All HasItsType p.vars
   pub system : AreOf system_kinds (system_in around p)

@@ -3,9 +3,9 @@
 ghost use Rattle.std.specs.Prelude.{◌≡◌, [], None, true, Ok, IfOk, option_map};
 ghost use Rattle.batch_meaning.specs.Asking.{applies, reads_at, unless_broken};
 ghost use Rattle.batch_meaning.specs.Doing.{Did, over};
-ghost use Rattle.batch_meaning.specs.Progress.{Ready};
+ghost use Rattle.batch_meaning.specs.Progress.{Ready, values_of};
 ghost use Rattle.batch_meaning.specs.Working.{given_in, trigger_rows};
-ghost use Rattle.dml_exec.specs.Reading.{fetches_any, given_of, reads_of};
+ghost use Rattle.dml_exec.specs.Reading.{fetches_any, given_of, tables_of_reads};
 ghost use Rattle.statement_exec.specs.Selected.{ImagesFit, IsLive, taken_back, touched_if};
 
 use batch_meaning::Failure;
@@ -31,11 +31,11 @@ pub(crate) fn read<P: Port>(
 ) -> Result<Items<Image>, Failure>
     requires ready { Ready session.old (P.past port.old) }
     requires begun { fetches_any (given_in (option_map (λ fired. fired.now) given)) of.now ≡ true → session.old.is_open ≡ true }
-    ensures does { Did (P.past port.old) (P.past port.new) (reads_at (given_in (option_map (λ fired. fired.now) given.entry)) level shapes.now of.now) session.old (Ok result) session.new }
+    ensures does { Did (P.past port.old) (P.past port.new) (reads_at (given_in (option_map (λ fired. fired.now) given.entry)) level (values_of session.old.vars) shapes.now of.now) session.old (Ok result) session.new }
     ensures ready { Ready session.new (P.past port.new) }
     ensures kept { session.new.is_open ≡ session.old.is_open }
     ensures vars { session.new.vars ≡ session.old.vars }
-    ensures fit { option_map (λ fired. fired.now) given.entry ≡ None → (shapes.now ≡ [] → ⊥) → IfOk result (ImagesFit shapes.now (reads_of of.now)) }
+    ensures fit { option_map (λ fired. fired.now) given.entry ≡ None → (shapes.now ≡ [] → ⊥) → IfOk result (ImagesFit shapes.now (tables_of_reads of.now)) }
 {
     if shapes.is_empty() {
         return Ok(Items::new(alloc));
@@ -56,11 +56,11 @@ fn read_shaped<P: Port>(
     requires ready { Ready session.old (P.past port.old) }
     requires some { shapes.now ≡ [] → ⊥ }
     requires begun { fetches_any (given_in (option_map (λ fired. fired.now) given)) of.now ≡ true → session.old.is_open ≡ true }
-    ensures does { Did (P.past port.old) (P.past port.new) (reads_at (given_in (option_map (λ fired. fired.now) given.entry)) level shapes.now of.now) session.old (Ok result) session.new }
+    ensures does { Did (P.past port.old) (P.past port.new) (reads_at (given_in (option_map (λ fired. fired.now) given.entry)) level (values_of session.old.vars) shapes.now of.now) session.old (Ok result) session.new }
     ensures ready { Ready session.new (P.past port.new) }
     ensures kept { session.new.is_open ≡ session.old.is_open }
     ensures vars { session.new.vars ≡ session.old.vars }
-    ensures fit { option_map (λ fired. fired.now) given.entry ≡ None → IfOk result (ImagesFit shapes.now (reads_of of.now)) }
+    ensures fit { option_map (λ fired. fired.now) given.entry ≡ None → IfOk result (ImagesFit shapes.now (tables_of_reads of.now)) }
 {
     let tables = given_tables(given);
     let came = read_given(alloc, session, port, tables.as_ref(), level, shapes, of);
@@ -81,11 +81,11 @@ fn read_given<P: Port>(
     requires ready { Ready session.old (P.past port.old) }
     requires some { shapes.now ≡ [] → ⊥ }
     requires begun { fetches_any (given_of (option_map (λ tables. tables.now) given)) of.now ≡ true → session.old.is_open ≡ true }
-    ensures does { Did (P.past port.old) (P.past port.new) (reads_at (given_of (option_map (λ tables. tables.now) given.entry)) level shapes.now of.now) session.old (Ok result) session.new }
+    ensures does { Did (P.past port.old) (P.past port.new) (reads_at (given_of (option_map (λ tables. tables.now) given.entry)) level (values_of session.old.vars) shapes.now of.now) session.old (Ok result) session.new }
     ensures ready { Ready session.new (P.past port.new) }
     ensures kept { session.new.is_open ≡ session.old.is_open }
     ensures vars { session.new.vars ≡ session.old.vars }
-    ensures fit { option_map (λ tables. tables.now) given.entry ≡ None → IfOk result (ImagesFit shapes.now (reads_of of.now)) }
+    ensures fit { option_map (λ tables. tables.now) given.entry ≡ None → IfOk result (ImagesFit shapes.now (tables_of_reads of.now)) }
 {
     touch_if(session, fetches_any(of, given));
     match read_images(
@@ -93,6 +93,7 @@ fn read_given<P: Port>(
         of,
         shapes,
         given,
+        session.vars(),
         level,
         session.settings().manner,
         port,

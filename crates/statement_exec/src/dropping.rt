@@ -304,7 +304,7 @@ fn read_whole<P: Port>(
 ) -> Result<Items<Image>, Failure>
     requires ready { Ready session.old (P.past port.old) }
     requires begun { session.old.is_open ≡ true }
-    ensures does { Did (P.past port.old) (P.past port.new) (with_room (reads_at none_given Serializable shapes.now (Write (whole name.now)))) session.old (Ok result) session.new }
+    ensures does { Did (P.past port.old) (P.past port.new) (with_room (reads_at none_given Serializable [] shapes.now (Write (whole name.now)))) session.old (Ok result) session.new }
     ensures ready { Ready session.new (P.past port.new) }
     ensures begun { session.new.is_open ≡ true }
 {

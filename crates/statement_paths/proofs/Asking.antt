@@ -25,8 +25,8 @@ use Rattle.dml_exec.specs.declared.refusal.Level.{Level}
 use Rattle.dml_exec.specs.declared.refusal.Refusal.{Refusal}
 use Rattle.dml_exec.specs.declared.refusal.Refusal.TheVariants as refusal
 use Rattle.dml_exec.specs.Asking.{on_ok, with_room, with_room_if}
-use Rattle.dml_exec.specs.Reading.{GivenRows, TableRead, fetch_of, fetches, fits, from, images_from, images_of, is_short, key_width, read_by, reads_of, reads_on, reads_table, rows_from, rows_in, table_fetch, unless_given}
-use Rattle.dml_exec.specs.Writing.{asks_deed, broken_by, checks_all, checks_one, done_by, halted, is_one_key, no_room, rows_checked, works, writes_all, writes_one}
+use Rattle.dml_exec.specs.Reading.{GivenRows, TableRead, fetch_of, fetches, fits, from, images_from, images_of, is_one_key, is_short, key_width, read_by, reads_of, reads_on, reads_range, reads_table, rows_from, rows_in, table_fetch, unless_given}
+use Rattle.dml_exec.specs.Writing.{asks_deed, broken_by, checks_all, checks_one, checks_range, done_by, halted, no_room, rows_checked, works, writes_all, writes_one}
 use Rattle.statement_paths.specs.Asked.{IsFetch}
 use Rattle.statement_paths.specs.Paths.{IsForward}
 use Rattle.statement_paths.proofs.Only.{Says, says_then}
@@ -87,7 +87,8 @@ module _ (Ops : Op → Type 0) where
 
     says_table : (given : GivenRows) (shapes : List TableTree) (level : Level) (read : TableRead) → Says Ops (reads_table given shapes level read)
     unfolding reads_table
-    says_table given shapes level read = says_given (given read.0) (rows_in (shape_of read.0 shapes) false (table_fetch level read)) (says_rows (shape_of read.0 shapes) false (table_fetch level read))
+    says_table given shapes level read = says_given (given read.0.table) (reads_range (shape_of read.0.table shapes) level read)
+        (says_rows (shape_of read.0.table shapes) (is_one_key (key_width (shape_of read.0.table shapes)) read.0.start read.0.stop) (table_fetch level read))
 
     says_images : (given : GivenRows) (shapes : List TableTree) (level : Level) (images : List Rows) (reads : List TableRead) → Says Ops (images_from given shapes level images reads)
     unfolding images_from
@@ -96,9 +97,9 @@ module _ (Ops : Op → Type 0) where
         says_then Ops (reads_table given shapes level read) (on_ok (λ rows. with_room refusal.Memory (images_from given shapes level (images ++ rows ∷ []) reads))) (says_table given shapes level read)
         (says_on (λ rows. with_room refusal.Memory (images_from given shapes level (images ++ rows ∷ []) reads)) (λ rows. says_room refusal.Memory _ (says_images given shapes level (images ++ rows ∷ []) reads)))
 
-    pub images_say : (given : GivenRows) (shapes : List TableTree) (level : Level) (of : Bound) → Says Ops (images_of given shapes level of)
+    pub images_say : (given : GivenRows) (shapes : List TableTree) (level : Level) (vars : List Value) (of : Bound) → Says Ops (images_of given shapes level vars of)
     unfolding images_of
-    images_say given shapes level of = says_room refusal.Memory _ (says_images given shapes level [] (reads_of of))
+    images_say given shapes level vars of = says_room refusal.Memory _ (says_images given shapes level [] (reads_of vars shapes of))
 
 -- ---- the changes of a write, and what checks them
 
@@ -131,8 +132,8 @@ halted_says (Err why) = tt
 
 checked_says : (shapes : List TableTree) (range : KeyRange) → Says IsForward (rows_checked shapes range)
 unfolding rows_checked
-checked_says shapes range = says_room IsForward no_room _ (says_then IsForward (rows_in (shape_of range.table shapes) (is_one_key range.start) (fetch_of range hold.Range S)) halted
-    (says_rows IsForward fetch_forward (shape_of range.table shapes) (is_one_key range.start) (fetch_of range hold.Range S)) halted_says)
+checked_says shapes range = says_room IsForward no_room _ (says_then IsForward (checks_range (shape_of range.table shapes) range) halted
+    (says_rows IsForward fetch_forward (shape_of range.table shapes) (is_one_key (key_width (shape_of range.table shapes)) range.start range.stop) (fetch_of range hold.Range S)) halted_says)
 
 broken_says : (read : CheckRead) (judged : Option ℤ) → Says IsForward (broken_by read judged)
 broken_says read None = tt

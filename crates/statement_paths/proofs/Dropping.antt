@@ -39,14 +39,14 @@ module _ (around : Around) (p0 : SessionProgress) where
 
   module _ (shape : TableTree) (name : List ℕ) where
     abbrev read_rows : Doing (Result (List Rows) Failure)
-    read_rows = reads_at none_given Serializable (shape ∷ []) (bound.Write (whole name))
+    read_rows = reads_at none_given Serializable [] (shape ∷ []) (bound.Write (whole name))
 
     drops_apart : (p new : SessionProgress) (exchanges : List Exchange) (effect : Effect) → Still p0 p → Held (drops_table around shape name) p exchanges (Ok effect) new → (planned : List Planned) × IsTableDropped around p0 shape name planned effect exchanges
     unfolding drops_table Held ◌then◌
     drops_apart p new exchanges effect still held =
         bind_reads around p0 reads_definitions _ p new exchanges effect definitions_read still held (λ defined behind definitions q parts defines same rest.
         comes_on around p0 (unless_referred name (tables_of definitions)) _ q new behind effect rest (λ alone free others.
-        bind_reads around p0 (with_room read_rows) _ q new behind effect (only_room IsTouch IsFetch read_rows (at_level_reads none_given Serializable (shape ∷ []) (bound.Write (whole name)))) same others (λ read later images r more reads so last.
+        bind_reads around p0 (with_room read_rows) _ q new behind effect (only_room IsTouch IsFetch read_rows (at_level_reads none_given Serializable [] (shape ∷ []) (bound.Write (whole name)))) same others (λ read later images r more reads so last.
         comes_on around p0 (dropped around r definitions shape name images) _ r new later effect last (λ planned plans work.
         let on = bind_apart (applies [] planned) (λ put. over (Ok no_effect)) r new later effect work in (
           planned,
@@ -59,8 +59,8 @@ module _ (around : Around) (p0 : SessionProgress) where
             parts = parts ∙ ap (λ (l : List Exchange). defined ++ l) (more ∙ ap (λ (l : List Exchange). read ++ l) (on.4 ∙ ap (λ (l : List Exchange). on.0 ++ l) on.6.0 ∙ append-nil on.0));
             defines = definitions_apart manner p q defined definitions (in_manner around p0 p still) defines;
             free = free;
-            reads = subst (λ (m : Manner). said.Held m (images_of none_given (shape ∷ []) Serializable (bound.Write (whole name))) read (Ok images)) (in_manner around p0 q same)
-                (at_level_apart none_given Serializable (shape ∷ []) (bound.Write (whole name)) q r read images (room_apart read_rows q r read images reads));
+            reads = subst (λ (m : Manner). said.Held m (images_of none_given (shape ∷ []) Serializable [] (bound.Write (whole name))) read (Ok images)) (in_manner around p0 q same)
+                (at_level_apart none_given Serializable [] (shape ∷ []) (bound.Write (whole name)) q r read images (room_apart read_rows q r read images reads));
             plans = subst (λ (s : SessionProgress). dropped around s definitions shape name images ≡ Ok planned) so plans;
             applies = (applies_apart around p0 [] planned r on.3 on.0 on.2 so on.5).0;
             tells = ok_same {E = Failure} effect no_effect on.6.1;
@@ -106,7 +106,7 @@ module _ (around : Around) (p0 : SessionProgress) where
       bind_or p0 reads_definitions _ p new exchanges failure definitions_read still held (λ fetches. read_failed manner exchanges fetches) (λ defined behind definitions q parts defines fetches same rest.
       failed_more manner exchanges defined behind parts fetches
       (comes_or p0 (unless_referred name (tables_of definitions)) _ q new behind failure rest (λ none. read_failed manner behind none) (λ alone free others.
-      bind_or p0 (with_room (read_rows shape name)) _ q new behind failure (only_room IsTouch IsFetch (read_rows shape name) (at_level_reads none_given Serializable (shape ∷ []) (bound.Write (whole name)))) same others
+      bind_or p0 (with_room (read_rows shape name)) _ q new behind failure (only_room IsTouch IsFetch (read_rows shape name) (at_level_reads none_given Serializable [] (shape ∷ []) (bound.Write (whole name)))) same others
       (λ more. read_failed manner behind more) (λ read later images r more fetched too so last.
       failed_more manner behind read later more too
       (comes_or p0 (dropped around r definitions shape name images) _ r new later failure last (λ none. read_failed manner later none) (λ planned plans work.

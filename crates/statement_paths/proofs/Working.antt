@@ -6,6 +6,7 @@ use Rattle.std.specs.Cmp.Lexicographic.{bytes_decides}
 use Rattle.value_types.specs.Units.{same_units}
 use Rattle.tsql_tree.specs.declared.definition.TableTree.{TableTree}
 use Rattle.tsql_tree.specs.declared.statement.Form.{Form-F}
+use Rattle.value_types.specs.declared.value.Value.{Value}
 use Rattle.bound_tree.specs.declared.query.BoundQuery.{BoundQuery}
 use Rattle.bound_tree.specs.declared.write.Bound.{Bound}
 use Rattle.bound_tree.specs.declared.write.Bound.TheVariants as bound
@@ -33,7 +34,7 @@ use Rattle.batch_meaning.specs.Changing.{created, object_present}
 use Rattle.batch_meaning.specs.Failures.{plain, naming}
 use Rattle.batch_meaning.specs.Selecting.{Effect, answer_in, made_of, no_effect, not_bound_so, result_full, result_of}
 use Rattle.batch_meaning.specs.Tokens.{done_kind}
-use Rattle.batch_meaning.specs.Progress.{SessionProgress, touches, made, asked, asked_all, size_of}
+use Rattle.batch_meaning.specs.Progress.{SessionProgress, touches, made, asked, asked_all, size_of, values_of}
 use Rattle.batch_meaning.specs.Values.{Assigned, first_row, rows_assigned, status_of}
 use Rattle.batch_meaning.specs.Doing.{Doing, over, asks, ◌then◌, Held}
 use Rattle.batch_meaning.specs.Asking.{fails, fails_naming, ◌>>=◌, with_room, comes_to, unless_refused, reads_at, reads_images, unless_stopped, unless_broken, applies, touches_if, ◌gives◌, assigns_all, takes_back, where_done, marked}
@@ -76,11 +77,11 @@ touch_reads : {A : Type 0} (any : Bool) (tree : Doing A) → Reads tree → Read
 touch_reads true tree fetches = (tt, fetches)
 touch_reads false tree fetches = fetches
 
-pub at_level_reads : (given : GivenRows) (level : Level) (shapes : List TableTree) (of : Bound) → Reads (reads_at given level shapes of)
+pub at_level_reads : (given : GivenRows) (level : Level) (vars : List Value) (shapes : List TableTree) (of : Bound) → Reads (reads_at given level vars shapes of)
 unfolding reads_at
-at_level_reads given level [] of = tt
-at_level_reads given level (shape ∷ shapes) of = touch_reads (fetches_any given of) (images_of given (shape ∷ shapes) level of gives unless_stopped)
-    (only_gives IsTouch IsFetch (images_of given (shape ∷ shapes) level of) unless_stopped (images_say IsFetch (λ op is. is) given (shape ∷ shapes) level of) by_came)
+at_level_reads given level vars [] of = tt
+at_level_reads given level vars (shape ∷ shapes) of = touch_reads (fetches_any given of) (images_of given (shape ∷ shapes) level vars of gives unless_stopped)
+    (only_gives IsTouch IsFetch (images_of given (shape ∷ shapes) level vars of) unless_stopped (images_say IsFetch (λ op is. is) given (shape ∷ shapes) level vars of) by_came)
   where
     by_came : (came : Result (List Rows) Refusal) → Reads (unless_stopped came)
     by_came (Ok rows) = tt
@@ -88,26 +89,26 @@ at_level_reads given level (shape ∷ shapes) of = touch_reads (fetches_any give
 
 pub images_read : (given : GivenRows) (shapes : List TableTree) (of : Bound) → Reads (reads_images given shapes of)
 unfolding reads_images
-images_read given shapes of = λ p. at_level_reads given p.settings.level shapes of
+images_read given shapes of = λ p. at_level_reads given p.settings.level (values_of p.vars) shapes of
 
-pub at_level_apart : (given : GivenRows) (level : Level) (shapes : List TableTree) (of : Bound) (p new : SessionProgress) (exchanges : List Exchange) (images : List Rows)
-    → Held (reads_at given level shapes of) p exchanges (Ok images) new → AreRead p.settings.manner given level shapes of exchanges images
+pub at_level_apart : (given : GivenRows) (level : Level) (vars : List Value) (shapes : List TableTree) (of : Bound) (p new : SessionProgress) (exchanges : List Exchange) (images : List Rows)
+    → Held (reads_at given level vars shapes of) p exchanges (Ok images) new → AreRead p.settings.manner given level vars shapes of exchanges images
 unfolding reads_at Held
-at_level_apart given level [] of p new exchanges images held = (held.0, ok_same {E = Failure} images [] held.1)
-at_level_apart given level (shape ∷ shapes) of p new exchanges images held = by_touch (fetches_any given of) held
+at_level_apart given level vars [] of p new exchanges images held = (held.0, ok_same {E = Failure} images [] held.1)
+at_level_apart given level vars (shape ∷ shapes) of p new exchanges images held = by_touch (fetches_any given of) held
   where
-    by_came : (front back : List Exchange) (came : Result (List Rows) Refusal) (mid : SessionProgress) → exchanges ≡ front ++ back → said.Held p.settings.manner (images_of given (shape ∷ shapes) level of) front came → Held (unless_stopped came) mid back (Ok images) new
-        → said.Held p.settings.manner (images_of given (shape ∷ shapes) level of) exchanges (Ok images)
+    by_came : (front back : List Exchange) (came : Result (List Rows) Refusal) (mid : SessionProgress) → exchanges ≡ front ++ back → said.Held p.settings.manner (images_of given (shape ∷ shapes) level vars of) front came → Held (unless_stopped came) mid back (Ok images) new
+        → said.Held p.settings.manner (images_of given (shape ∷ shapes) level vars of) exchanges (Ok images)
     by_came front back (Ok rows) mid parts was rest =
-        subst (λ (l : List Exchange). said.Held p.settings.manner (images_of given (shape ∷ shapes) level of) l (Ok images)) (sym (parts ∙ ap (λ (l : List Exchange). front ++ l) rest.0 ∙ append-nil front))
-        (subst (λ (r : List Rows). said.Held p.settings.manner (images_of given (shape ∷ shapes) level of) front (Ok r)) (sym (ok_same {E = Failure} images rows rest.1)) was)
+        subst (λ (l : List Exchange). said.Held p.settings.manner (images_of given (shape ∷ shapes) level vars of) l (Ok images)) (sym (parts ∙ ap (λ (l : List Exchange). front ++ l) rest.0 ∙ append-nil front))
+        (subst (λ (r : List Rows). said.Held p.settings.manner (images_of given (shape ∷ shapes) level vars of) front (Ok r)) (sym (ok_same {E = Failure} images rows rest.1)) was)
     by_came front back (Err why) mid parts was rest = absurd (let no : Ok images ≡ Err _ = rest.1 in cc)
 
-    by_touch : (any : Bool) → Held (touches_if any (images_of given (shape ∷ shapes) level of gives unless_stopped)) p exchanges (Ok images) new → said.Held p.settings.manner (images_of given (shape ∷ shapes) level of) exchanges (Ok images)
+    by_touch : (any : Bool) → Held (touches_if any (images_of given (shape ∷ shapes) level vars of gives unless_stopped)) p exchanges (Ok images) new → said.Held p.settings.manner (images_of given (shape ∷ shapes) level vars of) exchanges (Ok images)
     by_touch true was =
-        let on = gives_apart (images_of given (shape ∷ shapes) level of) unless_stopped (made touches p) new exchanges (Ok images) was in by_came on.front on.back on.came (asked_all on.front (made touches p)) on.parts on.held on.rest
+        let on = gives_apart (images_of given (shape ∷ shapes) level vars of) unless_stopped (made touches p) new exchanges (Ok images) was in by_came on.front on.back on.came (asked_all on.front (made touches p)) on.parts on.held on.rest
     by_touch false was =
-        let on = gives_apart (images_of given (shape ∷ shapes) level of) unless_stopped p new exchanges (Ok images) was in by_came on.front on.back on.came (asked_all on.front p) on.parts on.held on.rest
+        let on = gives_apart (images_of given (shape ∷ shapes) level vars of) unless_stopped p new exchanges (Ok images) was in by_came on.front on.back on.came (asked_all on.front p) on.parts on.held on.rest
 
 module _ (around : Around) (p0 : SessionProgress) where
   -- ---- one part behind another
@@ -130,11 +131,11 @@ module _ (around : Around) (p0 : SessionProgress) where
   in_manner p still = still_manner p0 p still
 
   pub images_apart : (given : GivenRows) (shapes : List TableTree) (of : Bound) (p new : SessionProgress) (exchanges : List Exchange) (images : List Rows)
-      → Still p0 p → Held (reads_images given shapes of) p exchanges (Ok images) new → AreRead p0.settings.manner given p0.settings.level shapes of exchanges images
+      → Still p0 p → Held (reads_images given shapes of) p exchanges (Ok images) new → AreRead p0.settings.manner given p0.settings.level (values_of p0.vars) shapes of exchanges images
   unfolding reads_images Held
   images_apart given shapes of p new exchanges images still held =
-      let read : AreRead p.settings.manner given p.settings.level shapes of exchanges images = at_level_apart given p.settings.level shapes of p new exchanges images held in
-      subst (λ (s : SessionProgress). AreRead s.settings.manner given s.settings.level shapes of exchanges images) still read
+      let read : AreRead p.settings.manner given p.settings.level (values_of p.vars) shapes of exchanges images = at_level_apart given p.settings.level (values_of p.vars) shapes of p new exchanges images held in
+      subst (λ (s : SessionProgress). AreRead s.settings.manner given s.settings.level (values_of s.vars) shapes of exchanges images) still read
 
   -- ---- queries
 
@@ -145,7 +146,7 @@ module _ (around : Around) (p0 : SessionProgress) where
       let last = comes_apart (answer_in around mid query images) mid new back rows rest in
       record {
         images = images;
-        reads = subst (λ (l : List Exchange). AreRead p0.settings.manner (given_in around.fired) p0.settings.level shapes (bound.Query query) l images) (sym (parts ∙ ap (λ (l : List Exchange). front ++ l) last.0 ∙ append-nil front)) (images_apart (given_in around.fired) shapes (bound.Query query) p mid front images still read);
+        reads = subst (λ (l : List Exchange). AreRead p0.settings.manner (given_in around.fired) p0.settings.level (values_of p0.vars) shapes (bound.Query query) l images) (sym (parts ∙ ap (λ (l : List Exchange). front ++ l) last.0 ∙ append-nil front)) (images_apart (given_in around.fired) shapes (bound.Query query) p mid front images still read);
         answers = subst (λ (s : SessionProgress). answer_in around s query images ≡ Ok rows) same last.1;
       })
 

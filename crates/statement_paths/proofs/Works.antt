@@ -154,8 +154,8 @@ module _ (around : Around) (p0 : SessionProgress) where
   drops_work shape name =
       only_bind IsWorkStep IsQuiet reads_definitions _ (reads_work reads_definitions definitions_read) (λ definitions.
       only_bind IsWorkStep IsQuiet (comes_to (unless_referred name (tables_of definitions))) _ (only_comes IsWorkStep IsQuiet (unless_referred name (tables_of definitions))) (λ free.
-      only_bind IsWorkStep IsQuiet (with_room (reads_at none_given Serializable (shape ∷ []) (bound.Write (whole name)))) _
-      (only_room IsWorkStep IsQuiet (reads_at none_given Serializable (shape ∷ []) (bound.Write (whole name))) (reads_work (reads_at none_given Serializable (shape ∷ []) (bound.Write (whole name))) (at_level_reads none_given Serializable (shape ∷ []) (bound.Write (whole name))))) (λ images.
+      only_bind IsWorkStep IsQuiet (with_room (reads_at none_given Serializable [] (shape ∷ []) (bound.Write (whole name)))) _
+      (only_room IsWorkStep IsQuiet (reads_at none_given Serializable [] (shape ∷ []) (bound.Write (whole name))) (reads_work (reads_at none_given Serializable [] (shape ∷ []) (bound.Write (whole name))) (at_level_reads none_given Serializable [] (shape ∷ []) (bound.Write (whole name))))) (λ images.
       only_bind IsWorkStep IsQuiet (reads λ p. comes_to (dropped around p definitions shape name images)) _ (λ p. only_comes IsWorkStep IsQuiet (dropped around p definitions shape name images)) (λ planned.
       only_bind IsWorkStep IsQuiet (applies [] planned) (λ put. over (Ok no_effect)) (applies_works [] planned) (λ put. tt)))))
 

@@ -4,6 +4,7 @@
 -- session is given as it stood where the work began: its manner, its level, its variables and the values that expressions read of it.
 use Rattle.std.specs.Prelude.{◌≡◌, ◌≢◌, ◌⊎◌, ◌||◌, ℕ, ℤ, Bool, true, false, List, [], ◌∷◌, ◌++◌, length, Option, None, Some, Result, Ok, Err}
 use Rattle.std.specs.List.{AllByRecursion}
+use Rattle.value_types.specs.declared.value.Value.{Value}
 use Rattle.tsql_tree.specs.declared.definition.Definition.{Definition}
 use Rattle.tsql_tree.specs.declared.definition.Definition.TheVariants.{Table, Procedure, Trigger}
 use Rattle.tsql_tree.specs.declared.definition.TableTree.{TableTree}
@@ -48,7 +49,7 @@ use Rattle.batch_meaning.specs.Asking.{KnownNames, definition_fetch, is_table, o
 use Rattle.batch_meaning.specs.Calls.{Call, call_over}
 use Rattle.batch_meaning.specs.Changing.{created, definition_erased, dropped, planned_over, told_by, unless_referred, whole}
 use Rattle.batch_meaning.specs.Doing.{Doing}
-use Rattle.batch_meaning.specs.Progress.{SessionProgress}
+use Rattle.batch_meaning.specs.Progress.{SessionProgress, values_of}
 use Rattle.batch_meaning.specs.Raised.{Around, around_batch}
 use Rattle.batch_meaning.specs.Selecting.{Effect, answer_in, bound_over, made_of, no_effect, result_of}
 use Rattle.batch_meaning.specs.Tokens.{done_kind}
@@ -111,10 +112,11 @@ AreDefined manner start so_far (exchange ∷ later) all = IsAsked manner (object
 
 -- ---- what is read
 
--- Tables were read at a level for what is bound, but for those whose rows are given; where there are none, nothing was.
-abbrev pub AreRead : Manner → GivenRows → Level → List TableTree → Bound → List Exchange → List Rows → Type 0
-AreRead manner given level [] of exchanges images = (exchanges ≡ []) × (images ≡ [])
-AreRead manner given level (shape ∷ shapes) of exchanges images = Held manner (images_of given (shape ∷ shapes) level of) exchanges (Ok images)
+-- Tables were read at a level for what is bound, with these values of variables, but for those whose rows are given; where there are none,
+-- nothing was.
+abbrev pub AreRead : Manner → GivenRows → Level → List Value → List TableTree → Bound → List Exchange → List Rows → Type 0
+AreRead manner given level vars [] of exchanges images = (exchanges ≡ []) × (images ≡ [])
+AreRead manner given level vars (shape ∷ shapes) of exchanges images = Held manner (images_of given (shape ∷ shapes) level vars of) exchanges (Ok images)
 
 -- ---- what is written
 
@@ -138,7 +140,7 @@ module _ (around : Around) (p : SessionProgress) where
   -- A query reads its tables, and is answered.
   pub record IsAnswered (shapes : List TableTree) (query : BoundQuery) (rows : Rows) (exchanges : List Exchange) : Type 0 where
     pub images : List Rows
-    pub reads : AreRead p.settings.manner (given_in around.fired) p.settings.level shapes (bound.Query query) exchanges images
+    pub reads : AreRead p.settings.manner (given_in around.fired) p.settings.level (values_of p.vars) shapes (bound.Query query) exchanges images
     pub answers : answer_in around p query images ≡ Ok rows
 
   -- The answer of a SELECT is sent.
@@ -193,7 +195,7 @@ module _ (around : Around) (p : SessionProgress) where
     pub applied : List Exchange
     pub parts : exchanges ≡ defined ++ (read ++ applied)
     pub defines : AreDefined p.settings.manner First [] defined definitions
-    pub reads : Held p.settings.manner (images_of (given_in around.fired) (shape ∷ shapes) p.settings.level (bound.Write write)) read (Ok images)
+    pub reads : Held p.settings.manner (images_of (given_in around.fired) (shape ∷ shapes) p.settings.level (values_of p.vars) (bound.Write write)) read (Ok images)
     pub plans : planned_over around p (shape ∷ shapes) write images ≡ Ok planned
     pub applies : AreApplied p.settings.manner (tables_of definitions) planned applied
     pub marks : done.mark ≡ applies.mark
@@ -241,7 +243,7 @@ module _ (around : Around) (p : SessionProgress) where
     pub parts : exchanges ≡ defined ++ (read ++ applied)
     pub defines : AreDefined p.settings.manner First [] defined definitions
     pub free : unless_referred name (tables_of definitions) ≡ Ok tt
-    pub reads : Held p.settings.manner (images_of none_given (shape ∷ []) Serializable (bound.Write (whole name))) read (Ok images)
+    pub reads : Held p.settings.manner (images_of none_given (shape ∷ []) Serializable [] (bound.Write (whole name))) read (Ok images)
     pub plans : dropped around p definitions shape name images ≡ Ok planned
     pub applies : AreApplied p.settings.manner [] planned applied
     pub tells : effect ≡ no_effect

@@ -101,10 +101,7 @@ rows C1
 SELECT MAX(a.k), (SELECT MIN(v) FROM t WHERE k = 2) FROM t a, t b
 Begin
 Fetch objects At Range
-Fetch t First Row
-Fetch t Past Row
-Fetch t Past Row
-Fetch t Past Row
+Fetch t At Row
 Fetch t First Row
 Fetch t Past Row
 Fetch t Past Row
@@ -117,6 +114,78 @@ Relax
 Commit
 =>
 columns, row 3 20, done 11 C1 1, done 0 0 0,
+---
+rows C1
+SELECT v FROM t WHERE v > 5 AND k = 2
+Begin
+Fetch objects At Range
+Fetch t At Row
+Relax
+Commit
+=>
+columns, row 20, done 11 C1 1, done 0 0 0,
+---
+rows C1
+SELECT v FROM t WHERE k > 1
+Begin
+Fetch objects At Range
+Fetch t Past Row
+Fetch t Past Row
+Fetch t Past Row
+Relax
+Commit
+=>
+columns, row 20, row 30, done 11 C1 2, done 0 0 0,
+---
+rows C1
+SELECT v FROM t WHERE k BETWEEN 1 AND 2
+Begin
+Fetch objects At Range
+Fetch t At Row
+Fetch t Past Row
+Fetch t Past Row
+Relax
+Commit
+=>
+columns, row 10, row 20, done 11 C1 2, done 0 0 0,
+---
+rows C1
+SELECT v FROM t WHERE k >= 2 AND k < 2
+Begin
+Fetch objects At Range
+Fetch t At Row
+Relax
+Commit
+=>
+columns, done 11 C1 0, done 0 0 0,
+---
+rows C1
+SELECT v FROM t WHERE k = 2 OR k = 3
+Begin
+Fetch objects At Range
+Fetch t First Row
+Fetch t Past Row
+Fetch t Past Row
+Fetch t Past Row
+Relax
+Commit
+=>
+columns, row 20, row 30, done 11 C1 2, done 0 0 0,
+---
+rows C5
+UPDATE t SET v = 21 WHERE k = 2
+Begin
+Fetch objects At Range
+Fetch objects First Range
+Fetch objects Past Range
+Fetch t At Row
+Mark
+Replace t
+BackTo
+Relax
+Rollback
+=>
+error 701, done 3 C5 0, done 0 0 0,
 ---
 rows C1
 SELECT k, nosuch FROM t

@@ -13,7 +13,6 @@ use Rattle.tsql_tree.specs.declared.definition.TableTree.{TableTree}
 use Rattle.bound_tree.specs.Setting.{value_at}
 use Rattle.clause_binder.specs.Scope.{key_places}
 use Rattle.step_model.specs.declared.manner.Manner.{Manner}
-use Rattle.step_model.specs.declared.op.Hold.TheVariants.{Range}
 use Rattle.step_model.specs.declared.range.KeyRange.{KeyRange}
 use Rattle.step_model.specs.Database.{Database, In, is_within}
 use Rattle.step_model.specs.Dialog.{Dialog, over, ◌then◌, Held}
@@ -28,15 +27,15 @@ use Rattle.constraint_check.specs.Reads.{shape_of}
 use Rattle.constraint_check.proofs.Lists.{all_left, all_right}
 use Rattle.history_laws.proofs.Basics.{both}
 use Rattle.dml_exec.specs.declared.refusal.Refusal.{Refusal}
-use Rattle.dml_exec.specs.Reading.{fetch_of, fits, rows_in}
-use Rattle.dml_exec.specs.Writing.{broken, broken_by, checks_all, checks_one, halted, is_one_key, no_room, rows_checked}
+use Rattle.dml_exec.specs.Reading.{fits, is_one_key, key_width}
+use Rattle.dml_exec.specs.Writing.{broken, broken_by, checks_all, checks_one, checks_range, halted, no_room, rows_checked}
 use Rattle.write_laws.specs.Reading.{ChecksRead}
-use Rattle.write_laws.specs.Reads.{at_place, key_size, AllFit, IsReadable, KeysHave, HoldsIt}
+use Rattle.write_laws.specs.Reads.{at_place, key_size, AllFit, KeysHave, HoldsIt}
 use Rattle.write_laws.proofs.Dialogs.{held_both, held_ok, held_room, ok_err}
 use Rattle.write_laws.proofs.Entries.{Entry}
 use Rattle.write_laws.proofs.Keys.{tied_long}
 use Rattle.write_laws.proofs.Parts.{Fetches, all_asked, answers, asks_ok, asks_room, asks_then, one_place}
-use Rattle.write_laws.proofs.Ranges.{in_fetches, read_in}
+use Rattle.write_laws.proofs.Ranges.{in_fetches, read_in, told_one}
 
 -- ---- all rows are kept
 
@@ -62,8 +61,12 @@ module _ (db : Database) (shapes : List TableTree) (table : TableName) (fit : Al
 
 -- ---- one read
 
+-- it is read as one whole key
+abbrev is_one : List TableTree → KeyRange → Bool
+is_one shapes range = is_one_key (key_width (shape_of range.table shapes)) range.start range.stop
+
 abbrev reads_of : List TableTree → KeyRange → Dialog (Result Rows Refusal)
-reads_of shapes range = rows_in (shape_of range.table shapes) (is_one_key range.start) (fetch_of range Range S)
+reads_of shapes range = checks_range (shape_of range.table shapes) range
 
 module _ (manner : Manner) (shapes : List TableTree) where
   rows_held : (range : KeyRange) (part : List Exchange) (found : Rows) → Held manner (rows_checked shapes range) part (Ok found) → Held manner (reads_of shapes range) part (Ok found)
@@ -89,13 +92,13 @@ module _ (manner : Manner) (shapes : List TableTree) where
     abbrev Answered : List Exchange → Type 0
     Answered part = AllByRecursion (λ x. AnswersIn db x.op x.reply) part
 
-    passed : (read : CheckRead) (part : List Exchange) → AllFit db shapes read.range.table → IsReadable shapes read.range → Answered part → Held manner (checks_one shapes read) part (Ok tt) → Passes db read
+    passed : (read : CheckRead) (part : List Exchange) → AllFit db shapes read.range.table → Answered part → Held manner (checks_one shapes read) part (Ok tt) → Passes db read
     unfolding checks_one
-    passed read part fit whole answered held =
+    passed read part fit answered held =
         let h = held_ok manner (rows_checked shapes read.range) (λ found. broken_by read (judge read found)) part tt held in
-        let came = read_in db one_key manner (shape_of read.range.table shapes) (is_one_key read.range.start) read.range S h.came h.first
+        let came = read_in db one_key manner (shape_of read.range.table shapes) (is_one shapes read.range) read.range S h.came h.first
         (all_left (λ (x : Exchange). AnswersIn db x.op x.reply) h.first h.second (subst Answered h.parts answered)) (rows_held read.range h.first h.came h.held)
-        (keys_have db shapes read.range.table fit) whole in
+        (keys_have db shapes read.range.table fit) (told_one (key_width (shape_of read.range.table shapes)) read.range.start read.range.stop) in
         let same : h.came ≡ map (λ (at : Entry). at.1) came.0 = came.2 ∙ ap (map (λ (at : Entry). at.1)) (all_kept db shapes read.range.table fit came.0 (stand read.range came.0 came.1)) in
         (came.0, came.1, ap (judge read) (sym same) ∙ not_broken read (judge read h.came) h.second h.more)
       where
@@ -106,15 +109,14 @@ module _ (manner : Manner) (shapes : List TableTree) where
             more_of [] all = tt
             more_of (x ∷ xs) all = (all.0.1, more_of xs all.1)
 
-    pub all_passed : (reads : List CheckRead) (part : List Exchange) → AllByRecursion (λ read. AllFit db shapes read.range.table) reads → AllByRecursion (λ read. IsReadable shapes read.range) reads
-        → Answered part → Held manner (checks_all shapes reads) part (Ok tt) → AllByRecursion (Passes db) reads
+    pub all_passed : (reads : List CheckRead) (part : List Exchange) → AllByRecursion (λ read. AllFit db shapes read.range.table) reads → Answered part → Held manner (checks_all shapes reads) part (Ok tt) → AllByRecursion (Passes db) reads
     unfolding checks_all
-    all_passed [] part fit whole answered held = tt
-    all_passed (read ∷ reads) part fit whole answered held =
+    all_passed [] part fit answered held = tt
+    all_passed (read ∷ reads) part fit answered held =
         let h = held_ok manner (checks_one shapes read) (λ done. checks_all shapes reads) part tt held in
         let answered : Answered (h.first ++ h.second) = subst Answered h.parts answered in (
-          passed read h.first fit.0 whole.0 (all_left (λ (x : Exchange). AnswersIn db x.op x.reply) h.first h.second answered) h.held,
-          all_passed reads h.second fit.1 whole.1 (all_right (λ (x : Exchange). AnswersIn db x.op x.reply) h.first h.second answered) h.more,
+          passed read h.first fit.0 (all_left (λ (x : Exchange). AnswersIn db x.op x.reply) h.first h.second answered) h.held,
+          all_passed reads h.second fit.1 (all_right (λ (x : Exchange). AnswersIn db x.op x.reply) h.first h.second answered) h.more,
         )
 
 -- ---- what is asked
@@ -126,7 +128,7 @@ module _ (shapes : List TableTree) where
 
   rows_fetches : (range : KeyRange) → Fetches (rows_checked shapes range)
   unfolding rows_checked
-  rows_fetches range = asks_room HoldsIt no_room (reads_of shapes range then halted) (asks_then HoldsIt (reads_of shapes range) halted (in_fetches range.table range.stop S (shape_of range.table shapes) (is_one_key range.start) range.start) halted_fetches)
+  rows_fetches range = asks_room HoldsIt no_room (reads_of shapes range then halted) (asks_then HoldsIt (reads_of shapes range) halted (in_fetches range.table range.stop S (shape_of range.table shapes) (is_one shapes range) range.start) halted_fetches)
 
   broken_fetches : (read : CheckRead) (error : Option ℤ) → Fetches (broken_by read error)
   broken_fetches read None = tt
@@ -142,6 +144,6 @@ module _ (shapes : List TableTree) where
   all_fetches (read ∷ reads) = asks_ok HoldsIt (checks_one shapes read) (λ done. checks_all shapes reads) (one_fetches read) (λ done. all_fetches reads)
 
 pub checks_read : ChecksRead
-checks_read log mine before part later manner shapes reads is holds held fit whole =
-    all_passed manner shapes (at_place log before later) (one_place log before later) reads part fit whole
+checks_read log mine before part later manner shapes reads is holds held fit =
+    all_passed manner shapes (at_place log before later) (one_place log before later) reads part fit
     (answers log mine before part later is holds (all_asked HoldsIt manner (checks_all shapes reads) part (Ok tt) (all_fetches shapes reads) held)) held

@@ -39,9 +39,9 @@ use Rattle.statement_paths.specs.Asked.{AskOnly, IsFetch}
 use Rattle.write_laws.specs.Reads.{StoodThere}
 use Rattle.write_laws.proofs.Dialogs.{ok_err}
 use Rattle.write_laws.proofs.Entries.{Entry}
-use Rattle.write_laws.proofs.Images.{fetch_asks, from_asks}
+use Rattle.write_laws.proofs.Images.{in_asks}
 use Rattle.write_laws.proofs.Keys.{behind_above, past_above}
-use Rattle.write_laws.proofs.Parts.{AsksOnly, all_asked, asks_ok, fetch_own}
+use Rattle.write_laws.proofs.Parts.{all_asked, fetch_own}
 use Rattle.write_laws.proofs.Ranges.{kept}
 
 -- each exchange is answered of what the commits before its number left
@@ -178,11 +178,6 @@ seen_in : (log : List Logged) (before : List Exchange) (manner : Manner) (shape 
 unfolding rows_in
 seen_in log before manner shape false range hold lock rows part answered held = seen_from log before manner (key_width shape) (fits shape) range.table range.stop hold lock range_limit range.start [] rows part answered held
 seen_in log before manner shape true range hold lock rows part answered held = seen_one log before manner (key_width shape) (fits shape) range.table range.stop hold lock range.start rows part answered held
-
-in_asks : (shape : Option TableTree) (one : Bool) (op : Op) → AsksOnly IsFetch (rows_in shape one op)
-unfolding rows_in
-in_asks shape true op = asks_ok IsFetch (fetches (key_width shape) (fits shape) op []) (λ came. over (Ok came.0)) (fetch_asks (key_width shape) (fits shape) op []) (λ came. tt)
-in_asks shape false op = from_asks (key_width shape) (fits shape) range_limit op []
 
 pub rows_current : RowsCurrent
 rows_current log mine before part later manner shape one range hold lock rows is each held =

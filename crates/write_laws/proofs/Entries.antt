@@ -1,5 +1,5 @@
 -- The rows of a range, from its first fetch and those behind it.
-use Rattle.std.proofs.Common.{◌≡◌, ℕ, Bool, true, false, ◌||◌, List, [], ◌∷◌, length, Option, None, Some, is_some, IsTrue, refl, sym, ap, ◌∙◌}
+use Rattle.std.proofs.Common.{◌≡◌, ℕ, Bool, true, false, ◌&&◌, ◌||◌, List, [], ◌∷◌, length, Option, None, Some, is_some, IsTrue, refl, sym, ap, ◌∙◌}
 use Rattle.std.specs.Prelude.{IsSome}
 use Rattle.std.specs.List.{AllByRecursion, list_any}
 use Rattle.std.specs.List.Sorted.{IsStrictlySortedBy}
@@ -21,7 +21,7 @@ use Rattle.history_laws.proofs.Basics.{both}
 use Rattle.history_laws.proofs.Ranges.{allows_above}
 use Rattle.dml_exec.specs.Reading.{behind_gone}
 use Rattle.write_laws.specs.Reads.{KeysHave}
-use Rattle.write_laws.proofs.Keys.{above_behind, above_past, behind_above, not_below, one_key, past_above, tied_both}
+use Rattle.write_laws.proofs.Keys.{above_behind, above_past, behind_above, not_below, one_key, past_above, tied_both, tied_end}
 
 abbrev pub Entry : Type 0
 Entry = List Value × List Value
@@ -135,3 +135,22 @@ module _ (db : Database) (table : TableName) where
         by_order k within some Less is = absurd (none_some (db table k) (below k (both (allows (At first) k) (includes (Within first) k) within).0 is) some)
         by_order k within some Equal is = absurd (none_some (db table k) (one table k key (ap is_eq is) ∙ gone) some)
         by_order k within some Greater is = absurd (not_below first k key (is_first k within some) is allowed)
+
+  -- ---- ranges that stop at keys that tie
+
+  module _ (start : Start) (first last : List Value) (tied : key_cmp first last ≡ Equal) where
+    within_tied : (k : List Value) → is_within start (Within last) k ≡ is_within start (Within first) k
+    within_tied k = ap (λ (b : Bool). allows start k && b) (tied_end first last k tied)
+
+    -- what the one has, the other has
+    pub first_tied : (lowest : Option (List Value)) → First db table start (Within last) lowest → First db table start (Within first) lowest
+    first_tied None none = λ k within. none k (within_tied k ∙ within)
+    first_tied (Some lowest) found = (sym (within_tied lowest) ∙ found.0, found.1, λ k within below. found.2 k (within_tied k ∙ within) below)
+
+    pub in_tied : (entries : List Entry) → In db table start (Within first) entries → In db table start (Within last) entries
+    in_tied entries is = record {
+      sorted = is.sorted;
+      rows_of_range = All-from_recursion (Inside start (Within last)) entries
+          (all_more (Inside start (Within first)) (Inside start (Within last)) (λ at inside. (within_tied at.0 ∙ inside.0, inside.1)) entries (recursion_from_All (Inside start (Within first)) entries is.rows_of_range));
+      whole = λ k within some. is.whole k (sym (within_tied k) ∙ within) some;
+    }

@@ -1,14 +1,12 @@
 -- Images.
-use Rattle.std.proofs.Common.{◌≡◌, ℕ, zero, suc, false, List, [], ◌∷◌, ◌++◌, Option, None, Some, Result, Ok, refl, sym, subst, ◌∙◌, append-nil, append_assoc}
+use Rattle.std.proofs.Common.{◌≡◌, ℕ, zero, suc, Bool, true, false, List, [], ◌∷◌, ◌++◌, Option, None, Some, Result, Ok, refl, sym, subst, ◌∙◌, append-nil, append_assoc}
 use Rattle.std.specs.List.{AllByRecursion}
 use Rattle.tsql_tree.specs.declared.definition.TableTree.{TableTree}
 use Rattle.step_model.specs.declared.manner.Manner.{Manner}
-use Rattle.step_model.specs.declared.op.Hold.TheVariants.{Range}
 use Rattle.step_model.specs.declared.op.Op.{Op}
 use Rattle.step_model.specs.declared.op.Op.TheVariants.{Fetch}
 use Rattle.step_model.specs.declared.range.Start.{Start}
-use Rattle.step_model.specs.declared.range.Start.TheVariants.{First, Past}
-use Rattle.step_model.specs.declared.range.Stop.TheVariants.{Last}
+use Rattle.step_model.specs.declared.range.Start.TheVariants.{Past}
 use Rattle.step_model.specs.declared.reply.Reply.{Reply}
 use Rattle.step_model.specs.declared.reply.Reply.TheVariants.{Row, Gone, End, Memory as NoMemory, TimedOut as Refuses, Victim as Falls}
 use Rattle.step_model.specs.Database.{Database}
@@ -24,13 +22,13 @@ use Rattle.dml_exec.specs.declared.refusal.Level.TheVariants.{Serializable}
 use Rattle.dml_exec.specs.declared.refusal.Refusal.{Refusal}
 use Rattle.dml_exec.specs.declared.refusal.Refusal.TheVariants.{Memory}
 use Rattle.dml_exec.specs.Asking.{with_room}
-use Rattle.dml_exec.specs.Reading.{GivenRows, TableRead, behind_gone, fetches, fits, from, images_from, images_of, is_short, key_width, part_of, read_by, reads_of, reads_on, reads_table, rows_from, rows_in, table_fetch, unless_given}
+use Rattle.dml_exec.specs.Reading.{GivenRows, TableRead, behind_gone, fetches, fits, from, images_from, images_of, is_one_key, is_short, key_width, part_of, read_by, reads_of, reads_on, reads_range, reads_table, rows_from, rows_in, table_fetch, unless_given}
 use Rattle.write_laws.specs.Reading.{ImagesFetch, ImagesRead}
 use Rattle.statement_paths.specs.Asked.{IsFetch}
-use Rattle.write_laws.specs.Reads.{at_place, key_size, AreImages, HoldsIt, IfFetched, IsImageOf, KeysHave, whole_table}
+use Rattle.write_laws.specs.Reads.{at_place, key_size, AreImages, HoldsIt, IfFetched, IsImageOf, KeysHave}
 use Rattle.write_laws.proofs.Dialogs.{held_ok, held_room}
 use Rattle.write_laws.proofs.Parts.{AsksOnly, all_asked, answers, asks_ok, asks_room, asks_room_if, one_place}
-use Rattle.write_laws.proofs.Ranges.{in_fetches, read_in}
+use Rattle.write_laws.proofs.Ranges.{in_fetches, read_in, told_one}
 
 -- ---- what is asked
 
@@ -58,15 +56,25 @@ from_asks width keeps (suc left) op so_far =
     on_came rest (more, None) = tt
     on_came rest (more, Some on) = rest on more
 
+-- of one whole key, too
+pub in_asks : (shape : Option TableTree) (one : Bool) (op : Op) → AsksOnly IsFetch (rows_in shape one op)
+unfolding rows_in
+in_asks shape true op = asks_ok IsFetch (fetches (key_width shape) (fits shape) op []) (λ came. over (Ok came.0)) (fetch_asks (key_width shape) (fits shape) op []) (λ came. tt)
+in_asks shape false op = from_asks (key_width shape) (fits shape) range_limit op []
+
 -- of what is given nothing is
 unless_asks : (P : Op → Type 0) (given : Option Rows) (fetched : Dialog (Result Rows Refusal)) → AsksOnly P fetched → AsksOnly P (unless_given given fetched)
 unless_asks P None fetched only = only
 unless_asks P (Some rows) fetched only = asks_room P Memory (over (Ok rows)) tt
 
+-- a range is read as one whole key
+abbrev is_one : List TableTree → TableRead → Bool
+is_one shapes read = is_one_key (key_width (shape_of read.0.table shapes)) read.0.start read.0.stop
+
 table_asks : (given : GivenRows) (shapes : List TableTree) (level : Level) (read : TableRead) → AsksOnly IsFetch (reads_table given shapes level read)
-unfolding reads_table rows_in
+unfolding reads_table
 table_asks given shapes level read =
-    unless_asks IsFetch (given read.0) (rows_in (shape_of read.0 shapes) false (table_fetch level read)) (from_asks (key_width (shape_of read.0 shapes)) (fits (shape_of read.0 shapes)) range_limit (table_fetch level read) [])
+    unless_asks IsFetch (given read.0.table) (reads_range (shape_of read.0.table shapes) level read) (in_asks (shape_of read.0.table shapes) (is_one shapes read) (table_fetch level read))
 
 from_images_asks : (given : GivenRows) (shapes : List TableTree) (level : Level) (reads : List TableRead) (images : List Rows) → AsksOnly IsFetch (images_from given shapes level images reads)
 unfolding images_from
@@ -77,17 +85,17 @@ from_images_asks given shapes level (read ∷ reads) images =
 
 pub images_fetch : ImagesFetch
 unfolding images_of
-images_fetch manner given shapes level of part result held =
-    all_asked IsFetch manner (images_of given shapes level of) part result (asks_room IsFetch Memory (images_from given shapes level [] (reads_of of)) (from_images_asks given shapes level (reads_of of) [])) held
+images_fetch manner given shapes level vars of part result held =
+    all_asked IsFetch manner (images_of given shapes level vars of) part result (asks_room IsFetch Memory (images_from given shapes level [] (reads_of vars shapes of)) (from_images_asks given shapes level (reads_of vars shapes of) [])) held
 
 -- ---- at the highest level
 
 abbrev top : List TableTree → TableRead → Dialog (Result Rows Refusal)
-top shapes read = rows_in (shape_of read.0 shapes) false (Fetch read.0 First Last Range (part_of read.1))
+top shapes read = reads_range (shape_of read.0.table shapes) Serializable read
 
 table_top : (given : GivenRows) (shapes : List TableTree) (read : TableRead) → AsksOnly HoldsIt (reads_table given shapes Serializable read)
 unfolding reads_table
-table_top given shapes read = unless_asks HoldsIt (given read.0) (top shapes read) (in_fetches read.0 Last (part_of read.1) (shape_of read.0 shapes) false First)
+table_top given shapes read = unless_asks HoldsIt (given read.0.table) (top shapes read) (in_fetches read.0.table read.0.stop (part_of read.1) (shape_of read.0.table shapes) (is_one shapes read) read.0.start)
 
 from_top : (given : GivenRows) (shapes : List TableTree) (reads : List TableRead) (images : List Rows) → AsksOnly HoldsIt (images_from given shapes Serializable images reads)
 unfolding images_from
@@ -101,29 +109,31 @@ module _ (db : Database) (one : KeysAreOne db) (manner : Manner) (given : GivenR
   Answered part = AllByRecursion (λ x. AnswersIn db x.op x.reply) part
 
   -- one of them
-  image_read : (rows_given : Option Rows) (read : TableRead) (rows : Rows) (part : List Exchange) → IfFetched rows_given (KeysHave (key_size shapes read.0) db read.0) → Answered part
+  image_read : (rows_given : Option Rows) (read : TableRead) (rows : Rows) (part : List Exchange) → IfFetched rows_given (KeysHave (key_size shapes read.0.table) db read.0.table) → Answered part
       → Held manner (unless_given rows_given (top shapes read)) part (Ok rows) → IsImageOf rows_given db shapes read.0 rows
   unfolding Held
-  image_read None read rows part long answered held = read_in db one manner (shape_of read.0 shapes) false (whole_table read.0) (part_of read.1) rows part answered held long tt
+  image_read None read rows part long answered held =
+      read_in db one manner (shape_of read.0.table shapes) (is_one shapes read) read.0 (part_of read.1) rows part answered held long (told_one (key_width (shape_of read.0.table shapes)) read.0.start read.0.stop)
   image_read (Some found) read rows part long answered held = let over_so = held_room manner Memory (over (Ok found)) part rows held in cc
 
   -- behind those that were read so far
-  images_behind : (reads : List TableRead) (so_far images : List Rows) (part : List Exchange) → AllByRecursion (λ read. IfFetched (given read.0) (KeysHave (key_size shapes read.0) db read.0)) reads → Answered part
+  images_behind : (reads : List TableRead) (so_far images : List Rows) (part : List Exchange) → AllByRecursion (λ read. IfFetched (given read.0.table) (KeysHave (key_size shapes read.0.table) db read.0.table)) reads → Answered part
       → Held manner (images_from given shapes Serializable so_far reads) part (Ok images) → (rest : List Rows) × (images ≡ so_far ++ rest) × AreImages given db shapes reads rest
   unfolding Held images_from reads_table
   images_behind [] so_far images part long answered held = ([], (let is : images ≡ so_far = cc in is) ∙ sym (append-nil so_far), refl)
   images_behind (read ∷ reads) so_far images part long answered held =
-      let h = held_ok manner (unless_given (given read.0) (top shapes read)) (λ rows. with_room Memory (images_from given shapes Serializable (so_far ++ rows ∷ []) reads)) part images held in
+      let h = held_ok manner (unless_given (given read.0.table) (top shapes read)) (λ rows. with_room Memory (images_from given shapes Serializable (so_far ++ rows ∷ []) reads)) part images held in
       let answered : Answered (h.first ++ h.second) = subst Answered h.parts answered in
-      let here = image_read (given read.0) read h.came h.first long.0 (all_left (λ (x : Exchange). AnswersIn db x.op x.reply) h.first h.second answered) h.held in
+      let here = image_read (given read.0.table) read h.came h.first long.0 (all_left (λ (x : Exchange). AnswersIn db x.op x.reply) h.first h.second answered) h.held in
       let more = images_behind reads (so_far ++ h.came ∷ []) images h.second long.1 (all_right (λ (x : Exchange). AnswersIn db x.op x.reply) h.first h.second answered)
       (held_room manner Memory (images_from given shapes Serializable (so_far ++ h.came ∷ []) reads) h.second images h.more) in
       (h.came ∷ more.0, more.1 ∙ append_assoc so_far (h.came ∷ []) more.0, (h.came, more.0, refl, here, more.2))
 
 pub images_read : ImagesRead
 unfolding images_of
-images_read log mine before part later manner given shapes of images is holds held long =
-    let asked = held_room manner Memory (images_from given shapes Serializable [] (reads_of of)) part images held in
-    let came = images_behind (at_place log before later) (one_place log before later) manner given shapes (reads_of of) [] images part long
-    (answers log mine before part later is holds (all_asked HoldsIt manner (images_from given shapes Serializable [] (reads_of of)) part (Ok images) (from_top given shapes (reads_of of) []) asked)) asked in
-    subst (AreImages given (at_place log before later) shapes (reads_of of)) (sym came.1) came.2
+images_read log mine before part later manner given shapes vars of images is holds held long =
+    let reads = reads_of vars shapes of in
+    let asked = held_room manner Memory (images_from given shapes Serializable [] reads) part images held in
+    let came = images_behind (at_place log before later) (one_place log before later) manner given shapes reads [] images part long
+    (answers log mine before part later is holds (all_asked HoldsIt manner (images_from given shapes Serializable [] reads) part (Ok images) (from_top given shapes reads []) asked)) asked in
+    subst (AreImages given (at_place log before later) shapes reads) (sym came.1) came.2

@@ -128,3 +128,9 @@ tied_long (x ∷ a) (y ∷ b) tied = by_order (value_order x y) tied (tied_long 
     by_order Less tied rest = cc
     by_order Equal tied rest = let long : length a ≡ length b = rest tied in omega (arith, long)
     by_order Greater tied rest = cc
+
+-- a range stops at a key as at one that ties with it
+pub tied_end : (first last k : List Value) → key_cmp first last ≡ Equal → includes (Within last) k ≡ includes (Within first) k
+tied_end first last k tied =
+    ap (λ (n : ℕ). not (is_gt (key_cmp (take n k) last))) (sym (tied_long first last tied))
+    ∙ ap (λ (o : Ordering). not (is_gt o)) (sym (alike_right key_cmp_total first last (take (length first) k) tied))

@@ -11,11 +11,12 @@ pub mod Entries  -- the rows of a range, from its first fetch and those behind i
 pub mod Dialogs  -- a dialog that came to something, taken apart
 pub mod Parts  -- all exchanges of a range read one database
 pub mod Ranges  -- the rows of a range
+pub mod Ranged  -- the rows of a range among those of the table
 pub mod Walks  -- rows that were found one fetch behind another, and one whole key
 pub mod Images  -- images
 pub mod Currents  -- the rows of a range that was not held
 pub mod Checks  -- reads that gave no error
-pub mod Tables  -- what is read for changes is of tables that are there, and of whole keys
+pub mod Tables  -- what is read for changes is of tables that are there
 pub mod Writes  -- changes that were made and checked
 pub mod Nets  -- what writes come to
 pub mod Firsts  -- keys at which writes first insert

@@ -1,10 +1,14 @@
 -- The rows of a range.
-use Rattle.std.proofs.Common.{◌≡◌, ℕ, zero, suc, Bool, true, false, if◌then◌else◌, cond, List, [], ◌∷◌, ◌++◌, length, map, filter, Option, None, Some, Result, Ok, Err, refl, sym, subst, ◌∙◌, append-nil, append_assoc}
+use Rattle.std.proofs.Common.{◌≡◌, ℕ, zero, suc, nat_eq, Bool, true, false, ◌&&◌, if◌then◌else◌, cond, List, [], ◌∷◌, ◌++◌, length, map, filter, Option, None, Some, Result, Ok, Err, refl, sym, subst, ◌∙◌, append-nil, append_assoc}
 use Rattle.std.specs.Prelude.{IsSome}
+use Rattle.std.proofs.lemmas.Bool.{eqb-true}
 use Rattle.std.specs.List.{AllByRecursion}
+use Rattle.std.specs.Cmp.{Equal-is}
+use Rattle.std.specs.declared.cmp.Ordering.TheVariants.{Equal}
 use Rattle.lock_modes.specs.declared.KeyPart.{KeyPart}
 use Rattle.value_types.specs.declared.table_name.TableName.{TableName}
 use Rattle.value_types.specs.declared.value.Value.{Value}
+use Rattle.value_types.specs.Order.{key_cmp}
 use Rattle.tsql_tree.specs.declared.definition.TableTree.{TableTree}
 use Rattle.step_model.specs.declared.manner.Manner.{Manner}
 use Rattle.step_model.specs.declared.op.Hold.TheVariants.{Range}
@@ -12,9 +16,9 @@ use Rattle.step_model.specs.declared.op.Op.{Op}
 use Rattle.step_model.specs.declared.op.Op.TheVariants.{Fetch}
 use Rattle.step_model.specs.declared.range.KeyRange.{KeyRange}
 use Rattle.step_model.specs.declared.range.Start.{Start}
-use Rattle.step_model.specs.declared.range.Start.TheVariants.{At, Past}
+use Rattle.step_model.specs.declared.range.Start.TheVariants.{First, At, Past}
 use Rattle.step_model.specs.declared.range.Stop.{Stop}
-use Rattle.step_model.specs.declared.range.Stop.TheVariants.{Within}
+use Rattle.step_model.specs.declared.range.Stop.TheVariants.{Last, Within}
 use Rattle.step_model.specs.declared.reply.Reply.{Reply}
 use Rattle.step_model.specs.declared.reply.Reply.TheVariants.{Row, Gone, End, Memory as NoMemory, TimedOut as Refuses, Victim as Falls}
 use Rattle.step_model.specs.Database.{Database, In, allows, includes}
@@ -22,15 +26,16 @@ use Rattle.step_model.specs.Dialog.{Dialog, over, ◌then◌, Held}
 use Rattle.step_model.specs.Exchange.{Exchange, CanReply}
 use Rattle.step_model.specs.Fits.{AnswersIn}
 use Rattle.step_model.specs.Ranges.{Keeps, Rows, range_limit, with_row}
+use Rattle.table_rows.specs.Rows.{same_key}
 use Rattle.constraint_check.specs.Laws.{KeysAreOne}
 use Rattle.history_laws.proofs.Basics.{both}
 use Rattle.dml_exec.specs.declared.refusal.Refusal.{Refusal}
 use Rattle.dml_exec.specs.declared.refusal.Refusal.TheVariants.{Memory, Limit, TimedOut, Victim}
 use Rattle.dml_exec.specs.Asking.{on_ok, with_room_if}
-use Rattle.dml_exec.specs.Reading.{behind_gone, fetch_of, fetches, fits, from, is_short, key_width, read_by, reads_on, rows_from, rows_in}
+use Rattle.dml_exec.specs.Reading.{behind_gone, fetch_of, fetches, fits, from, is_one_key, is_short, key_width, read_by, reads_on, rows_from, rows_in}
 use Rattle.write_laws.specs.Reading.{RangeRead}
 use Rattle.write_laws.specs.Reads.{at_place, IfOne, IsOneKey, IsRead, KeysHave, HoldsIt}
-use Rattle.write_laws.proofs.Entries.{Entry, none_in, row_on, gone_on, one_row_in, one_gone_in}
+use Rattle.write_laws.proofs.Entries.{Entry, none_in, row_on, gone_on, one_row_in, one_gone_in, first_tied, in_tied}
 use Rattle.write_laws.proofs.Parts.{Fetches, all_asked, answers, asks_ok, asks_room, asks_room_if, one_place}
 
 -- ---- what is asked
@@ -124,15 +129,15 @@ module _ (db : Database) (one_key : KeysAreOne db) (manner : Manner) (width : �
 
 -- ---- one whole key
 
-module _ (db : Database) (one_key : KeysAreOne db) (manner : Manner) (shape : Option TableTree) (table : TableName) (lock : KeyPart) (long : KeysHave (key_width shape) db table) (first : List Value) (is_long : length first ≡ key_width shape) where
+module _ (db : Database) (one_key : KeysAreOne db) (manner : Manner) (shape : Option TableTree) (table : TableName) (lock : KeyPart) (long : KeysHave (key_width shape) db table) (first last : List Value) (is_long : length first ≡ key_width shape) (tied : key_cmp first last ≡ Equal) where
   abbrev one_fetch : Op
-  one_fetch = fetch table (Within first) lock (At first)
+  one_fetch = fetch table (Within last) lock (At first)
 
   abbrev keeps : Keeps
   keeps = fits shape
 
   abbrev IsReadAt : Rows → Type 0
-  IsReadAt rows = (entries : List Entry) × In db table (At first) (Within first) entries × (rows ≡ map (λ (at : Entry). at.1) (filter keeps entries))
+  IsReadAt rows = (entries : List Entry) × In db table (At first) (Within last) entries × (rows ≡ map (λ (at : Entry). at.1) (filter keeps entries))
 
   as_long : (k : List Value) → IsSome (db table k) → length k ≡ length first
   as_long k some = long k some ∙ sym is_long
@@ -146,12 +151,12 @@ module _ (db : Database) (one_key : KeysAreOne db) (manner : Manner) (shape : Op
     where
       by_room : (enough : Bool) → Held manner ((if enough then over (Ok (with_row keeps [] key row, Some (Past key))) else over (Err Memory)) then on_ok came_rows) later (Ok rows) → IsReadAt rows
       by_room true held =
-          ((key, row) ∷ [], one_row_in db table first as_long key row answer.0 answer.1, (let is : rows ≡ with_row keeps [] key row = cc in is) ∙ sym (append-nil (with_row keeps [] key row)) ∙ kept (keeps (key, row)) [] key row [])
+          ((key, row) ∷ [], in_tied db table (At first) first last tied ((key, row) ∷ []) (one_row_in db table first as_long key row (first_tied db table (At first) first last tied (Some key) answer.0) answer.1), (let is : rows ≡ with_row keeps [] key row = cc in is) ∙ sym (append-nil (with_row keeps [] key row)) ∙ kept (keeps (key, row)) [] key row [])
       by_room false held = absurd (let no : Ok rows ≡ Err Memory = held.1 in cc)
   on_one rows (Gone key at) later can answer held = by_room (is_short (key_width shape) key) held
     where
       going : rows ≡ [] → IsReadAt rows
-      going is = ([], one_gone_in db table first as_long one_key key (both (allows (At first) key) (includes (Within first) key) can).0 answer.0 answer.1, is)
+      going is = ([], in_tied db table (At first) first last tied [] (one_gone_in db table first as_long one_key key (both (allows (At first) key) (includes (Within last) key) can).0 answer.0 answer.1), is)
 
       by_enough : (enough : Bool) → Held manner ((if enough then over (Ok ([], Some (behind_gone (key_width shape) key))) else over (Err Memory)) then on_ok came_rows) later (Ok rows) → IsReadAt rows
       by_enough true held = going (let is : rows ≡ [] = cc in is)
@@ -160,7 +165,7 @@ module _ (db : Database) (one_key : KeysAreOne db) (manner : Manner) (shape : Op
       by_room : (short : Bool) → Held manner (with_room_if short Memory (over (Ok ([], Some (behind_gone (key_width shape) key)))) then on_ok came_rows) later (Ok rows) → IsReadAt rows
       by_room true held = by_enough held.0 held.1
       by_room false held = going (let is : rows ≡ [] = cc in is)
-  on_one rows (End at) later can answer held = ([], none_in db table (At first) (Within first) answer, (let is : rows ≡ [] = cc in is))
+  on_one rows (End at) later can answer held = ([], none_in db table (At first) (Within last) answer, (let is : rows ≡ [] = cc in is))
   on_one rows NoMemory later can answer held = absurd (let no : Ok rows ≡ Err Memory = held.1 in cc)
   on_one rows (Refuses holder what asked on) later can answer held = absurd (let no : Ok rows ≡ Err TimedOut = held.1 in cc)
   on_one rows (Falls cycle) later can answer held = absurd (let no : Ok rows ≡ Err Victim = held.1 in cc)
@@ -173,6 +178,17 @@ module _ (db : Database) (one_key : KeysAreOne db) (manner : Manner) (shape : Op
 
 -- ---- both
 
+-- a range that is read so is one whole key
+pub told_one : (width : ℕ) (start : Start) (stop : Stop) → IfOne (is_one_key width start stop) (IsOneKey width start stop)
+told_one width First stop = tt
+told_one width (At key) Last = tt
+told_one width (At key) (Within last) = by_test (nat_eq (length key) width && same_key key last) refl
+  where
+    by_test : (b : Bool) → (nat_eq (length key) width && same_key key last) ≡ b → IfOne b (IsOneKey width (At key) (Within last))
+    by_test true is = let parts = both (nat_eq (length key) width) (same_key key last) is in (parts.1, eqb-true (length key) width parts.0)
+    by_test false is = tt
+told_one width (Past key) stop = tt
+
 -- what is answered of one database is read of it
 pub read_in : (db : Database) → KeysAreOne db → (manner : Manner) (shape : Option TableTree) (one : Bool) (range : KeyRange) (lock : KeyPart) (rows : Rows) (part : List Exchange)
     → AllByRecursion (λ x. AnswersIn db x.op x.reply) part → Held manner (rows_in shape one (fetch_of range Range lock)) part (Ok rows)
@@ -183,9 +199,7 @@ read_in db one_key manner shape true range lock rows part answered held long who
   where
     by_ends : (start : Start) (stop : Stop) → IsOneKey (key_width shape) start stop → Held manner (rows_in shape true (Fetch range.table start stop Range lock)) part (Ok rows)
         → (entries : List Entry) × In db range.table start stop entries × (rows ≡ map (λ (at : Entry). at.1) (filter (fits shape) entries))
-    by_ends (At key) (Within last) whole held =
-        subst (λ (end : List Value). Held manner (rows_in shape true (Fetch range.table (At key) (Within end) Range lock)) part (Ok rows) → (entries : List Entry) × In db range.table (At key) (Within end) entries × (rows ≡ map (λ (at : Entry). at.1) (filter (fits shape) entries)))
-        (sym whole.0) (read_one db one_key manner shape range.table lock long key whole.1 rows part answered) held
+    by_ends (At key) (Within last) whole held = read_one db one_key manner shape range.table lock long key last whole.1 ((Equal-is (key_cmp key last)).0 whole.0) rows part answered held
     by_ends start stop whole held = absurd whole
 
 pub range_read : RangeRead

@@ -1,8 +1,7 @@
--- What is read for changes is of tables that are there, and of whole keys.
-use Rattle.std.proofs.Common.{◌≡◌, ℕ, Bool, true, false, if◌then◌else◌, nat_eq, List, [], ◌∷◌, ◌++◌, length, map, filter, Option, None, Some, IsTrue, refl, ap, subst, ◌∙◌}
+-- What is read for changes is of tables that are there.
+use Rattle.std.proofs.Common.{◌≡◌, ℕ, Bool, true, false, if◌then◌else◌, nat_eq, List, [], ◌∷◌, ◌++◌, map, filter, Option, None, Some, IsTrue, refl, ap, subst}
 use Rattle.std.specs.Prelude.{IsSome}
 use Rattle.std.specs.List.{AllByRecursion, flat_map, list_any}
-use Rattle.std.proofs.lemmas.List.{length-map}
 use Rattle.std.proofs.lemmas.Bool.{eqb-true}
 use Rattle.value_types.specs.Units.{same_units}
 use Rattle.value_types.specs.declared.table_name.TableName.{TableName}
@@ -10,9 +9,7 @@ use Rattle.value_types.specs.declared.value.Value.{Value}
 use Rattle.tsql_tree.specs.declared.definition.ForeignTree.{ForeignTree}
 use Rattle.tsql_tree.specs.declared.definition.TableTree.{TableTree}
 use Rattle.bound_tree.specs.Meaning.{is_null}
-use Rattle.bound_tree.specs.Setting.{value_at}
 use Rattle.step_model.specs.declared.change.Planned.{Planned}
-use Rattle.step_model.specs.declared.range.KeyRange.{KeyRange}
 use Rattle.step_model.specs.declared.range.Start.TheVariants.{At}
 use Rattle.step_model.specs.declared.range.Stop.TheVariants.{Within}
 use Rattle.step_model.specs.Database.{Database}
@@ -26,7 +23,7 @@ use Rattle.history_laws.proofs.Basics.{both}
 use Rattle.history_laws.proofs.Splits.{all_both}
 use Rattle.dml_exec.specs.Reading.{fits}
 use Rattle.write_laws.specs.Reading.{ReadsReady}
-use Rattle.write_laws.specs.Reads.{key_size, AllFit, HasParent, HaveParents, IsReadable, RowsFit}
+use Rattle.write_laws.specs.Reads.{AllFit, HasParent, HaveParents, RowsFit}
 
 -- ---- shapes by their names
 
@@ -100,11 +97,8 @@ all_each P (x ∷ xs) all = (all x, all_each P xs all)
 -- ---- the reads
 
 module _ (shapes : List TableTree) (parents : HaveParents shapes) where
-  abbrev IsGood : KeyRange → Type 0
-  IsGood range = IsThere shapes range.table × IsReadable shapes range
-
   abbrev pub IsGoodRead : CheckRead → Type 0
-  IsGoodRead read = IsGood read.range
+  IsGoodRead read = IsThere shapes read.range.table
 
   -- the shape of a table and a row, where there are both
   of_good : (reads : TableTree → List Value → List CheckRead) → ((shape : TableTree) (table : TableName) → shape_of table shapes ≡ Some shape → (row : List Value) → AllByRecursion IsGoodRead (reads shape row))
@@ -117,27 +111,27 @@ module _ (shapes : List TableTree) (parents : HaveParents shapes) where
       by_both (Some shape) is (Some row) = good shape change.table is row
 
   unique_good : (shape : TableTree) (table : TableName) → shape_of table shapes ≡ Some shape → (row : List Value) → AllByRecursion IsGoodRead (unique_reads shape row)
-  unique_good shape table is row = all_map_of IsGoodRead (unique_read shape row) shape.uniques (λ key. (of_shape (λ of. IsThere shapes (rows_table of.name)) table shapes shape is (all_there shapes), tt))
+  unique_good shape table is row = all_map_of IsGoodRead (unique_read shape row) shape.uniques (λ key. of_shape (λ of. IsThere shapes (rows_table of.name)) table shapes shape is (all_there shapes))
 
-  row_good : (name : List ℕ) (values : List Value) → IsThere shapes (rows_table name) → length values ≡ key_size shapes (rows_table name) → IsGood (row_at name values)
-  row_good name values there long = by_test (is_key values)
+  row_good : (name : List ℕ) (values : List Value) → IsThere shapes (rows_table name) → IsThere shapes (row_at name values).table
+  row_good name values there = by_test (is_key values)
     where
-      by_test : (b : Bool) → IsGood (if b then record { table = rows_table name; start = At values; stop = Within values } else all_rows name)
-      by_test true = (there, (refl, long))
-      by_test false = (there, tt)
+      by_test : (b : Bool) → IsThere shapes (if b then (record { table = rows_table name; start = At values; stop = Within values }) else all_rows name).table
+      by_test true = there
+      by_test false = there
 
-  where_good : (foreign : ForeignTree) (values : List Value) → IsThere shapes (rows_table foreign.parent) → length values ≡ key_size shapes (rows_table foreign.parent) → AllByRecursion IsGoodRead (child_where shapes foreign values)
-  where_good foreign values there long = by_test (list_any is_null values)
+  where_good : (foreign : ForeignTree) (values : List Value) → IsThere shapes (rows_table foreign.parent) → AllByRecursion IsGoodRead (child_where shapes foreign values)
+  where_good foreign values there = by_test (list_any is_null values)
     where
       by_test : (b : Bool) → AllByRecursion IsGoodRead (if b then [] else child_read shapes foreign values ∷ [])
       by_test true = tt
-      by_test false = (row_good foreign.parent values there long, tt)
+      by_test false = (row_good foreign.parent values there, tt)
 
   child_good : (shape : TableTree) (table : TableName) → shape_of table shapes ≡ Some shape → (row : List Value) → AllByRecursion IsGoodRead (child_reads shapes shape row)
   child_good shape table is row =
       all_flat_of IsGoodRead (λ foreign. child_where shapes foreign (values_at (places_of shape foreign.columns) row)) shape.foreigns
       (all_more (HasParent shapes shape) (λ foreign. AllByRecursion IsGoodRead (child_where shapes foreign (values_at (places_of shape foreign.columns) row)))
-      (λ foreign has. where_good foreign (values_at (places_of shape foreign.columns) row) has.0 (length-map (places_of shape foreign.columns) (value_at row) ∙ has.1)) shape.foreigns
+      (λ foreign has. where_good foreign (values_at (places_of shape foreign.columns) row) has.0) shape.foreigns
       (of_shape (λ of. AllByRecursion (HasParent shapes of) of.foreigns) table shapes shape is parents))
 
   key_good : (changes : List Planned) (change : Planned) → AllByRecursion IsGoodRead (of_key shapes changes change)
@@ -147,7 +141,7 @@ module _ (shapes : List TableTree) (parents : HaveParents shapes) where
       by_test true =
           all_flat_of IsGoodRead (parent_reads_of change.table change.key) shapes
           (all_more (λ child. IsThere shapes (rows_table child.name)) (λ child. AllByRecursion IsGoodRead (parent_reads_of change.table change.key child))
-          (λ child there. all_map_of IsGoodRead (parent_read change.key child) (filter (λ foreign. same_units foreign.parent change.table.object) child.foreigns) (λ foreign. (there, tt))) shapes (all_there shapes))
+          (λ child there. all_map_of IsGoodRead (parent_read change.key child) (filter (λ foreign. same_units foreign.parent change.table.object) child.foreigns) (λ foreign. there)) shapes (all_there shapes))
       by_test false = tt
 
   pub all_good : (changes : List Planned) → AllByRecursion IsGoodRead (reads_for changes shapes)
@@ -160,8 +154,4 @@ module _ (shapes : List TableTree) (parents : HaveParents shapes) where
 
 pub reads_ready : ReadsReady
 reads_ready db shapes changes fit parents =
-    let reads = reads_for changes shapes in
-    let good = all_good shapes parents changes in (
-      all_more (IsGoodRead shapes parents) (λ read. AllFit db shapes read.range.table) (λ read h. fit_there db shapes fit read.range.table h.0) reads good,
-      all_more (IsGoodRead shapes parents) (λ read. IsReadable shapes read.range) (λ read h. h.1) reads good,
-    )
+    all_more (IsGoodRead shapes parents) (λ read. AllFit db shapes read.range.table) (λ read there. fit_there db shapes fit read.range.table there) (reads_for changes shapes) (all_good shapes parents changes)

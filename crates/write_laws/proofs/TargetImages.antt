@@ -23,7 +23,8 @@ use Rattle.dml_exec.specs.declared.refusal.Level.{Level}
 use Rattle.dml_exec.specs.declared.refusal.Refusal.{Refusal}
 use Rattle.dml_exec.specs.declared.refusal.Refusal.TheVariants.{Memory}
 use Rattle.dml_exec.specs.Asking.{on_ok, ◌>>=◌, with_room, with_room_if}
-use Rattle.dml_exec.specs.Reading.{GivenRows, TableRead, behind_gone, fetches, fits, from, images_from, images_of, inner_reads, is_short, key_width, read_by, reads_on, reads_table, rows_from, rows_in, table_fetch, unless_given}
+use Rattle.dml_exec.specs.Reading.{GivenRows, TableRead, behind_gone, fetches, fits, from, images_from, images_of, inner_reads, inner_tables, is_one_key, is_short, key_width, read_by, reads_on, reads_range, reads_table, rows_from, rows_in, table_fetch, target_read, unless_given}
+use Rattle.dml_exec.proofs.ReadTables.{inner_counted}
 use Rattle.write_laws.specs.Planning.{HaveColumns, RowsRead}
 use Rattle.write_laws.proofs.Changes.{all_both}
 
@@ -122,15 +123,21 @@ module _ (shape : TableTree) where
       comes_on (fetches width keeps fetch so_far) (reads_on (λ more start. rows_from width keeps left (from start fetch) more)) HaveSoFar Have (fetch_have width fetch so_far have)
       (behind_have (λ more start. rows_from width keeps left (from start fetch) more) (λ more start. range_have width left (from start fetch) more))
 
+  -- or of one whole key
+  in_have : (one : Bool) (fetch : Op) → Comes (rows_in (Some shape) one fetch) (IfWell Have)
+  unfolding rows_in
+  in_have true fetch = comes_on (fetches (key_width (Some shape)) keeps fetch []) (λ so_far. over (Ok so_far.0)) HaveSoFar Have (fetch_have (key_width (Some shape)) fetch [] tt) (λ so_far have. have)
+  in_have false fetch = range_have (key_width (Some shape)) range_limit fetch [] tt
+
   unless_have : (rows_given : Option Rows) (fetched : Dialog (Result Rows Refusal)) → ForSome rows_given Have → Comes fetched (IfWell Have) → Comes (unless_given rows_given fetched) (IfWell Have)
   unless_have None fetched have comes = comes
   unless_have (Some rows) fetched have comes = comes_room Memory (over (Ok rows)) Have (have rows refl)
 
-  module _ (given : GivenRows) (shapes : List TableTree) (level : Level) (target : TableRead) (known : shape_of target.0 shapes ≡ Some shape) (has : ForSome (given target.0) Have) where
+  module _ (given : GivenRows) (shapes : List TableTree) (level : Level) (target : TableRead) (known : shape_of target.0.table shapes ≡ Some shape) (has : ForSome (given target.0.table) Have) where
     table_have : Comes (reads_table given shapes level target) (IfWell Have)
-    unfolding reads_table rows_in
-    table_have = unless_have (given target.0) (rows_in (shape_of target.0 shapes) false (table_fetch level target)) has
-        (subst (λ (of : Option TableTree). Comes (rows_from (key_width of) (fits of) range_limit (table_fetch level target) []) (IfWell Have)) (sym known) (range_have (key_width (Some shape)) range_limit (table_fetch level target) [] tt))
+    unfolding reads_table
+    table_have = unless_have (given target.0.table) (reads_range (shape_of target.0.table shapes) level target) has
+        (subst (λ (of : Option TableTree). Comes (reads_range of level target) (IfWell Have)) (sym known) (in_have (is_one_key (key_width (Some shape)) target.0.start target.0.stop) (table_fetch level target)))
 
     -- ---- the image of a target
 
@@ -152,9 +159,11 @@ module _ (shape : TableTree) where
 
 pub rows_read : RowsRead
 unfolding images_of
-rows_read given shapes level (write.Insert table places values) shape manner exchanges images known has held = tt
-rows_read given shapes level (write.Update table sets test inner) shape manner exchanges images known has held =
-    came manner (images_of given shapes level (bound.Write (write.Update table sets test inner))) (IfWell (λ all. HaveColumns shape (get_or all (length (inner_reads inner)) []))) exchanges (Ok images)
-    (comes_room Memory (images_from given shapes level [] (inner_reads inner ++ (table, true) ∷ [])) (λ all. HaveColumns shape (get_or all (length (inner_reads inner)) []))
-    (images_have shape given shapes level (table, true) known has [] (inner_reads inner) (length (inner_reads inner)) (omega arith))) held
-rows_read given shapes level (write.Delete table test inner) shape manner exchanges images known has held = tt
+rows_read given shapes level vars (write.Insert table places values) shape manner exchanges images known has held = tt
+rows_read given shapes level vars (write.Update table sets test inner) shape manner exchanges images known has held =
+    let target = target_read vars shapes table test in
+    let many : length (inner_reads vars inner) ≡ length (inner_tables inner) = inner_counted vars inner in
+    came manner (images_of given shapes level vars (bound.Write (write.Update table sets test inner))) (IfWell (λ all. HaveColumns shape (get_or all (length (inner_tables inner)) []))) exchanges (Ok images)
+    (comes_room Memory (images_from given shapes level [] (inner_reads vars inner ++ target ∷ [])) (λ all. HaveColumns shape (get_or all (length (inner_tables inner)) []))
+    (images_have shape given shapes level target known has [] (inner_reads vars inner) (length (inner_tables inner)) (omega (arith, many)))) held
+rows_read given shapes level vars (write.Delete table test inner) shape manner exchanges images known has held = tt

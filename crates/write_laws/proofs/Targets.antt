@@ -11,6 +11,7 @@ use Rattle.bound_tree.specs.declared.query.Reference.{Reference}
 use Rattle.bound_tree.specs.Meaning.{truth}
 use Rattle.bound_tree.specs.Outcomes.{after}
 use Rattle.bound_tree.specs.Truths.{is_true}
+use Rattle.query_eval.specs.Given.{tables_read}
 use Rattle.query_eval.specs.Ans.{images_after, inner_answer, inner_rows, pair_limit, references_of}
 use Rattle.query_eval.specs.Joining.{Stock, image_of}
 use Rattle.query_eval.specs.KeyTests.{key_tests, meets, where_tests}
@@ -20,7 +21,7 @@ use Rattle.query_eval.proofs.Images.{after_both, by_last, by_steps, inner_images
 use Rattle.query_laws.specs.Laws.{AllOf}
 use Rattle.query_laws.proofs.Lists.{all_filter, all_where}
 use Rattle.dml_exec.specs.Filling.{Row}
-use Rattle.dml_exec.specs.Reading.{inner_reads, query_reads}
+use Rattle.dml_exec.specs.Reading.{inner_tables}
 use Rattle.write_laws.specs.Planning.{target_image}
 
 -- ---- the image of a target
@@ -29,16 +30,16 @@ use Rattle.write_laws.specs.Planning.{target_image}
 abbrev references_in : List InnerQuery → List Reference
 references_in inner = flat_map (λ of. references_of (out-InnerQuery of).query) inner
 
-reads_counted : (query : BoundQuery) → length (query_reads query) ≡ length (references_of query)
+reads_counted : (query : BoundQuery) → length (tables_read query) ≡ length (references_of query)
 reads_counted query = simp length-map refl
 
 -- there is a table that is read for each
-as_many : (inner : List InnerQuery) → length (inner_reads inner) ≡ length (references_in inner)
+as_many : (inner : List InnerQuery) → length (inner_tables inner) ≡ length (references_in inner)
 as_many [] = refl
 as_many (of ∷ rest) =
     let here = reads_counted (out-InnerQuery of).query in
     let behind = as_many rest in
-    simp length-append (ap (λ n. n + length (inner_reads rest)) here ∙ ap (λ n. length (references_of (out-InnerQuery of).query) + n) behind)
+    simp length-append (ap (λ n. n + length (inner_tables rest)) here ∙ ap (λ n. length (references_of (out-InnerQuery of).query) + n) behind)
 
 image_behind : (refs : List Reference) (images : List (List Row)) → image_of (images_after refs images) ≡ get_or images (length refs) []
 image_behind [] [] = refl

@@ -33,7 +33,7 @@ use Rattle.dml_exec.specs.Asking.{with_room}
 use Rattle.dml_exec.specs.Writing.{asks_deed, attempts, checks_all, done_by, ends, marked, no_room, outcome, present, told, where_done, works, writes, writes_all, writes_one}
 use Rattle.dml_exec.proofs.Halts.{by_outcome}
 use Rattle.write_laws.specs.Reading.{WritesLeave, WritesPass}
-use Rattle.write_laws.specs.Reads.{at_place, AllFit, IsReadable, HoldsIt}
+use Rattle.write_laws.specs.Reads.{at_place, AllFit, HoldsIt}
 use Rattle.write_laws.proofs.Checks.{all_fetches, all_passed}
 use Rattle.write_laws.proofs.Dialogs.{held_both, held_ok, held_room, ok_err}
 use Rattle.write_laws.proofs.Parts.{IsFetched, all_asked, answers, from_both, one_place, own_stays}
@@ -204,5 +204,5 @@ writes_pass log mine before part later manner shapes changes mark is holds held 
     subst (λ (d : Database). AllByRecursion (λ x. AnswersIn d x.op x.reply) w.read) (behind_made log before later changes manner shapes w.made w.adds)
     (answers log mine (before ++ w.made) w.read later split holds (all_asked HoldsIt manner (checks_all shapes reads) w.read (Ok tt) (all_fetches shapes reads) w.checked)) in
     all_passed manner shapes db (one_behind changes (at_place log before later) (one_place log before later)) reads w.read
-    (all_more (IsGoodRead shapes parents) (λ read. AllFit db shapes read.range.table) (λ read h. fit_there db shapes fit read.range.table h.0) reads good)
-    (all_more (IsGoodRead shapes parents) (λ read. IsReadable shapes read.range) (λ read h. h.1) reads good) answered w.checked
+    (all_more (IsGoodRead shapes parents) (λ read. AllFit db shapes read.range.table) (λ read there. fit_there db shapes fit read.range.table there) reads good)
+    answered w.checked

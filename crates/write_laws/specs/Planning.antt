@@ -27,13 +27,13 @@ use Rattle.constraint_check.specs.Laws.{KeysAreOne, Passes, behind}
 use Rattle.dml_exec.specs.declared.refusal.Level.{Level}
 use Rattle.dml_exec.specs.Filling.{Row}
 use Rattle.dml_exec.specs.Planning.{Chg, table_written}
-use Rattle.dml_exec.specs.Reading.{GivenRows, images_of, inner_reads}
+use Rattle.dml_exec.specs.Reading.{GivenRows, images_of, inner_tables}
 
 -- ---- the rows that were read
 
 -- of the images of what is read for an UPDATE its target's stands behind those of its inner queries
 abbrev pub target_image : List InnerQuery → List (List Row) → List Row
-target_image inner images = get_or images (length (inner_reads inner)) []
+target_image inner images = get_or images (length (inner_tables inner)) []
 
 -- the rows of which a write makes new ones: INSERT and DELETE make none of such
 abbrev pub rows_before : BoundWrite → List (List Row) → List Row
@@ -47,8 +47,8 @@ HaveColumns shape rows = AllByRecursion (λ row. IsTrue (has_columns shape.colum
 
 -- those that were read for a write have, and so have those that are given for its table, if there are such
 abbrev pub RowsRead : Type 0
-RowsRead = (given : GivenRows) (shapes : List TableTree) (level : Level) (of : BoundWrite) (shape : TableTree) (manner : Manner) (exchanges : List Exchange) (images : List (List Row))
-    → shape_of (table_written of) shapes ≡ Some shape → ForSome (given (table_written of)) (HaveColumns shape) → Held manner (images_of given shapes level (bound.Write of)) exchanges (Ok images) → HaveColumns shape (rows_before of images)
+RowsRead = (given : GivenRows) (shapes : List TableTree) (level : Level) (vars : List Value) (of : BoundWrite) (shape : TableTree) (manner : Manner) (exchanges : List Exchange) (images : List (List Row))
+    → shape_of (table_written of) shapes ≡ Some shape → ForSome (given (table_written of)) (HaveColumns shape) → Held manner (images_of given shapes level vars (bound.Write of)) exchanges (Ok images) → HaveColumns shape (rows_before of images)
 
 -- ---- the changes
 

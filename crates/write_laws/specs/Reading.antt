@@ -1,5 +1,5 @@
 -- Own: the laws of what a transaction reads.
-use Rattle.std.specs.Prelude.{◌≡◌, ℕ, suc, ◌≤◌, ◌+◌, Bool, true, List, [], ◌∷◌, ◌++◌, length, map, take, slice_get, Option, None, Some, Result, Ok}
+use Rattle.std.specs.Prelude.{◌≡◌, ℕ, suc, ◌≤◌, ◌+◌, Bool, true, List, [], ◌∷◌, ◌++◌, length, filter, map, take, slice_get, Option, None, Some, Result, Ok}
 use Rattle.std.specs.List.{AllByRecursion}
 use Rattle.lock_modes.specs.declared.KeyPart.{KeyPart}
 use Rattle.value_types.specs.declared.table_name.TableName.{TableName}
@@ -31,6 +31,9 @@ use Rattle.step_model.specs.Ranges.{Rows}
 use Rattle.constraint_check.specs.declared.check_read.CheckRead.{CheckRead}
 use Rattle.constraint_check.specs.Reads.{reads_for, shape_of}
 use Rattle.constraint_check.specs.Laws.{KeysAreOne, Passes, behind}
+use Rattle.clause_binder.specs.Scope.{key_places}
+use Rattle.range_plan.specs.RangeOf.{whole_table}
+use Rattle.range_plan.specs.Laws.{stands_in}
 use Rattle.dml_exec.specs.declared.written.Written.TheVariants.{Done}
 use Rattle.dml_exec.specs.declared.refusal.Level.{Level}
 use Rattle.dml_exec.specs.declared.refusal.Level.TheVariants.{Serializable}
@@ -42,7 +45,7 @@ use Rattle.step_model.specs.Runs.{Asked, Run, mine_of, opening}
 use Rattle.step_model.specs.State.{Engine}
 use Rattle.write_laws.specs.Once.{KeyFits, WroteOnce}
 use Rattle.statement_paths.specs.Asked.{AskOnly, IsFetch}
-use Rattle.write_laws.specs.Reads.{at_place, key_size, AllFit, AreImages, HaveParents, HoldsIt, IfFetched, IfOne, IsOneKey, IsRead, IsReadable, KeysHave, RowsFit, Tells, Walks, WereRead}
+use Rattle.write_laws.specs.Reads.{at_place, key_size, AllFit, AreImages, HaveParents, HoldsIt, IfFetched, IfOne, IsOneKey, IsRead, KeysHave, RowsFit, Tells, Walks, WereRead}
 
 -- a range that was read and held has the rows that the database has there at the transaction's place
 abbrev pub RangeRead : Type 0
@@ -50,6 +53,12 @@ RangeRead = (log : List Logged) (mine before part later : List Exchange) (manner
     → mine ≡ before ++ (part ++ later) → ranges_hold log mine → Held manner (rows_in shape one (fetch_of range Range lock)) part (Ok rows)
     → KeysHave (key_width shape) (at_place log before later) range.table → IfOne one (IsOneKey (key_width shape) range.start range.stop)
     → IsRead (at_place log before later) (fits shape) range rows
+
+-- What a range has is what stands in it of all that the table has, of rows of a table of this shape: those that fit, as they are in the whole
+-- table's order.
+abbrev pub RangeOfWhole : Type 0
+RangeOfWhole = (db : Database) (shape : TableTree) (range : KeyRange) (rows all : Rows) → KeysAreOne db
+    → IsRead db (fits (Some shape)) range rows → IsRead db (fits (Some shape)) (whole_table range.table) all → rows ≡ filter (stands_in range (key_places (Some shape))) all
 
 -- of a range that was not held each row is as it was at its own number
 abbrev pub RowsCurrent : Type 0
@@ -85,14 +94,14 @@ KeyTold = (log : List Logged) (mine before later : List Exchange) (exchange : Ex
 
 -- for images fetches alone are asked
 abbrev pub ImagesFetch : Type 0
-ImagesFetch = (manner : Manner) (given : GivenRows) (shapes : List TableTree) (level : Level) (of : Bound) (part : List Exchange) (result : Result (List Rows) Refusal) → Held manner (images_of given shapes level of) part result → AskOnly IsFetch part
+ImagesFetch = (manner : Manner) (given : GivenRows) (shapes : List TableTree) (level : Level) (vars : List Value) (of : Bound) (part : List Exchange) (result : Result (List Rows) Refusal) → Held manner (images_of given shapes level vars of) part result → AskOnly IsFetch part
 
--- images that were read at the highest level are those of the database at the transaction's place, but for what is given
+-- images that were read at the highest level are those of their ranges in the database at the transaction's place, but for what is given
 abbrev pub ImagesRead : Type 0
-ImagesRead = (log : List Logged) (mine before part later : List Exchange) (manner : Manner) (given : GivenRows) (shapes : List TableTree) (of : Bound) (images : List Rows)
-    → mine ≡ before ++ (part ++ later) → ranges_hold log mine → Held manner (images_of given shapes Serializable of) part (Ok images)
-    → AllByRecursion (λ read. IfFetched (given read.0) (KeysHave (key_size shapes read.0) (at_place log before later) read.0)) (reads_of of)
-    → AreImages given (at_place log before later) shapes (reads_of of) images
+ImagesRead = (log : List Logged) (mine before part later : List Exchange) (manner : Manner) (given : GivenRows) (shapes : List TableTree) (vars : List Value) (of : Bound) (images : List Rows)
+    → mine ≡ before ++ (part ++ later) → ranges_hold log mine → Held manner (images_of given shapes Serializable vars of) part (Ok images)
+    → AllByRecursion (λ read. IfFetched (given read.0.table) (KeysHave (key_size shapes read.0.table) (at_place log before later) read.0.table)) (reads_of vars shapes of)
+    → AreImages given (at_place log before later) shapes (reads_of vars shapes of) images
 
 -- ---- checks
 
@@ -100,13 +109,12 @@ ImagesRead = (log : List Logged) (mine before part later : List Exchange) (manne
 abbrev pub ChecksRead : Type 0
 ChecksRead = (log : List Logged) (mine before part later : List Exchange) (manner : Manner) (shapes : List TableTree) (reads : List CheckRead)
     → mine ≡ before ++ (part ++ later) → ranges_hold log mine → Held manner (checks_all shapes reads) part (Ok tt)
-    → AllByRecursion (λ read. AllFit (at_place log before later) shapes read.range.table) reads → AllByRecursion (λ read. IsReadable shapes read.range) reads
-    → AllByRecursion (Passes (at_place log before later)) reads
+    → AllByRecursion (λ read. AllFit (at_place log before later) shapes read.range.table) reads → AllByRecursion (Passes (at_place log before later)) reads
 
--- What is read for changes is read so, where the rows of all tables fit and each FOREIGN KEY has its parent.
+-- So they do in what is read for changes, where the rows of all tables fit and each FOREIGN KEY has its parent.
 abbrev pub ReadsReady : Type 0
 ReadsReady = (db : Database) (shapes : List TableTree) (changes : List Planned) → AllByRecursion (RowsFit db) shapes → HaveParents shapes
-    → AllByRecursion (λ read. AllFit db shapes read.range.table) (reads_for changes shapes) × AllByRecursion (λ read. IsReadable shapes read.range) (reads_for changes shapes)
+    → AllByRecursion (λ read. AllFit db shapes read.range.table) (reads_for changes shapes)
 
 -- ---- what is written
 

@@ -11,9 +11,9 @@ use Rattle.tsql_tree.specs.declared.definition.TableTree.{TableTree}
 use Rattle.clause_binder.specs.Scope.{key_places}
 use Rattle.step_model.specs.declared.range.KeyRange.{KeyRange}
 use Rattle.step_model.specs.declared.range.Start.{Start}
-use Rattle.step_model.specs.declared.range.Start.TheVariants.{First, At}
+use Rattle.step_model.specs.declared.range.Start.TheVariants.{At}
 use Rattle.step_model.specs.declared.range.Stop.{Stop}
-use Rattle.step_model.specs.declared.range.Stop.TheVariants.{Last, Within}
+use Rattle.step_model.specs.declared.range.Stop.TheVariants.{Within}
 use Rattle.lock_modes.specs.declared.KeyPart.{KeyPart}
 use Rattle.step_model.specs.declared.op.Hold.TheVariants.{Range}
 use Rattle.step_model.specs.declared.op.Op.{Op}
@@ -25,11 +25,10 @@ use Rattle.step_model.specs.Exchange.{CanReply, Exchange}
 use Rattle.step_model.specs.Fits.{place_of, view}
 use Rattle.step_model.specs.Log.{Commit as Logged}
 use Rattle.step_model.specs.Ranges.{Keeps, Rows}
-use Rattle.table_rows.specs.Rows.{row_fits}
+use Rattle.table_rows.specs.Rows.{row_fits, same_key}
 use Rattle.constraint_check.specs.Integrity.{Stands}
 use Rattle.constraint_check.specs.Reads.{places_of, rows_table, shape_of}
 use Rattle.dml_exec.specs.Reading.{GivenRows, TableRead, behind_gone, fits}
-use Rattle.dml_exec.specs.Writing.{is_one_key}
 
 -- what the database has at the place of a transaction, of which `later` is left, with its own changes so far
 abbrev pub at_place : List Logged → List Exchange → List Exchange → Database
@@ -83,9 +82,9 @@ Tells db table key reply = Unit {0}
 abbrev pub KeysHave : ℕ → Database → TableName → Type 0
 KeysHave size db table = (key : List Value) → IsSome (db table key) → length key ≡ size
 
--- a range of one whole key
+-- a range of one whole key, which starts and stops at keys that compare equal
 abbrev pub IsOneKey : ℕ → Start → Stop → Type 0
-IsOneKey size (At key) (Within last) = (last ≡ key) × (length key ≡ size)
+IsOneKey size (At key) (Within last) = IsTrue (same_key key last) × (length key ≡ size)
 IsOneKey size start stop = ⊥
 
 -- where one whole key is read this holds
@@ -103,10 +102,6 @@ AllFit db shapes table = (key row : List Value) → db table key ≡ Some row �
 abbrev pub key_size : List TableTree → TableName → ℕ
 key_size shapes table = length (key_places (shape_of table shapes))
 
--- a range that is read so is one whole key, or asks for none
-abbrev pub IsReadable : List TableTree → KeyRange → Type 0
-IsReadable shapes range = IfOne (is_one_key range.start) (IsOneKey (key_size shapes range.table) range.start range.stop)
-
 -- each row of a table that is given fits it
 abbrev pub RowsFit : Database → TableTree → Type 0
 RowsFit db shape = (key row : List Value) → Stands db shape key row → IsTrue (row_fits shape 0 key row)
@@ -120,21 +115,17 @@ HaveParents shapes = AllByRecursion (λ shape. AllByRecursion (HasParent shapes 
 
 -- ---- images
 
--- all of a table
-abbrev pub whole_table : TableName → KeyRange
-whole_table table = record { table = table; start = First; stop = Last }
-
 -- of a table that is fetched this is so; nothing is said of one that is given
 abbrev pub IfFetched : Option Rows → Type 0 → Type 0
 IfFetched None P = P
 IfFetched (Some given) P = Unit {0}
 
--- the image of a table is its rows that fit, or those that are given
-abbrev pub IsImageOf : Option Rows → Database → List TableTree → TableName → Rows → Type 0
-IsImageOf None db shapes table rows = IsRead db (fits (shape_of table shapes)) (whole_table table) rows
-IsImageOf (Some given) db shapes table rows = rows ≡ given
+-- the image of a range of a table is its rows that fit, or those that are given for the table
+abbrev pub IsImageOf : Option Rows → Database → List TableTree → KeyRange → Rows → Type 0
+IsImageOf None db shapes range rows = IsRead db (fits (shape_of range.table shapes)) range rows
+IsImageOf (Some given) db shapes range rows = rows ≡ given
 
 -- and so each of those that were read for a statement
 abbrev pub AreImages : GivenRows → Database → List TableTree → List TableRead → List Rows → Type 0
 AreImages given db shapes [] images = images ≡ []
-AreImages given db shapes (read ∷ reads) images = (rows : Rows) × (rest : List Rows) × (images ≡ rows ∷ rest) × IsImageOf (given read.0) db shapes read.0 rows × AreImages given db shapes reads rest
+AreImages given db shapes (read ∷ reads) images = (rows : Rows) × (rest : List Rows) × (images ≡ rows ∷ rest) × IsImageOf (given read.0.table) db shapes read.0 rows × AreImages given db shapes reads rest

@@ -12,7 +12,7 @@
 #![tactic(auto)]
 
 ghost use Rattle.write_laws.specs.Planning.{PlannedFits, PlannedKept, PlannedRight, RowsRead, ShapeNamed};
-ghost use Rattle.write_laws.specs.Reading.{ChecksRead, CommitLeaves, FetchesLeave, FirstsFresh, ImagesFetch, ImagesRead, KeyTold, LoggedCommits, NetLeaves, NextState, OnceLeaves, OncePasses, PartAnswers, PlacesAreOne, PlannedKeys, RangeRead, ReadsReady, RowsCurrent, StatesAreOne, WalkRead, WritesLeave, WritesPass};
+ghost use Rattle.write_laws.specs.Reading.{ChecksRead, CommitLeaves, FetchesLeave, FirstsFresh, ImagesFetch, ImagesRead, KeyTold, LoggedCommits, NetLeaves, NextState, OnceLeaves, OncePasses, PartAnswers, PlacesAreOne, PlannedKeys, RangeOfWhole, RangeRead, ReadsReady, RowsCurrent, StatesAreOne, WalkRead, WritesLeave, WritesPass};
 ghost use Rattle.write_laws.specs.Keeping.{KeysSized, FirmCreated, FirmDropped, FirmEmpty, FirmErased, FirmPut, FirmSound, FirmWritten, TablesReady, UntriggeredCreated, UntriggeredDropped, UntriggeredEmpty, UntriggeredWritten};
 ghost use Rattle.write_laws.specs.Found.{FoundDefined, FoundDefinitions, FoundTables};
 ghost use Rattle.write_laws.specs.Plans.{BoundStands, PlannedReadable, FirmDropPlanned, FirmPlanned, UntriggeredPlanned};
@@ -61,6 +61,11 @@ pub fn law_range_read()
     ensures current { RowsCurrent }
 {}
 
+/// What a range of a table has is what stands in it of all that the table has.
+pub fn law_range_of_whole()
+    ensures { RangeOfWhole }
+{}
+
 /// Exchanges that fetch by ranges, which they hold, are all answered of one database; fetches leave their transaction as it
 /// was.
 pub fn law_part()
@@ -74,8 +79,8 @@ pub fn law_walk()
     ensures key { KeyTold }
 {}
 
-/// For images fetches alone are asked; at the highest level they are those of the database at the transaction's place, but
-/// for what is given.
+/// For images fetches alone are asked; at the highest level they are those of their ranges in the database at the
+/// transaction's place, but for what is given.
 pub fn law_images()
     ensures fetch { ImagesFetch }
     ensures read { ImagesRead }

@@ -3,7 +3,7 @@ use Rattle.std.proofs.lemmas.List.{nil_from_length}
 use Rattle.std.proofs.lemmas.Result.{err_from_is_err_and}
 use Rattle.step_model.proofs.Dialogs.{front_here}
 use Rattle.std.specs.Option.{option_map}
-use Rattle.dml_exec.specs.Reading.{given_of, is_fetched}
+use Rattle.dml_exec.specs.Reading.{given_of, is_read_fetched}
 use Rattle.dml_exec.proofs.RangeSteps.{images_done, images_failed, images_full, images_next, first_may, rest_may}
 use Rattle.dml_exec.proofs.images.read_all.Goals as goal
 
@@ -26,13 +26,13 @@ returns-then-not-add-clause-asks g c =
 pub read_table-requires : goal.read_table-requires
 read_table-requires g c =
     let is : c.loop-read.read-iterator.rest.items ≡ c.in-Some.read ∷ c.next.new.self.rest.items = search rules in
-    record { may = first_may (is_fetched (given_of (option_map (λ tables. tables.now) c.args.given))) c.in-Some.read is c.loop-read.invariant.may }
+    record { may = first_may (is_read_fetched (given_of (option_map (λ tables. tables.now) c.args.given))) c.in-Some.read is c.loop-read.invariant.may }
 
 pub loop-read-preserved : goal.loop-read-preserved
 loop-read-preserved g c =
     let is : c.loop-read.read-iterator.rest.items ≡ c.in-Some.read ∷ c.next.new.self.rest.items = search rules in
     record {
-      may = rest_may (is_fetched (given_of (option_map (λ tables. tables.now) c.args.given))) c.in-Some.read is c.loop-read.invariant.may c.in_ok-rows.ensures.standing;
+      may = rest_may (is_read_fetched (given_of (option_map (λ tables. tables.now) c.args.given))) c.in-Some.read is c.loop-read.invariant.may c.in_ok-rows.ensures.standing;
       standing = c.in_ok-rows.ensures.standing ∙ c.loop-read.invariant.standing;
       leads = rw (c.add.ensures (search rules))
           (images_next _ c.args.shapes.now c.args.level c.loop-read.images.items _ c.in-Some.read c.next.new.self.rest.items is c.loop-read.invariant.leads _ c.in_ok-rows.ensures.asks);
