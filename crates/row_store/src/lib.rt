@@ -14,20 +14,22 @@ ghost use Rattle.step_model.specs.Entries.{next_entry, entry_at, row_at, put_ent
 ghost use Rattle.step_model.specs.Moves.{new_entry, set_at, restore, settle as settle_entry, drop_pending as drop_entry};
 ghost use Rattle.row_store.specs.Rows.{entries_of, MayWrite, AddsMaker, KeepsMakers, DropsMaker, KeepsPast, KeepsBelow, KeepsOthers, AreBelow, pending_state, pending_before, swept};
 
+mod logged;
 mod owned;
 mod parts;
 mod prefix;
 mod stored;
 mod sweep;
 
+pub use crate::logged::LoggedChange;
 use crate::owned::Owned;
 use crate::parts::Parts;
 use crate::stored::Stored;
 use crate::sweep::{back_at, changes_at, drop_at, settle_at};
+use ghost_list::GhostList;
 use std::alloc::Global;
-use std::collections::LinkedList;
 use std::marker::Model;
-use step_model::{Change, Start};
+use step_model::Start;
 use value_types::{Key, Memory, Row, TableName};
 
 /// The entries of all tables, and at which of them each session has done something.
@@ -149,7 +151,7 @@ impl RowStore {
     }
 
     /// Makes a session's pending states the committed rows, and gives what they change, in order.
-    pub fn settle(&mut self, session: u32) -> LinkedList<Change>
+    pub fn settle(&mut self, session: u32) -> GhostList<LoggedChange>
         ensures changes { result ≡ changes_by session (entries_of self.old) }
         ensures entries { entries_of self.new ≡ swept session (settle_entry session) self.old }
         ensures makers { DropsMaker session self.old self.new }
@@ -157,7 +159,7 @@ impl RowStore {
         ensures below { (limit : ℕ) → AreBelow session limit self.new }
     {
         let spots = self.owned.take(self.alloc, session);
-        settle_at(&mut self.parts, self.alloc, session, &spots)
+        settle_at(&mut self.parts, session, &spots)
     }
 
     /// Drops a session's pending states.

@@ -1,38 +1,38 @@
 //! An entry as the store keeps it, and what the open transaction that has written there has done.
 
-ghost use Rattle.std.specs.Prelude.{◌≡◌, ◌==◌, ◌+◌, ◌<◌, ◌^◌, ◌∷◌, ◌++◌, [], Some, nat_lt, is_some, IfOk, OnOk, OnErr};
+ghost use Rattle.std.specs.Prelude.{◌≡◌, ◌==◌, ◌∷◌, ◌++◌, [], Some, nat_lt, is_some, IfOk, OnOk, OnErr};
 ghost use Rattle.std.specs.List.{slice_get};
-ghost use Rattle.std.specs.LinkedList.{linked_list_len};
 ghost use Rattle.std.specs.Option.{option_copied, option_to_list};
 ghost use Rattle.step_model.specs.Entries.{pending_by, seen_by};
 ghost use Rattle.row_store.specs.Rows.{entry_of};
 ghost use Rattle.row_store.specs.Writes.{state_at, new_stored, written, put_state, is_past, before_mark, back_stored, settled, dropped, is_kept, kept_row, kept_change, change_in};
 
+use crate::logged::LoggedChange;
+use ghost_list::GhostList;
 use std::alloc::Global;
 use std::collections::LinkedList;
 use std::marker::Model;
 use std::mem::replace;
-use step_model::Change;
-use value_types::{Key, Memory, Row, TableName, beside, letting_go};
+use value_types::{Key, Memory, Row, TableName, letting_go};
 
-/// A state that a session has given a key, as the change that it is: with the key as it was asked last. The log's
-/// copy is made beforehand, so that a commit takes no memory.
+/// A state that a session has given a key. In a clause it is the change that it is, with the key as it was asked last;
+/// only its row is kept.
 #[derive(Drop)]
 struct State {
     level: u64,
-    change: Change,
-    logged: LinkedList<Change>,
+    row: Option<Row>,
+    change: LoggedChange,
 }
 
 impl Model for State {
-    ghost use Rattle.std.specs.Prelude.{◌≡◌, ◌∷◌, []};
+    ghost use Rattle.std.specs.Prelude.{◌≡◌};
     ghost use Rattle.row_store.specs.Rows.{State as Kept};
 
     ghost Value = { Kept };
 
     ghost view = { λ state. record { level = state.level; change = state.change } };
 
-    ghost invariant = { λ state. state.logged ≡ state.change ∷ [] };
+    ghost invariant = { λ state. state.row ≡ state.change.row };
 }
 
 impl State {
@@ -46,14 +46,9 @@ impl State {
     ) -> Result<State, Memory>
         ensures { IfOk result (λ state. state ≡ state_at level table.now key.now (option_copied row.entry)) }
     {
-        let change = change_to(alloc, table, key, row)?;
-        let logged = logged_of(alloc, &change);
-        let (change, logged) = beside(change, logged)?;
-        Ok(State {
-            level,
-            change,
-            logged,
-        })
+        let row = row_copied(alloc, row)?;
+        let change = LoggedChange::new(table, key, &row);
+        Ok(State { level, row, change })
     }
 
     /// Whether it was written at a level below this.
@@ -67,38 +62,21 @@ impl State {
     fn row(&self) -> Option<&Row>
         ensures { option_copied result ≡ self.now.change.row }
     {
-        self.change.row.as_ref()
+        self.row.as_ref()
     }
 
-    /// The row, or none, and the log's copy.
-    fn into_parts(self) -> (Option<Row>, LinkedList<Change>)
+    /// The row, or none, and the change for the log.
+    fn into_parts(self) -> (Option<Row>, LoggedChange)
         ensures row { result.0 ≡ self.change.row }
-        ensures logged { result.1 ≡ self.change ∷ [] }
+        ensures change { result.1 ≡ self.change }
     {
         let State {
             level: _,
+            row,
             change,
-            logged,
         } = self;
-        (change.row, logged)
+        (row, change)
     }
-}
-
-/// The change that gives a key this row, or its absence.
-fn change_to(
-    alloc: Global,
-    table: &TableName,
-    key: &Key,
-    row: Option<&Row>,
-) -> Result<Change, Memory>
-    ensures { let row = option_copied row.entry in
-        IfOk result (λ change. change ≡ record { table = table.now; key = key.now; row = row }) }
-{
-    let table = table.copy(alloc)?;
-    let (table, key) = beside(table, key.copy(alloc))?;
-    let (at, row) = beside((table, key), row_copied(alloc, row))?;
-    let (table, key) = at;
-    Ok(Change { table, key, row })
 }
 
 /// A row, or its absence, copied.
@@ -109,16 +87,6 @@ fn row_copied(alloc: Global, row: Option<&Row>) -> Result<Option<Row>, Memory>
         Some(row) => Ok(Some(row.copy(alloc)?)),
         None => Ok(None),
     }
-}
-
-/// The log's copy of a change.
-fn logged_of(alloc: Global, change: &Change) -> Result<LinkedList<Change>, Memory>
-    ensures { IfOk result (λ logged. logged ≡ change.now ∷ []) }
-{
-    let copy = change.copy(alloc)?;
-    let mut logged = LinkedList::new(alloc);
-    logged.push_back(copy)?;
-    Ok(logged)
 }
 
 /// What an open transaction has done at an entry: whether it made it, and its states, the latest first.
@@ -275,8 +243,7 @@ impl Stored {
     }
 
     /// Makes a session's pending state the committed row, and adds what it changes.
-    pub(crate) fn settle(&mut self, session: u32, changes: &mut LinkedList<Change>)
-        requires { linked_list_len changes.old + 1 < 2 ^ 63 }
+    pub(crate) fn settle(&mut self, session: u32, changes: &mut GhostList<LoggedChange>)
         ensures stored { self.new ≡ settled session self.old }
         ensures changes { changes.new ≡ changes.old ++ option_to_list (change_in session self.old) }
     {
@@ -287,15 +254,14 @@ impl Stored {
     }
 
     /// Makes the latest state of what was done the committed row, and adds what it changes.
-    fn keep(&mut self, mut work: Work, changes: &mut LinkedList<Change>)
-        requires { linked_list_len changes.old + 1 < 2 ^ 63 }
+    fn keep(&mut self, mut work: Work, changes: &mut GhostList<LoggedChange>)
         ensures stored { self.new ≡ record self.old { committed = kept_row self.old.committed work.states } }
         ensures changes { changes.new ≡ changes.old ++ option_to_list (kept_change self.old.committed work.states) }
     {
         if let Some(state) = work.states.pop_front() {
-            let (row, mut logged) = state.into_parts();
+            let (row, change) = state.into_parts();
             if row.is_some() || self.committed.is_some() {
-                let _appended = changes.append(&mut logged);
+                changes.push(&change);
             }
             self.committed = row;
         }
