@@ -5,7 +5,9 @@
 //! say of the list of entries, and on each write changing that list as they say. A caller tells with each write how
 //! many marks the session's transaction has made, and writes only where no other session does. No clause says what
 //! calls cost: a look-up or a write goes down two ordered maps, and an end of a transaction, or the way back to a mark,
-//! goes over the keys at which the session has done something since its last end, each with such a look-up.
+//! goes over the keys at which the session has done something since its last end, each with such a look-up. What an end
+//! changes it gives as data of the proof alone ([`LoggedChange`]), so that neither a write nor an end makes a copy for
+//! the log.
 #![tactic(auto)]
 
 ghost use Rattle.std.specs.Prelude.{◌≡◌, ℕ, [], None, Some, map, length, is_some, OnOk, OnErr};
