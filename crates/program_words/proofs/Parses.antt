@@ -22,7 +22,7 @@ matches_answer words found (Ok (commands.Pipe user password bare)) is none reads
 matches_answer words found (Ok (commands.Listen port workers rounds user password)) is none reads = (none, sym (ap asked_of is) ∙ reads)
 matches_answer words found (Ok commands.Steps) is none reads = (none, sym (ap asked_of is) ∙ reads)
 matches_answer words found (Ok (commands.Load transfers workers)) is none reads = (none, sym (ap asked_of is) ∙ reads)
-matches_answer words found (Err faults.Refused) is none reads = go (takes program (named words)) refl
+matches_answer words found (Err faults.Refused) is none reads = (inr (none, sym (ap asked_of is) ∙ reads), go (takes program (named words)) refl)
   where
     go : (b : Bool) → takes program (named words) ≡ b → (takes program (named words) ≡ false) ⊎ HasOddNumber words
     go false e = inl e
@@ -62,5 +62,9 @@ error_answers words kind (Ok (commands.Pipe user password bare)) passes has answ
 error_answers words kind (Ok (commands.Listen port workers rounds user password)) passes has answers = absurd answers
 error_answers words kind (Ok commands.Steps) passes has answers = absurd answers
 error_answers words kind (Ok (commands.Load transfers workers)) passes has answers = absurd answers
-error_answers words kind (Err faults.Refused) passes has answers = inl (no_memory words kind passes answers)
+error_answers words kind (Err faults.Refused) passes has answers = (inl (kind, among has, answers.1), inl (no_memory words kind passes answers.0))
+  where
+    among : (kind ≡ OutOfMemory) ⊎ IsAmong kind (faults_of words) → IsAmong kind (faults_of words)
+    among (inl memory) = absurd (answers.0 memory)
+    among (inr is) = is
 error_answers words kind (Err faults.Memory) passes has answers = tt

@@ -1,6 +1,7 @@
 -- Own: the command that words ask for, by what `clap` finds in them, and what reading them gives. The words are
 -- those behind the program's name, each as its UTF-8 bytes.
-use Rattle.std.specs.Prelude.{◌≡◌, ◌≤◌, ◌⊎◌, IfSome, ℕ, Bool, true, false, List, [], ◌∷◌, Option, Some, None, Result, Ok, Err, if◌then◌else◌, unwrap_or, option_and_then, option_map, codes, ⊤}
+use Rattle.std.specs.Prelude.{◌≡◌, ◌≢◌, ◌≤◌, ◌⊎◌, IfSome, ℕ, Bool, true, false, List, [], ◌∷◌, Option, Some, None, Result, Ok, Err, if◌then◌else◌, unwrap_or, option_and_then, option_map, codes, ⊤}
+use Rattle.std.specs.List.{AllByRecursion}
 use Rattle.std.specs.Option.{option_map_or}
 use Rattle.std.specs.Str.{bytes_eq}
 use Rattle.value_types.specs.Units.{utf16_of}
@@ -101,6 +102,19 @@ asked words = asked_of (subcommand_of program (named words))
 abbrev pub faults_of : List Text → Kinds
 faults_of words = fault_of program (named words)
 
+-- the kinds of fault by which a text is asked for
+abbrev pub IsText : ErrorKind → Type 0
+IsText kind = (kind ≡ DisplayHelp) ⊎ (kind ≡ DisplayVersion)
+
+-- help or the version is asked for, and there is no other fault
+abbrev pub AsksForTextAlone : List Text → Type 0
+AsksForTextAlone words = (faults_of words ≢ []) × AllByRecursion IsText (faults_of words)
+
+-- There is a fault by which no text is asked for; or there is none at all, and no command is asked for.
+abbrev pub IsAmiss : List Text → Type 0
+IsAmiss words = ((kind : ErrorKind) × IsAmong kind (faults_of words) × (IsText kind → ⊥))
+    ⊎ ((faults_of words ≡ []) × (asked words ≡ None))
+
 -- `clap` finds a command in the words, and takes a number that has a sign or begins with 0
 pub record HasOddNumber (words : List Text) : Type 0 where
   pub name : Text
@@ -117,11 +131,12 @@ pub record HasOddNumber (words : List Text) : Type 0 where
 
 -- What reading the words gives. Help and the version are shown where they are asked for, which `clap` counts among
 -- the words that it doesn't take. A command is what `clap` and the forms of numbers make of the words. They are
--- refused only where `clap` doesn't take them, or a number that it takes has a sign or begins with 0.
+-- refused only where they are amiss, and `clap` doesn't take them, or a number that it takes has a sign or begins
+-- with 0.
 abbrev pub Answers : List Text → Result ProgramCommand WordsFault → Type 0
 Answers words (Ok (commands.Show text)) = (takes program (named words) ≡ false) × (IsAmong DisplayHelp (faults_of words) ⊎ IsAmong DisplayVersion (faults_of words))
 Answers words (Ok command) = (faults_of words ≡ []) × (asked words ≡ Some command)
-Answers words (Err faults.Refused) = (takes program (named words) ≡ false) ⊎ HasOddNumber words
+Answers words (Err faults.Refused) = IsAmiss words × ((takes program (named words) ≡ false) ⊎ HasOddNumber words)
 Answers words (Err faults.Memory) = ⊤
 
 -- the numbers of a command are in their ranges
@@ -148,7 +163,7 @@ Finds meant (Err faults.Memory) = ⊥
 
 -- an error of `clap`'s answered
 abbrev pub AnswersError : ErrorKind → Result ProgramCommand WordsFault → Type 0
-AnswersError kind (Ok (commands.Show text)) = (kind ≡ DisplayHelp) ⊎ (kind ≡ DisplayVersion)
+AnswersError kind (Ok (commands.Show text)) = IsText kind
 AnswersError kind (Ok command) = ⊥
-AnswersError kind (Err faults.Refused) = kind ≡ OutOfMemory → ⊥
+AnswersError kind (Err faults.Refused) = (kind ≡ OutOfMemory → ⊥) × (IsText kind → ⊥)
 AnswersError kind (Err faults.Memory) = ⊤

@@ -2,7 +2,8 @@
 //!
 //! `specs/Lib.antt` says in which order to read. The layer above relies on [`read_words`] giving exactly the
 //! command that the words spell, and on its refusing words only where the `clap` command doesn't take them or
-//! a number among them is out of form. Only tests show what the texts of help and of the version say.
+//! a number among them is out of form, and never those that ask for help or the version alone. Only tests show
+//! what the texts of these say.
 #![tactic(auto)]
 
 mod command;

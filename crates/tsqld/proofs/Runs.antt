@@ -1,14 +1,18 @@
 -- What the commands did, as the program tells it.
-use Rattle.std.proofs.Common.{◌≡◌, ℕ, true, false, List, [], Option, None, Some, inl, inr, sym, ap, subst, ◌∙◌}
+use Rattle.std.proofs.Common.{◌≡◌, ℕ, true, false, List, [], ◌∷◌, Option, None, Some, inl, inr, sym, ap, subst, ◌∙◌}
 use Rattle.std.specs.Prelude.{◌⊎◌, Ok, string_bytes}
+use Rattle.std.specs.List.{AllByRecursion}
+use Rattle.clap.specs.Kinds.{IsAmong, Kinds}
 use Rattle.clap.specs.Walk.{Text}
+use Rattle.clap.specs.declared.error.kind.ErrorKind.{ErrorKind}
+use Rattle.clap.specs.declared.error.kind.ErrorKind.TheVariants.{DisplayHelp, DisplayVersion}
 use Rattle.tds_login.specs.declared.config.Config.{Config}
 use Rattle.session_server.specs.declared.end.End.{End}
 use Rattle.session_server.specs.declared.end.End.TheVariants as ends
 use Rattle.session_server.specs.Conversation.{Completes}
 use Rattle.program_words.specs.declared.command.ProgramCommand.{ProgramCommand}
 use Rattle.program_words.specs.declared.command.ProgramCommand.TheVariants.{Pipe, Listen, Steps, Load, Show}
-use Rattle.program_words.specs.Asked.{Answers, asked, faults_of}
+use Rattle.program_words.specs.Asked.{Answers, AsksForTextAlone, IsText, asked, faults_of}
 use Rattle.tsqld.specs.Asking.{AsksFor, AsksForText, IfText, IsNoCommand, IsRefused}
 use Rattle.tsqld.specs.Program.{EndsWell, status_of}
 
@@ -28,9 +32,17 @@ ends_well config (Some bytes) end status is well = λ short messages split in_pl
 some_same : (x y : ProgramCommand) → Some x ≡ Some y → x ≡ y
 some_same x y is = cc
 
+-- no text is asked for where there is no fault
+none_among : (words : List Text) → faults_of words ≡ [] → IsAmong DisplayHelp (faults_of words) ⊎ IsAmong DisplayVersion (faults_of words) → ⊥
+none_among words clean (inl help) = subst (IsAmong DisplayHelp) clean help
+none_among words clean (inr version) = subst (IsAmong DisplayVersion) clean version
+
 -- they ask for the command that was read
 pub as_read : (words : List Text) (command other : ProgramCommand) → Answers words (Ok command) → AsksFor words other → command ≡ other
-as_read words (Show text) other answers asks = absurd (let differ : true ≡ false = sym asks.0 ∙ answers.0 in cc)
+as_read words (Show text) other answers asks = absurd (elim asks.0 [
+  | inl taken ↦ (let differ : true ≡ false = sym taken ∙ answers.0 in cc)
+  | inr clean ↦ none_among words clean answers.1
+])
 as_read words (Pipe user password bare) other answers asks = some_same (Pipe user password bare) other (sym answers.1 ∙ asks.1)
 as_read words (Listen port workers rounds user password) other answers asks = some_same (Listen port workers rounds user password) other (sym answers.1 ∙ asks.1)
 as_read words Steps other answers asks = some_same Steps other (sym answers.1 ∙ asks.1)
@@ -54,5 +66,19 @@ module _ (words : List Text) (P : List ℕ → Type 0) where
 
 -- words that are refused ask for no command
 pub unasked : (words : List Text) (command : ProgramCommand) → IsRefused words → AsksFor words command → ⊥
-unasked words command (inl untaken) asks = let differ : true ≡ false = sym asks.0 ∙ untaken in cc
-unasked words command (inr odd) asks = none_some command (asked words) asks.1 odd.none
+unasked words command (amiss, inr odd) asks = none_some command (asked words) asks.1 odd.none
+unasked words command (inr none, inl untaken) asks = none_some command (asked words) asks.1 none.1
+unasked words command (inl fault, inl untaken) asks = elim asks.0 [
+  | inl taken ↦ (let differ : true ≡ false = sym taken ∙ untaken in cc)
+  | inr clean ↦ subst (IsAmong fault.0) clean fault.1
+]
+
+-- words that ask for help or the version alone are not refused
+all_among : (kinds : Kinds) (kind : ErrorKind) → IsAmong kind kinds → AllByRecursion IsText kinds → IsText kind
+all_among [] kind is all = absurd is
+all_among (first ∷ rest) kind (inl same) all = subst IsText (sym same) all.0
+all_among (first ∷ rest) kind (inr later) all = all_among rest kind later all.1
+
+pub shown_unrefused : (words : List Text) → AsksForTextAlone words → IsRefused words → ⊥
+shown_unrefused words alone (inl fault, others) = fault.2 (all_among (faults_of words) fault.0 fault.1 alone.1)
+shown_unrefused words alone (inr none, others) = alone.0 none.0

@@ -7,20 +7,22 @@ use Rattle.clap.specs.Kinds.{IsAmong}
 use Rattle.clap.specs.declared.error.kind.ErrorKind.TheVariants.{DisplayHelp, DisplayVersion}
 use Rattle.program_words.specs.declared.command.ProgramCommand.{ProgramCommand}
 use Rattle.program_words.specs.declared.command.ProgramCommand.TheVariants.{Show}
-use Rattle.program_words.specs.Asked.{HasOddNumber, asked, faults_of, named}
+use Rattle.program_words.specs.Asked.{HasOddNumber, IsAmiss, asked, faults_of, named}
 use Rattle.program_words.specs.Options.{program}
 
--- clap takes the words, and what it finds in them is this command; so it is of all words that write one (`Spells` of `program_words`)
+-- clap takes the words, or finds no fault in them, two definitions that no law of clap's ties; and what it finds in them is this command. So
+-- it is of all words that write one (`Spells` of `program_words`), and of all that are not `IsNoCommand`.
 abbrev pub AsksFor : List Text → ProgramCommand → Type 0
-AsksFor words command = (takes program (named words) ≡ true) × (asked words ≡ Some command)
+AsksFor words command = ((takes program (named words) ≡ true) ⊎ (faults_of words ≡ [])) × (asked words ≡ Some command)
 
 -- clap finds a fault in them, or they ask for no command
 abbrev pub IsNoCommand : List Text → Type 0
 IsNoCommand words = (faults_of words ≢ []) ⊎ (asked words ≡ None)
 
--- by clap's own definition they are not taken, or a number among them has a sign or begins with 0
+-- They are no command, and not only since they ask for help or the version; by clap's own definition they are not taken, or a number among
+-- them has a sign or begins with 0.
 abbrev pub IsRefused : List Text → Type 0
-IsRefused words = (takes program (named words) ≡ false) ⊎ HasOddNumber words
+IsRefused words = IsAmiss words × ((takes program (named words) ≡ false) ⊎ HasOddNumber words)
 
 -- they ask for help, or for the version
 abbrev pub AsksForText : List Text → Type 0

@@ -2,7 +2,7 @@
 
 ghost use Rattle.std.specs.Prelude.{◌≡◌, ◌≢◌, ◌⊎◌, ◌≤◌, ℕ, Bool, false, List, Option, IfOk, map, string_bytes};
 ghost use Rattle.outside_io.specs.Bytes.{HasRisen, Takes};
-ghost use Rattle.program_words.specs.Asked.{IsInRange};
+ghost use Rattle.program_words.specs.Asked.{AsksForTextAlone, IsInRange};
 ghost use Rattle.program_words.specs.declared.command.ProgramCommand.{ProgramCommand};
 ghost use Rattle.session_server.specs.Conversation.{CountsFault};
 ghost use Rattle.steps_command.specs.Command.{Steps, EndsWell as AllAnswered};
@@ -90,6 +90,7 @@ pub fn run_program<S: Source, K: Sink, H: Hall, C: Clock, R: Threads + Wait + Sy
         × ((((result ≡ 2) ⊎ (result ≡ 6)) × (output.new ≡ output.old))
         ⊎ (AsksForText (map string_bytes words.now) × ((text : List ℕ) × Prints (K.written output.old) (K.written output.new) text 0 6 result))) }
     ensures refused { result ≡ 2 → IsRefused (map string_bytes words.now) }
+    ensures shown { AsksForTextAlone (map string_bytes words.now) → result ≢ 2 }
 
     // When 3, 4 and 7 come.
     ensures reads { CountsFault (S.faults input.old) (S.faults input.new) (result ≡ 3) }

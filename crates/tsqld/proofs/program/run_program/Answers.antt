@@ -2,7 +2,7 @@ use Rattle.std.proofs.Common.{rules, subst, inl, inr, refl, [], map, string_byte
 use Rattle.std.specs.Prelude.{Err}
 use Rattle.program_words.specs.declared.fault.WordsFault.{WordsFault}
 use Rattle.program_words.specs.Asked.{Answers}
-use Rattle.tsqld.proofs.Runs.{as_read, only_shown}
+use Rattle.tsqld.proofs.Runs.{as_read, only_shown, shown_unrefused}
 use Rattle.tsqld.proofs.program.run_program.Goals as goal
 
 pub returns-in-Ok-clause-pipe : goal.returns-in-Ok-clause-pipe
@@ -23,6 +23,10 @@ returns-in-Ok-clause-load g c = λ transfers workers asks. c.run_command.ensures
 
 pub returns-in-Err-Refused-clause-refused : goal.returns-in-Err-Refused-clause-refused
 returns-in-Err-Refused-clause-refused g c = λ two. subst (λ (fault : WordsFault). Answers (map string_bytes c.args.words.now) (Err fault)) c.in-Err-Refused.field-0-is c.in-Err-Refused.ensures.answers
+
+pub returns-in-Err-Refused-clause-shown : goal.returns-in-Err-Refused-clause-shown
+returns-in-Err-Refused-clause-shown g c = λ alone two. shown_unrefused _ alone
+    (subst (λ (fault : WordsFault). Answers (map string_bytes c.args.words.now) (Err fault)) c.in-Err-Refused.field-0-is c.in-Err-Refused.ensures.answers)
 
 pub returns-in-Err-Memory-clause-steps : goal.returns-in-Err-Memory-clause-steps
 returns-in-Err-Memory-clause-steps g c = λ asks. (refl, refl, ([], record { from_left = search rules; to_given = search rules }, inl (inr refl, refl)))
