@@ -16,7 +16,8 @@ use Rattle.seat_server.specs.declared.worker.Worker.{Worker}
 use Rattle.seat_server.specs.Served.{Course, Follow, IsCourse, ServedConnection}
 use Rattle.seat_server.specs.Workers.{IsServedIn, RisesBy, TellsCourses, is_memory, starved_in}
 use Rattle.seat_server.specs.Posts.{Begins, IsFresh, IsPosted, KeepsShare, Serves, Worked, WorkedNone, WorkedOne, Works, count_up, is_closed, is_failed, is_served, one_more}
-use Rattle.seat_server.proofs.Conversing.{is_connection, memory_wanted}
+use Rattle.seat_server.proofs.Conversing.{is_connection}
+use Rattle.session_server.proofs.Wanting.{memory_wanted}
 use Rattle.seat_server.proofs.Courses.{count_none, count_twice, follow_append, follow_desk, follow_idle, follow_one, starved_append, starved_one, tells_append, tells_none}
 use Rattle.seat_server.proofs.Stretches.{one_connection, stretch_of}
 

@@ -6,3 +6,4 @@ pub mod Sizes
 pub mod StandardFacts
 pub mod Turns
 pub mod Walks
+pub mod Wanting

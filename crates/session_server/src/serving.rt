@@ -1,6 +1,6 @@
 //! Serving one connection.
 
-ghost use Rattle.std.specs.Prelude.{◌≡◌, ◌≢◌, ◌<◌, ◌≤◌, false, Ok, Err, IfOk, IfErr};
+ghost use Rattle.std.specs.Prelude.{◌≡◌, ◌≢◌, ◌<◌, ◌≤◌, ℕ, false, List, length, Ok, Err, IfOk, IfErr};
 ghost use Rattle.outside_io.specs.Bytes.{Takes, HasRisen};
 ghost use Rattle.session_server.specs.Conversation.{Conversation, Completes, CountsFault};
 ghost use Rattle.session_server.specs.Parts.{IsSized, Spoke, Turned, Ended};
@@ -46,6 +46,10 @@ pub fn serve_on_port<P: Port, S: Source, K: Sink>(
     // When reading and writing have failed.
     ensures reads { CountsFault (S.faults source.old) (S.faults source.new) (result ≡ End.ReadFault) }
     ensures writes { CountsFault (K.faults sink.old) (K.faults sink.new) (result ≡ End.WriteFault) }
+
+    // Memory was wanting only after a whole header was taken.
+    ensures memory { result ≡ End.Memory → (taken : List ℕ) × Takes S.left S.given source.old source.new taken
+        × (8 ≤ length taken) }
 
     // Where nothing fails, memory is not wanting, and the input is fewer than 2^40 bytes of whole messages
     // that can be read, in their places, with no login that is refused, all of them are answered.

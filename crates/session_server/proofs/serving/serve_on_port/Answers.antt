@@ -1,5 +1,6 @@
 use Rattle.std.proofs.Common.{◌∙◌}
 use Rattle.session_server.proofs.Ended.{conversation_of, complete}
+use Rattle.session_server.proofs.Wanting.{memory_wanted}
 use Rattle.session_server.proofs.serving.serve_on_port.Goals as goal
 
 pub returns-clause-conversation : goal.returns-clause-conversation
@@ -16,3 +17,8 @@ returns-clause-complete g c = complete c.serve_messages-end.ensures.spoke.heard
 
 pub returns-clause-session : goal.returns-clause-session
 returns-clause-session g c = (conversation_of c.roll_back_open.ensures.does c.serve_messages-end.ensures.spoke).means.past.session ∙ c.requires.session
+
+pub returns-clause-memory : goal.returns-clause-memory
+returns-clause-memory g c = λ wanting.
+    let said = conversation_of c.roll_back_open.ensures.does c.serve_messages-end.ensures.spoke in
+    (said.heard.taken, said.heard.from_source, memory_wanted _ _ _ _ _ _ _ _ _ said wanting)
