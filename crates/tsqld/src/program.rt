@@ -71,7 +71,7 @@ pub fn run_program<S: Source, K: Sink, H: Hall, C: Clock, R: Threads + Wait + Sy
 
     // What was served of the hall's connections, and what was printed.
     ensures listen { (port workers : ℕ) (rounds : Option ℕ) (user password : List ℕ) → AsksFor (map string_bytes words.now) (ProgramCommand.Listen port workers rounds user password)
-        → (input.new ≡ input.old) × (Listened H.Door.Input.left H.Door.Input.given H.Door.Input.faults H.Door.Output.written H.Door.Output.faults (config_of user password false) workers rounds
+        → (input.new ≡ input.old) × (Listened H.Door.may_close H.Door.Input.left H.Door.Input.given H.Door.Input.faults H.Door.Output.written H.Door.Output.faults (config_of user password false) workers rounds
         (H.told hall.old) (H.told hall.new) (numbers_of H.faults H.finished H.failed H.closed hall.old) (numbers_of H.faults H.finished H.failed H.closed hall.new)
         (K.written output.old) (K.written output.new) house.old.seats house.new.seats result
         ⊎ ((result ≡ 6) × (output.new ≡ output.old) × (hall.new ≡ hall.old) × (house.new ≡ house.old))) }
@@ -134,7 +134,7 @@ fn run_command<S: Source, K: Sink, H: Hall, R: Threads + Wait + Sync>(
     ensures complete { (user password : List ℕ) (bare : Bool) → command ≡ ProgramCommand.Pipe user password bare
         → result ≢ 3 → result ≢ 4 → EndsWell (config_of user password bare) (S.left input.old) result }
     ensures listen { (port workers : ℕ) (rounds : Option ℕ) (user password : List ℕ) → command ≡ ProgramCommand.Listen port workers rounds user password
-        → (input.new ≡ input.old) × Listened H.Door.Input.left H.Door.Input.given H.Door.Input.faults H.Door.Output.written H.Door.Output.faults (config_of user password false) workers rounds
+        → (input.new ≡ input.old) × Listened H.Door.may_close H.Door.Input.left H.Door.Input.given H.Door.Input.faults H.Door.Output.written H.Door.Output.faults (config_of user password false) workers rounds
         (H.told hall.old) (H.told hall.new) (numbers_of H.faults H.finished H.failed H.closed hall.old) (numbers_of H.faults H.finished H.failed H.closed hall.new)
         (K.written output.old) (K.written output.new) house.old.seats house.new.seats result }
     ensures complete_listen { (port workers : ℕ) (rounds : Option ℕ) (user password : List ℕ) → command ≡ ProgramCommand.Listen port workers rounds user password
@@ -259,7 +259,7 @@ fn listen<K: Sink, H: Hall, R: Threads + Wait + Sync>(
     requires full { IsFull house_seats house.old }
     requires workers { (1 ≤ workers) × (workers ≤ 64) }
     ensures full { IsFull house_seats house.new }
-    ensures listened { Listened H.Door.Input.left H.Door.Input.given H.Door.Input.faults H.Door.Output.written H.Door.Output.faults config.now workers rounds
+    ensures listened { Listened H.Door.may_close H.Door.Input.left H.Door.Input.given H.Door.Input.faults H.Door.Output.written H.Door.Output.faults config.now workers rounds
         (H.told hall.old) (H.told hall.new) (numbers_of H.faults H.finished H.failed H.closed hall.old) (numbers_of H.faults H.finished H.failed H.closed hall.new)
         (K.written output.old) (K.written output.new) house.old.seats house.new.seats result }
     ensures complete { ((door : H.Door) → H.Door.may_close door ≡ false) → result ≢ 4 → result ≢ 7 → ServesAll rounds (K.written output.old) (K.written output.new) result }
