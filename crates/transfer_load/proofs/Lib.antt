@@ -5,3 +5,4 @@ mod Messages
 mod Closing
 mod AllClosed
 mod OneReading
+pub mod OnlyServing

@@ -10,9 +10,9 @@ use Rattle.tds_tokens.specs.declared.token.Token.{Token}
 use Rattle.session_server.specs.declared.end.End.TheVariants.{Closed}
 use Rattle.shared_port.specs.Asked.{EngineSeat}
 use Rattle.seat_server.specs.declared.tally.Tally.{Tally}
-use Rattle.seat_server.specs.Served.{ServedConnection}
-use Rattle.seat_server.specs.Workers.{AllWorked, all_courses}
-use Rattle.seat_server.specs.House.{ServesFirst}
+use Rattle.seat_server.specs.Served.{Course, ServedConnection}
+use Rattle.seat_server.specs.Workers.{AllFollow, AllWorked, all_courses}
+use Rattle.seat_server.specs.House.{HouseState, ServesFirst}
 use Rattle.transfer_load.specs.Batches.{batches_bytes, closing_texts, opening_texts}
 use Rattle.transfer_load.specs.Replies.{AreReplies, number_in, refused_in, summary_text, transfers_in}
 use Rattle.transfer_load.specs.Connections.{AreDone, Connection, all_replies, input_faults, input_given, input_left, output_faults, output_written}
@@ -23,6 +23,12 @@ pub record ServesBytes (config : Config) (bytes written : List ℕ) (old new : E
   pub last : SourceState
   pub source : (first.left ≡ bytes) × (first.given ≡ [])
   pub served : ServedConnection config (Takes told_left told_given first last) (told_left last) (Some []) (Some written) old new Closed
+
+-- all that the seats of a house did were connections, and it has the same desk
+pub record OnlyServes (old new : HouseState) : Type 0 where
+  pub desk : new.desk ≡ old.desk
+  pub each : List (List Course)
+  pub follow : AllFollow old.seats each new.seats
 
 -- So many seats have served the connections of so many workers, one each in their order: these were the replies to the first worker's
 -- batches, to the second's, and so on. Each client closed its connection at the end; the other seats did nothing.

@@ -3,7 +3,7 @@
 ghost use Rattle.std.specs.Prelude.{◌≡◌, ◌≤◌, ◌<◌, ◌++◌, ℕ, List, IfOk, OnErr, length, string_bytes};
 ghost use Rattle.seat_server.specs.House.{IsFull, ServesFirst};
 ghost use Rattle.tds_login.specs.declared.config.Entry.TheVariants.{Bare};
-ghost use Rattle.transfer_load.specs.Load.{Loaded, ServesBytes};
+ghost use Rattle.transfer_load.specs.Load.{Loaded, OnlyServes, ServesBytes};
 
 use crate::batches::{closing_bytes, opening_bytes};
 use crate::replies::read_number;
@@ -40,8 +40,9 @@ pub fn load<R: Threads + Wait + Sync>(
         × Loaded workers transfers house.old.seats house.new.seats printed) }
     ensures unchanged { OnErr result (out.new.items ≡ out.old.items) }
 
-    // The house is full again.
+    // The house is full again, and has the steps that were made, also where memory was wanting.
     ensures full { IsFull 64 house.new }
+    ensures only { OnlyServes house.old house.new }
 {
     let summary = run(alloc, rt, house, workers, transfers)?;
     out.extend_from_slice(summary.as_bytes())?;
@@ -61,6 +62,7 @@ fn run<R: Threads + Wait + Sync>(
     requires transfers { transfers ≤ 10000 }
     ensures loaded { IfOk result (λ text. Loaded workers transfers house.old.seats house.new.seats (string_bytes text)) }
     ensures full { IsFull 64 house.new }
+    ensures only { OnlyServes house.old house.new }
 {
     let config = bare_config(alloc);
     serve_bytes(alloc, rt, house, &config, opening_bytes(alloc)?)?;
@@ -93,6 +95,7 @@ fn serve_bytes<R: Wait>(
     requires full { IsFull 64 house.old }
     ensures served { IfOk result (λ written. ServesFirst (ServesBytes config.now bytes.items written.items) house.old.seats house.new.seats) }
     ensures full { IsFull 64 house.new }
+    ensures only { OnlyServes house.old house.new }
 {
     let mut source = MemorySource::new(bytes, u32::MAX, Vec::new(alloc));
     let mut sink = MemorySink::new(alloc, u32::MAX, Vec::new(alloc));

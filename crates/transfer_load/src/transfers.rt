@@ -5,7 +5,7 @@ ghost use Rattle.tds_tokens.specs.declared.token.Token.{Token};
 ghost use Rattle.seat_server.specs.House.{IsFull};
 ghost use Rattle.tds_login.specs.declared.config.Entry.TheVariants.{Bare};
 ghost use Rattle.transfer_load.specs.Connections.{AreDone, IsDone, all_replies};
-ghost use Rattle.transfer_load.specs.Load.{Transferred};
+ghost use Rattle.transfer_load.specs.Load.{OnlyServes, Transferred};
 ghost use Rattle.transfer_load.specs.Replies.{refused_in, transfers_in};
 
 use crate::connection::{BatchSource, ReplySink};
@@ -32,6 +32,7 @@ pub(crate) fn transfer<R: Threads + Wait + Sync>(
     requires workers { (1 ≤ workers) × (workers ≤ 64) }
     requires transfers { transfers ≤ 10000 }
     ensures full { IsFull 64 house.new }
+    ensures only { OnlyServes house.old house.new }
     ensures transferred { IfOk result (λ counts. (each : List (List (List Token))) × Transferred config.now workers transfers house.old.seats house.new.seats each
         × (counts.transfers ≡ transfers_in (all_replies each)) × (counts.refused ≡ refused_in (all_replies each))
         × (counts.transfers + counts.refused ≡ workers * transfers)) }

@@ -18,8 +18,8 @@ use Rattle.session_server.specs.declared.end.End.TheVariants.{Closed, Cut, BadHe
 use Rattle.session_server.specs.Conversation.{IsUnended}
 use Rattle.shared_port.specs.Asked.{EngineSeat}
 use Rattle.seat_server.specs.declared.tally.Tally.{Tally}
-use Rattle.seat_server.specs.Served.{ServedConnection}
-use Rattle.seat_server.specs.Workers.{AllWorked, Tallied}
+use Rattle.seat_server.specs.Served.{Course, ServedConnection}
+use Rattle.seat_server.specs.Workers.{AllFollow, AllWorked, Tallied}
 use Rattle.seat_server.specs.House.{ServesFirst}
 use Rattle.transfer_load.specs.Load.{Loaded}
 
@@ -99,7 +99,7 @@ numbers_of faults finished failed closed hall = record { faults = faults hall; f
 
 module _ {D I O : Type 0} (may_close : D → Bool) (left given : I → Option (List ℕ)) (input_faults : I → ℕ) (written : O → Option (List ℕ)) (output_faults : O → ℕ) where
   -- The first of the seats served the connections of the hall, so many workers beside one another, and the others nothing; then it was
-  -- printed how many connections that were.
+  -- printed how many connections that were. Doors closed only where there is one that may.
   pub record HallServed (config : Config) (workers : ℕ) (rounds : Option ℕ) (told_old told_new : Option (List (I × O))) (before after : HallNumbers) (sink_before sink_after : Option (List ℕ)) (olds news : List EngineSeat) (status : ℕ) : Type 0 where
     pub tally : Tally
     pub worked : AllWorked left given input_faults written output_faults config (take workers olds) (take workers news) told_old told_new tally
@@ -130,11 +130,12 @@ ServesAll rounds sink_before sink_after status = IfSome rounds (λ all. ((status
 
 -- ---- `load`
 
--- A load was run by so many of the first seats, and printed; or memory was wanting for it, and nothing was printed.
+-- A load was run by so many of the first seats, and printed; or memory was wanting for it, and nothing was printed: what the seats did were
+-- connections.
 abbrev pub PrintsLoad : ℕ → ℕ → Option (List ℕ) → Option (List ℕ) → List EngineSeat → List EngineSeat → ℕ → Type 0
 PrintsLoad workers transfers sink_before sink_after olds news status =
     ((printed : List ℕ) × Loaded workers transfers olds news printed × Prints sink_before sink_after printed 0 6 status)
-    ⊎ ((status ≡ 6) × (sink_after ≡ sink_before))
+    ⊎ ((status ≡ 6) × (sink_after ≡ sink_before) × ((each : List (List Course)) × AllFollow olds each news))
 
 -- ---- `steps`
 

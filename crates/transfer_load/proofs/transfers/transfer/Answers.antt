@@ -1,6 +1,7 @@
 use Rattle.std.proofs.Common.{◌≡◌, ℕ, ◌*◌, List, length, ap, ◌∙◌, sym, subst, arith, option_map, vec_items}
 use Rattle.transfer_load.specs.Connections.{AreDone, Connection}
 use Rattle.transfer_load.proofs.AllClosed.{transferred_all}
+use Rattle.transfer_load.proofs.OnlyServing.{only_some}
 use Rattle.transfer_load.proofs.transfers.transfer.Goals as goal
 
 pub returns-then-tally-gt0-clause-full : goal.returns-then-tally-gt0-clause-full
@@ -28,3 +29,15 @@ returns-in_ok-counts-in-Some-clause-transferred g c =
       counted.3,
       counted.4 ∙ ap (λ (n : ℕ). n * c.args.transfers) (ap length c.deref.ensures.value ∙ many),
     )
+
+pub returns-then-tally-gt0-clause-only : goal.returns-then-tally-gt0-clause-only
+returns-then-tally-gt0-clause-only g c = let served = c.serve_hall-tally in only_some c.args.workers c.args.house.now served.new.self served.ensures.worked.each served.ensures.desk served.ensures.worked.follow served.ensures.others
+
+pub returns-in_ok-counts-in-Some-clause-only : goal.returns-in_ok-counts-in-Some-clause-only
+returns-in_ok-counts-in-Some-clause-only g c = let served = c.serve_hall-tally in only_some c.args.workers c.args.house.now served.new.self served.ensures.worked.each served.ensures.desk served.ensures.worked.follow served.ensures.others
+
+pub returns-in_err-counts-in-Some-clause-only : goal.returns-in_err-counts-in-Some-clause-only
+returns-in_err-counts-in-Some-clause-only g c = let served = c.serve_hall-tally in only_some c.args.workers c.args.house.now served.new.self served.ensures.worked.each served.ensures.desk served.ensures.worked.follow served.ensures.others
+
+pub returns-in_default-clause-only : goal.returns-in_default-clause-only
+returns-in_default-clause-only g c = let served = c.serve_hall-tally in only_some c.args.workers c.args.house.now served.new.self served.ensures.worked.each served.ensures.desk served.ensures.worked.follow served.ensures.others
