@@ -1,5 +1,5 @@
 -- Houses whose seats did nothing but serve connections.
-use Rattle.std.proofs.Common.{◌≡◌, ◌∙◌, ℕ, zero, suc, List, [], ◌∷◌, ◌++◌, Option, refl, sym, ap, subst}
+use Rattle.std.proofs.Common.{◌≡◌, ◌∙◌, ℕ, zero, suc, List, [], ◌∷◌, ◌++◌, Option, refl, sym, subst}
 use Rattle.std.specs.Prelude.{take, drop}
 use Rattle.tds_login.specs.declared.config.Config.{Config}
 use Rattle.session_server.specs.declared.end.End.{End}
