@@ -105,7 +105,7 @@ module _ {D I O : Type 0} (may_close : D → Bool) (left given : I → Option (L
     pub worked : AllWorked left given input_faults written output_faults config (take workers olds) (take workers news) told_old told_new tally
     pub others : drop workers news ≡ drop workers olds
     pub tallied : Tallied rounds workers before.faults after.faults before.finished after.finished before.failed after.failed before.closed after.closed tally
-    pub may_close : 0 < tally.closed → (door : D) × IsTrue (may_close door)
+    pub closes : 0 < tally.closed → (door : D) × IsTrue (may_close door)
     pub printed : Prints sink_before sink_after (served_text tally.connections) (tally_status tally) (unprinted_status tally) status
 
 -- the hall could not begin: it counted a fault and nothing else, nothing was served, and nothing printed
