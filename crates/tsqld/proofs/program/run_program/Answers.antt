@@ -2,6 +2,7 @@ use Rattle.std.proofs.Common.{rules, subst, inl, inr, refl, [], map, string_byte
 use Rattle.std.specs.Prelude.{Err}
 use Rattle.program_words.specs.declared.fault.WordsFault.{WordsFault}
 use Rattle.program_words.specs.Asked.{Answers}
+use Rattle.transfer_load.proofs.OnlyServing.{only_none}
 use Rattle.tsqld.proofs.Runs.{as_read, only_shown, shown_unrefused}
 use Rattle.tsqld.proofs.program.run_program.Goals as goal
 
@@ -30,3 +31,6 @@ returns-in-Err-Refused-clause-shown g c = λ alone two. shown_unrefused _ alone
 
 pub returns-in-Err-Memory-clause-steps : goal.returns-in-Err-Memory-clause-steps
 returns-in-Err-Memory-clause-steps g c = λ asks. (refl, refl, ([], record { from_left = search rules; to_given = search rules }, inl (inr refl, refl)))
+
+pub returns-in-Err-Memory-clause-load : goal.returns-in-Err-Memory-clause-load
+returns-in-Err-Memory-clause-load g c = λ transfers workers asks. let only = only_none c.args.house.now in (refl, refl, inr (refl, refl, (only.each, only.follow)))
