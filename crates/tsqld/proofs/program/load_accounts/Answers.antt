@@ -7,5 +7,5 @@ returns-in-Ok-clause-printed g c =
     let did = c.in-Ok.ensures.loaded in
     inl (did.0, did.2, subst (λ (bytes : List ℕ). Prints (g.K.Sink.written c.args.output.now) (g.K.Sink.written c.print.new.output) bytes 0 6 c.print.result) (search rules) c.print.ensures.printed)
 
-pub returns-in-Err-clause-printed : goal.returns-in-Err-clause-printed
-returns-in-Err-clause-printed g c = let only = c.load.ensures.only in inr (refl, refl, (only.each, only.follow))
+pub returns-clause-printed : goal.returns-clause-printed
+returns-clause-printed g c = let only = c.load.ensures.only in inr (refl, refl, (only.each, only.follow))
