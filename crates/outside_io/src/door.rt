@@ -4,17 +4,14 @@ ghost use Rattle.std.specs.Prelude.{◌≡◌, ℕ, ◌≤◌, ◌||◌, Bool, t
 ghost use Rattle.outside_io.specs.Bytes.{HasRisen};
 ghost use Rattle.outside_io.specs.Doors.{count_on, gives_one, gives_none, IfOne, IsUntouched, with_one};
 
-use crate::sink::Sink;
-use crate::source::{Failed, Source};
+use crate::line::Line;
+use crate::source::Failed;
 use std::marker::Send;
 
 /// Where connections come in, one after another: a socket that listens, a list in memory.
 pub trait Door {
-    /// Where the bytes of a connection come from.
-    type Input: Source + Send;
-
-    /// Where its answers go.
-    type Output: Sink + Send;
+    /// A connection: the line to its client.
+    type Line: Line + Send;
 
     // How many faults were answered.
     ghost faults: { Self → ℕ };
@@ -32,21 +29,21 @@ pub trait Door {
     ghost has_closed: { Self → Bool };
 
     // The finished connections, where it tells them, each as it was finished.
-    ghost told: { Self → Option (List (Self.Input × Self.Output)) };
+    ghost told: { Self → Option (List Self.Line) };
 
     /// Waits for the next connection. `None` says that none will come any more.
-    fn accept(&mut self) -> Result<Option<(Self::Input, Self::Output)>, Failed>
+    fn accept(&mut self) -> Result<Option<Self::Line>, Failed>
         requires { is_out self.old ≡ false }
         ensures out { is_out self.new ≡ gives_one result }
 
-        // Nothing went through the connection yet, and neither side has a fault.
-        ensures given { IfOne result (λ c. IsUntouched (Self.Input.given c.0)) }
-        ensures written { IfOne result (λ c. IsUntouched (Self.Output.written c.1)) }
-        ensures input_faults { IfOne result (λ c. Self.Input.faults c.0 ≡ 0) }
-        ensures output_faults { IfOne result (λ c. Self.Output.faults c.1 ≡ 0) }
+        // Nothing went through the line yet, and neither side of it has a fault.
+        ensures given { IfOne result (λ line. IsUntouched (Self.Line.Source.given line)) }
+        ensures written { IfOne result (λ line. IsUntouched (Self.Line.Sink.written line)) }
+        ensures read_faults { IfOne result (λ line. Self.Line.Source.faults line ≡ 0) }
+        ensures write_faults { IfOne result (λ line. Self.Line.Sink.faults line ≡ 0) }
 
-        // A door that tells its connections gives sources that tell their bytes.
-        ensures tells { IsSome (told self.old) → IfOne result (λ c. IsSome (Self.Input.left c.0) × IsSome (Self.Input.given c.0)) }
+        // A door that tells its connections gives lines whose sources tell their bytes.
+        ensures tells { IsSome (told self.old) → IfOne result (λ line. IsSome (Self.Line.Source.left line) × IsSome (Self.Line.Source.given line)) }
 
         // It answers `None` only where it may close.
         ensures closed { IsTrue (gives_none result) → IsTrue (may_close self.old) }
@@ -60,11 +57,11 @@ pub trait Door {
         ensures told { told self.new ≡ told self.old };
 
     /// Takes a connection back at its end.
-    fn finish(&mut self, input: Self::Input, output: Self::Output)
+    fn finish(&mut self, line: Self::Line)
         requires { is_out self.old ≡ true }
         ensures out { is_out self.new ≡ false }
         ensures finished { finished self.new ≡ count_on (finished self.old) 1 }
-        ensures told { told self.new ≡ with_one (told self.old) (input, output) }
+        ensures told { told self.new ≡ with_one (told self.old) line }
         ensures faults { faults self.new ≡ faults self.old }
         ensures may_close { may_close self.new ≡ may_close self.old }
         ensures has_closed { has_closed self.new ≡ has_closed self.old };

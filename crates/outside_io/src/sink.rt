@@ -3,6 +3,7 @@
 ghost use Rattle.std.specs.Prelude.{◌≡◌, ℕ, ◌≤◌, ◌<◌, List, [], length, take, IfOk, Option};
 ghost use Rattle.std.specs.Io.KnownBytes.{Appends};
 ghost use Rattle.outside_io.specs.Bytes.{HasRisen, AppendsOrHides, StaysHidden};
+ghost use Rattle.outside_io.specs.Lines.{SourceSide, no_source};
 
 use thiserror::Error;
 
@@ -27,6 +28,9 @@ pub trait Sink {
     // that a failure comes only with a risen count.
     ghost faults: { Self → ℕ };
 
+    // What writes leave as it is of a value that is a source too ([`Line`](crate::Line)).
+    ghost beside: { Self → SourceSide } = { λ _. no_source };
+
     /// Takes some bytes from the front of `from` and answers how many. An answer of 0 for a
     /// nonempty slice is a fault too, and is counted.
     fn write(&mut self, from: &[u8]) -> Result<usize, SinkFault>
@@ -45,5 +49,6 @@ pub trait Sink {
 
         // A write that took something is no fault, and neither is one of nothing or want of memory.
         ensures no_fault { IfOk result (λ n. (n ≡ 0 → length from.now ≡ 0) → faults self.new ≡ faults self.old) }
-        ensures memory_no_fault { result ≡ Err SinkFault.Memory → faults self.new ≡ faults self.old };
+        ensures memory_no_fault { result ≡ Err SinkFault.Memory → faults self.new ≡ faults self.old }
+        ensures beside { beside self.new ≡ beside self.old };
 }

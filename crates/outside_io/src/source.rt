@@ -3,6 +3,7 @@
 ghost use Rattle.std.specs.Prelude.{◌≡◌, ℕ, ◌≤◌, ◌<◌, List, [], length, take, IfOk, OnErr, Option};
 ghost use Rattle.std.specs.Io.KnownBytes.{IsAtEnd};
 ghost use Rattle.outside_io.specs.Bytes.{Takes, HasRisen};
+ghost use Rattle.outside_io.specs.Lines.{SinkSide, no_sink};
 
 use thiserror::Error;
 
@@ -24,6 +25,9 @@ pub trait Source {
     // only with a risen count.
     ghost faults: { Self → ℕ };
 
+    // What reads leave as it is of a value that is a sink too ([`Line`](crate::Line)).
+    ghost beside: { Self → SinkSide } = { λ _. no_sink };
+
     /// Reads some bytes into the front of `into` and answers how many. An answer of 0 for a
     /// nonempty slice is the end of input. What lies behind the bytes read is not said.
     fn read(&mut self, into: &mut [u8]) -> Result<usize, Failed>
@@ -37,5 +41,6 @@ pub trait Source {
         ensures counted { faults self.old ≤ faults self.new }
 
         // A read that did not fail is no fault.
-        ensures no_fault { IfOk result (λ _. faults self.new ≡ faults self.old) };
+        ensures no_fault { IfOk result (λ _. faults self.new ≡ faults self.old) }
+        ensures beside { beside self.new ≡ beside self.old };
 }
