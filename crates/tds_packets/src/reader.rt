@@ -63,6 +63,7 @@ impl Reader {
         ensures read_fault { result ≡ Err MessageFault.ReadFault → HasRisen (S.faults source.old) (S.faults source.new) }
         ensures no_fault { result ≢ Err MessageFault.ReadFault → S.faults source.new ≡ S.faults source.old }
         ensures counted { S.faults source.old ≤ S.faults source.new }
+        ensures beside { S.beside source.new ≡ S.beside source.old }
         ensures within { self.new ≤ byte_limit }
     {
         let at = self.taken;
@@ -96,6 +97,7 @@ impl Reader {
         ensures read_fault { result ≡ Err MessageFault.ReadFault → HasRisen (S.faults source.old) (S.faults source.new) }
         ensures no_fault { result ≢ Err MessageFault.ReadFault → S.faults source.new ≡ S.faults source.old }
         ensures counted { S.faults source.old ≤ S.faults source.new }
+        ensures beside { S.beside source.new ≡ S.beside source.old }
         ensures within { self.new ≤ byte_limit }
     {
         let size = payload.len();
@@ -121,6 +123,7 @@ impl Reader {
         ensures read_fault { result ≡ Err MessageFault.ReadFault → HasRisen (S.faults source.old) (S.faults source.new) }
         ensures no_fault { result ≢ Err MessageFault.ReadFault → S.faults source.new ≡ S.faults source.old }
         ensures counted { S.faults source.old ≤ S.faults source.new }
+        ensures beside { S.beside source.new ≡ S.beside source.old }
         ensures within { self.new ≤ byte_limit }
     {
         let at = self.taken;
@@ -142,6 +145,7 @@ impl Reader {
         ensures read_fault { result ≡ Err MessageFault.ReadFault → HasRisen (S.faults source.old) (S.faults source.new) }
         ensures no_fault { result ≢ Err MessageFault.ReadFault → S.faults source.new ≡ S.faults source.old }
         ensures counted { S.faults source.old ≤ S.faults source.new }
+        ensures beside { S.beside source.new ≡ S.beside source.old }
         ensures within { self.new ≤ byte_limit }
     {
         let mut filled = 0;

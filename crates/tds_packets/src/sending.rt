@@ -38,6 +38,7 @@ pub fn send_message<K: Sink>(
     ensures no_fault { result ≢ Err SendFault.WriteFault → K.faults sink.new ≡ K.faults sink.old }
     ensures counted { K.faults sink.old ≤ K.faults sink.new }
     ensures quiet { StaysHidden (K.faults sink.old) (K.written sink.old) (K.written sink.new) }
+    ensures beside { K.beside sink.new ≡ K.beside sink.old }
 {
     let room = usize::from(size) - HEADER_LEN;
     let count = payload.len().saturating_sub(1) / room + 1;
@@ -82,6 +83,7 @@ fn write_whole<K: Sink>(sink: &mut K, bytes: &[u8]) -> Result<(), SendFault>
     ensures no_fault { result ≢ Err SendFault.WriteFault → K.faults sink.new ≡ K.faults sink.old }
     ensures counted { K.faults sink.old ≤ K.faults sink.new }
     ensures quiet { StaysHidden (K.faults sink.old) (K.written sink.old) (K.written sink.new) }
+    ensures beside { K.beside sink.new ≡ K.beside sink.old }
 {
     let mut rest = bytes;
     while !rest.is_empty() {

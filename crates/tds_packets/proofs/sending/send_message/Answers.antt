@@ -54,5 +54,6 @@ loop-k-preserved g c =
       sent = subst (λ (s : List ℕ). Appends (g.K.Sink.written c.args.sink.now) (g.K.Sink.written c.write_whole.new.sink) s) (sym (packets-suc f c.loop-k.k))
           (Appends-trans _ (g.K.Sink.written c.loop-k.sink) _ (flat_map f (count_up c.loop-k.k)) (f c.loop-k.k) c.loop-k.invariant.sent sent);
       no_fault = c.in_ok-write_whole.ensures.no_fault (λ is. let never : ⊥ = cc in never) ∙ c.loop-k.invariant.no_fault;
+      beside = c.write_whole.ensures.beside ∙ c.loop-k.invariant.beside;
       quiet = λ some none. c.in_ok-write_whole.ensures.quiet (omega (arith, c.loop-k.invariant.no_fault, some)) (c.loop-k.invariant.quiet some none);
     }

@@ -10,5 +10,6 @@ abbrev pub invariant-loop-k : goal.invariant-loop-k
 invariant-loop-k g l = record {
   sent : Appends (g.K.Sink.written l.initial.sink) (g.K.Sink.written l.sink) (flat_map (packet_at l.kind l.spid l.size l.payload) (count_up l.k));
   no_fault : g.K.Sink.faults l.sink ≡ g.K.Sink.faults l.initial.sink;
+  beside : g.K.Sink.beside l.sink ≡ g.K.Sink.beside l.initial.sink;
   quiet : StaysHidden (g.K.Sink.faults l.initial.sink) (g.K.Sink.written l.initial.sink) (g.K.Sink.written l.sink);
 }

@@ -12,5 +12,6 @@ loop-rest-preserved g c =
       split_further c.args.bytes.now front rest n c.loop-rest.invariant.1,
       Appends-trans _ _ _ front (take n rest) c.loop-rest.invariant.2 c.in-Ok.ensures.takes,
       c.in-Ok.ensures.no_fault (λ none. omega arith) ∙ c.loop-rest.invariant.3,
-      λ some none. c.in-Ok.ensures.quiet (omega (arith, c.loop-rest.invariant.3, some)) (c.loop-rest.invariant.4 some none),
+      c.write.ensures.beside ∙ c.loop-rest.invariant.4,
+      λ some none. c.in-Ok.ensures.quiet (omega (arith, c.loop-rest.invariant.3, some)) (c.loop-rest.invariant.5 some none),
     )

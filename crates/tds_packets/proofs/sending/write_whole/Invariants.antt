@@ -6,6 +6,7 @@ use Rattle.tds_packets.proofs.sending.write_whole.Given as goal
 -- what was written so far, and what is left, are the bytes
 abbrev pub invariant-loop-rest : goal.invariant-loop-rest
 invariant-loop-rest g l = (front : List ℕ) × (l.bytes ≡ front ++ l.rest) × Appends (g.K.Sink.written l.initial.sink) (g.K.Sink.written l.sink) front × (g.K.Sink.faults l.sink ≡ g.K.Sink.faults l.initial.sink)
+    × (g.K.Sink.beside l.sink ≡ g.K.Sink.beside l.initial.sink)
     × StaysHidden (g.K.Sink.faults l.initial.sink) (g.K.Sink.written l.initial.sink) (g.K.Sink.written l.sink)
 
 abbrev pub decreases-loop-rest : goal.decreases-loop-rest

@@ -19,4 +19,5 @@ loop-filled-preserved g c =
       taken = omega arith;
       limit = omega (arith, c.in-Ok.ensures.bound, c.min.ensures);
       no_fault = c.in-Ok.ensures.no_fault ∙ c.loop-filled.invariant.no_fault;
+      beside = c.read.ensures.beside ∙ c.loop-filled.invariant.beside;
     }

@@ -11,6 +11,7 @@ invariant-loop-filled g l = record {
   taken : l.self-inside.taken ≡ l.initial.self-inside.taken + l.filled;
   limit : l.self-inside.taken ≤ byte_limit;
   no_fault : g.S.Source.faults l.source ≡ g.S.Source.faults l.initial.source;
+  beside : g.S.Source.beside l.source ≡ g.S.Source.beside l.initial.source;
 }
 
 abbrev pub decreases-loop-filled : goal.decreases-loop-filled

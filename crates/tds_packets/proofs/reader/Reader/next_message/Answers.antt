@@ -12,6 +12,7 @@ packets-init g c = record {
   room = omega (arith, ap length c.new-payload.ensures.items);
   limit = omega (arith, c.self.invariant, c.self.view_is);
   no_fault = refl;
+  beside = refl;
 }
 
 pub returns-in_err-packet-clause-next : goal.returns-in_err-packet-clause-next
@@ -58,5 +59,6 @@ packets-preserved g c =
       );
       room = more_room draft.0 c.packets.begun c.packets.payload.items told.0 new c.in_ok-packet.packet draft.1 told.3.0 told.3.1 told.3.2;
       limit = c.next_packet.ensures.within;
+      beside = c.next_packet.ensures.beside ∙ c.packets.invariant.beside;
       no_fault = c.in_ok-packet.ensures.no_fault (λ is. let never : ⊥ = cc in never) ∙ c.packets.invariant.no_fault;
     }

@@ -12,6 +12,7 @@ invariant-packets g l = record {
   room : length l.payload.items ≤ payload_limit;
   limit : l.self ≤ byte_limit;
   no_fault : g.S.Source.faults l.source ≡ g.S.Source.faults l.initial.source;
+  beside : g.S.Source.beside l.source ≡ g.S.Source.beside l.initial.source;
 }
 
 abbrev pub decreases-packets : goal.decreases-packets
