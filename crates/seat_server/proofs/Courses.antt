@@ -75,13 +75,13 @@ follow_idle old new (course ∷ courses) idle follow = follow_idle course.new ne
 
 -- ---- what is told
 
-module _ {I O : Type 0} (left given : I → Option (List ℕ)) (input_faults : I → ℕ) (written : O → Option (List ℕ)) (output_faults : O → ℕ) (config : Config) where
-  pub tells_none : (told : Option (List (I × O))) → TellsCourses left given input_faults written output_faults config [] told told
+module _ {L : Type 0} (left given : L → Option (List ℕ)) (read_faults : L → ℕ) (written : L → Option (List ℕ)) (write_faults : L → ℕ) (config : Config) where
+  pub tells_none : (told : Option (List L)) → TellsCourses left given read_faults written write_faults config [] told told
   tells_none None = tt
   tells_none (Some connections) = (connections, [], refl, sym (append-nil connections), tt)
 
-  pub tells_append : (xs ys : List Course) (before mid after : Option (List (I × O))) → TellsCourses left given input_faults written output_faults config xs before mid → TellsCourses left given input_faults written output_faults config ys mid after
-      → TellsCourses left given input_faults written output_faults config (xs ++ ys) before after
+  pub tells_append : (xs ys : List Course) (before mid after : Option (List L)) → TellsCourses left given read_faults written write_faults config xs before mid → TellsCourses left given read_faults written write_faults config ys mid after
+      → TellsCourses left given read_faults written write_faults config (xs ++ ys) before after
   tells_append xs ys before mid None first second = tt
   tells_append xs ys before None (Some after) first second = absurd (none_some second.2)
   tells_append xs ys before (Some mid) (Some after) first second =
@@ -89,6 +89,6 @@ module _ {I O : Type 0} (left given : I → Option (List ℕ)) (input_faults : I
         first.0,
         first.1 ++ second.1,
         first.2,
-        second.3 ∙ (ap (λ (l : List (I × O)). l ++ second.1) (same ∙ first.3) ∙ append_assoc first.0 first.1 second.1),
-        zip_append (IsServedIn left given input_faults written output_faults config) xs ys first.1 second.1 first.4 second.4,
+        second.3 ∙ (ap (λ (l : List L). l ++ second.1) (same ∙ first.3) ∙ append_assoc first.0 first.1 second.1),
+        zip_append (IsServedIn left given read_faults written write_faults config) xs ys first.1 second.1 first.4 second.4,
       )

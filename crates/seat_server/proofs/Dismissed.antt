@@ -134,7 +134,7 @@ closes_one Closed closing others some here rest = here refl
 
 -- ---- one worker more
 
-module _ {D : Type 0} (faults : D → ℕ) (is_out has_closed : D → Bool) {I O : Type 0} (left given : I → Option (List ℕ)) (input_faults : I → ℕ) (written : O → Option (List ℕ)) (output_faults : O → ℕ) (finished : D → ℕ) (told : D → Option (List (I × O))) (config : Config) (desk : TableId) (closing : Type 0) (rounds : Option ℕ) (many : ℕ) where
+module _ {D : Type 0} (faults : D → ℕ) (is_out has_closed : D → Bool) {L : Type 0} (left given : L → Option (List ℕ)) (read_faults : L → ℕ) (written : L → Option (List ℕ)) (write_faults : L → ℕ) (finished : D → ℕ) (told : D → Option (List L)) (config : Config) (desk : TableId) (closing : Type 0) (rounds : Option ℕ) (many : ℕ) where
   -- what these workers, of which the first has this place, have done by these seats
   pub record Dismissal (at : ℕ) (olds : List EngineSeat) (workers : List (Worker D)) : Type 0 where
     pub each : List (List Course)
@@ -148,7 +148,7 @@ module _ {D : Type 0} (faults : D → ℕ) (is_out has_closed : D → Bool) {I O
     pub hall_finished : (count : ℕ) → count ≤ 2 ^ 64 - 1 → count_after finished count workers ≡ count_on count (length (all_courses each))
     pub hall_failed : (count : ℕ) → count ≤ 2 ^ 64 - 1 → count_after (λ door. one_if (has_failed (faults door))) count workers ≡ count_on count (failed_in workers)
     pub hall_closed : (count : ℕ) → count ≤ 2 ^ 64 - 1 → count_after (λ door. one_if (has_closed door)) count workers ≡ count_on count (closed_in workers)
-    pub tells : (before after : Option (List (I × O))) → TakesAll told before workers after → TellsCourses left given input_faults written output_faults config (all_courses each) before after
+    pub tells : (before after : Option (List L)) → TakesAll told before workers after → TellsCourses left given read_faults written write_faults config (all_courses each) before after
     pub few : failed_in workers + closed_in workers ≤ length workers
     pub shares : SharesSo rounds many at (length workers) (length (all_courses each)) (failed_in workers) (closed_in workers)
     pub as_many : length workers ≡ length olds
@@ -168,7 +168,7 @@ module _ {D : Type 0} (faults : D → ℕ) (is_out has_closed : D → Bool) {I O
     hall_finished = λ count bound. sym (count_none count bound);
     hall_failed = λ count bound. sym (count_none count bound);
     hall_closed = λ count bound. sym (count_none count bound);
-    tells = λ before after takes. subst (TellsCourses left given input_faults written output_faults config [] before) (sym takes) (tells_none left given input_faults written output_faults config before);
+    tells = λ before after takes. subst (TellsCourses left given read_faults written write_faults config [] before) (sym takes) (tells_none left given read_faults written write_faults config before);
     few = omega arith;
     shares = shares_none rounds many at;
     as_many = refl;
@@ -176,19 +176,19 @@ module _ {D : Type 0} (faults : D → ℕ) (is_out has_closed : D → Bool) {I O
   }
 
   -- a hall takes over what a door tells, which told none at first
-  takes_over : (courses : List Course) (new_door before_door : Option (List (I × O))) (before after : Option (List (I × O))) → IfSome before_door (λ connections. connections ≡ []) → TellsCourses left given input_faults written output_faults config courses before_door new_door → TakesOver before new_door after
-      → TellsCourses left given input_faults written output_faults config courses before after
+  takes_over : (courses : List Course) (new_door before_door : Option (List L)) (before after : Option (List L)) → IfSome before_door (λ connections. connections ≡ []) → TellsCourses left given read_faults written write_faults config courses before_door new_door → TakesOver before new_door after
+      → TellsCourses left given read_faults written write_faults config courses before after
   takes_over courses new_door before_door before None new tells takes = tt
   takes_over courses None before_door None (Some after) new tells takes = absurd takes
   takes_over courses None before_door (Some before) (Some after) new tells takes = absurd takes
   takes_over courses (Some door) before_door None (Some after) new tells takes = absurd takes
   takes_over courses (Some door) before_door (Some before) (Some after) new tells takes =
-      let nothing : tells.0 ≡ [] = subst (λ (o : Option (List (I × O))). IfSome o (λ connections. connections ≡ [])) tells.2 new in
-      let mine : door ≡ tells.1 = tells.3 ∙ ap (λ (l : List (I × O)). l ++ tells.1) nothing in
-      (before, tells.1, refl, takes ∙ ap (λ (l : List (I × O)). before ++ l) mine, tells.4)
+      let nothing : tells.0 ≡ [] = subst (λ (o : Option (List L)). IfSome o (λ connections. connections ≡ [])) tells.2 new in
+      let mine : door ≡ tells.1 = tells.3 ∙ ap (λ (l : List L). l ++ tells.1) nothing in
+      (before, tells.1, refl, takes ∙ ap (λ (l : List L). before ++ l) mine, tells.4)
 
   one_dismissed : (at : ℕ) (old : EngineSeat) (olds : List EngineSeat) (hired worker : Worker D) (workers : List (Worker D)) → IsHired faults is_out has_closed finished told old (share_of rounds many at) hired
-      → Works faults is_out has_closed left given input_faults written output_faults finished told config desk closing hired worker → Dismissal (at + 1) olds workers → Dismissal at (old ∷ olds) (worker ∷ workers)
+      → Works faults is_out has_closed left given read_faults written write_faults finished told config desk closing hired worker → Dismissal (at + 1) olds workers → Dismissal at (old ∷ olds) (worker ∷ workers)
   unfolding failed_in closed_in
   one_dismissed at old olds hired worker workers new works rest =
       let worked = works.worked in
@@ -225,7 +225,7 @@ module _ {D : Type 0} (faults : D → ℕ) (is_out has_closed : D → Bool) {I O
             ∙ (ap (λ n. count_on (count_on count n) (failed_in workers)) failed_so ∙ count_twice count (one_if (is_failed worker.outcome)) (failed_in workers));
         hall_closed = λ count bound. rest.hall_closed (count_on count (one_if (has_closed worker.door))) (omega arith)
             ∙ (ap (λ n. count_on (count_on count n) (closed_in workers)) closed_so ∙ count_twice count (one_if (is_closed worker.outcome)) (closed_in workers));
-        tells = λ before after takes. tells_append left given input_faults written output_faults config works.courses (all_courses rest.each) before takes.0 after
+        tells = λ before after takes. tells_append left given read_faults written write_faults config works.courses (all_courses rest.each) before takes.0 after
             (takes_over works.courses (told worker.door) (told hired.door) before takes.0 new.door.nothing worked.tells takes.1)
             (rest.tells takes.0 after takes.2);
         few = omega (arith, rest.few, one);
@@ -237,7 +237,7 @@ module _ {D : Type 0} (faults : D → ℕ) (is_out has_closed : D → Bool) {I O
       }
 
   pub dismissed : (at : ℕ) (olds : List EngineSeat) (hired workers : List (Worker D)) → AreHired faults is_out has_closed finished told rounds many at olds hired
-      → AllZip (Works faults is_out has_closed left given input_faults written output_faults finished told config desk closing) hired workers → Dismissal at olds workers
+      → AllZip (Works faults is_out has_closed left given read_faults written write_faults finished told config desk closing) hired workers → Dismissal at olds workers
   dismissed at [] [] [] are works = none_dismissed at
   dismissed at [] [] (worker ∷ workers) are works = absurd works
   dismissed at [] (hired ∷ others) workers are works = absurd are
@@ -246,7 +246,7 @@ module _ {D : Type 0} (faults : D → ℕ) (is_out has_closed : D → Bool) {I O
   dismissed at (old ∷ olds) (hired ∷ others) (worker ∷ workers) are works = one_dismissed at old olds hired worker workers are.0 works.0 (dismissed (at + 1) olds others workers are.1 works.1)
 
   -- no connection is out behind their work
-  pub all_home : (hired workers : List (Worker D)) → AllZip (Works faults is_out has_closed left given input_faults written output_faults finished told config desk closing) hired workers → All (λ worker. is_out worker.door ≡ false) workers
+  pub all_home : (hired workers : List (Worker D)) → AllZip (Works faults is_out has_closed left given read_faults written write_faults finished told config desk closing) hired workers → All (λ worker. is_out worker.door ≡ false) workers
   all_home [] [] works = All-nil (λ (worker : Worker D). is_out worker.door ≡ false)
   all_home [] (worker ∷ workers) works = absurd works
   all_home (hired ∷ others) [] works = absurd works
@@ -254,6 +254,6 @@ module _ {D : Type 0} (faults : D → ℕ) (is_out has_closed : D → Bool) {I O
 
   -- as the code has them, from the last to the first
   pub all_done : (olds : List EngineSeat) (hired workers : List (Worker D)) → AreHired faults is_out has_closed finished told rounds many 0 olds (reverse hired)
-      → AllZip (Works faults is_out has_closed left given input_faults written output_faults finished told config desk closing) hired workers → Dismissal 0 olds (reverse workers)
+      → AllZip (Works faults is_out has_closed left given read_faults written write_faults finished told config desk closing) hired workers → Dismissal 0 olds (reverse workers)
   all_done olds hired workers are works =
-      dismissed 0 olds (reverse hired) (reverse workers) are (zip_reverse (Works faults is_out has_closed left given input_faults written output_faults finished told config desk closing) hired workers works)
+      dismissed 0 olds (reverse hired) (reverse workers) are (zip_reverse (Works faults is_out has_closed left given read_faults written write_faults finished told config desk closing) hired workers works)

@@ -68,42 +68,42 @@ one_more_is : (b : Bool) (count : ℕ) → count ≤ 2 ^ 64 - 1 → one_more b (
 one_more_is true count bound = omega (arith, bound)
 one_more_is false count bound = sym (count_none count bound)
 
-module _ {I O : Type 0} (left given : I → Option (List ℕ)) (input_faults : I → ℕ) (written : O → Option (List ℕ)) (output_faults : O → ℕ) (config : Config) where
-  pub is_served_in : (input_old input : I) (output_old output : O) (old new : EngineSeat) (end : End) (connections : Option (List (I × O))) → IsFresh given input_faults written output_faults input_old output_old connections → IsSome connections
-      → ServedConnection config (Takes left given input_old input) (left input) (written output_old) (written output) old new end
-      → CountsFault (input_faults input_old) (input_faults input) (end ≡ ReadFault) → CountsFault (output_faults output_old) (output_faults output) (end ≡ WriteFault)
-      → IsServedIn left given input_faults written output_faults config (record { old = old; new = new; end = end }) (input, output)
-  is_served_in input_old input output_old output old new end connections fresh tells served reads writes = record {
-    first = (input_old, output_old);
-    untouched = (told_empty (given input_old) fresh.given_none (fresh.given_told tells), fresh.written_none);
-    faultless = (fresh.input_sound, fresh.output_sound);
+module _ {L : Type 0} (left given : L → Option (List ℕ)) (read_faults : L → ℕ) (written : L → Option (List ℕ)) (write_faults : L → ℕ) (config : Config) where
+  pub is_served_in : (line_old line : L) (old new : EngineSeat) (end : End) (connections : Option (List L)) → IsFresh given read_faults written write_faults line_old connections → IsSome connections
+      → ServedConnection config (Takes left given line_old line) (left line) (written line_old) (written line) old new end
+      → CountsFault (read_faults line_old) (read_faults line) (end ≡ ReadFault) → CountsFault (write_faults line_old) (write_faults line) (end ≡ WriteFault)
+      → IsServedIn left given read_faults written write_faults config (record { old = old; new = new; end = end }) line
+  is_served_in line_old line old new end connections fresh tells served reads writes = record {
+    first = line_old;
+    untouched = (told_empty (given line_old) fresh.given_none (fresh.given_told tells), fresh.written_none);
+    faultless = (fresh.reads_sound, fresh.writes_sound);
     served = served;
     reads = reads;
     writes = writes;
   }
 
-  tells_one : (course : Course) (connection : I × O) (before after : Option (List (I × O))) → (IsSome before → IsServedIn left given input_faults written output_faults config course connection) → after ≡ with_one before connection
-      → TellsCourses left given input_faults written output_faults config (course ∷ []) before after
-  tells_one course connection None after served is = subst (TellsCourses left given input_faults written output_faults config (course ∷ []) None) (sym is) tt
-  tells_one course connection (Some connections) after served is = subst (TellsCourses left given input_faults written output_faults config (course ∷ []) (Some connections)) (sym is) (connections, connection ∷ [], refl, refl, (served refl, tt))
+  tells_one : (course : Course) (line : L) (before after : Option (List L)) → (IsSome before → IsServedIn left given read_faults written write_faults config course line) → after ≡ with_one before line
+      → TellsCourses left given read_faults written write_faults config (course ∷ []) before after
+  tells_one course line None after served is = subst (TellsCourses left given read_faults written write_faults config (course ∷ []) None) (sym is) tt
+  tells_one course line (Some connections) after served is = subst (TellsCourses left given read_faults written write_faults config (course ∷ []) (Some connections)) (sym is) (connections, line ∷ [], refl, refl, (served refl, tt))
 
-module _ {D : Type 0} (faults : D → ℕ) (is_out has_closed : D → Bool) {I O : Type 0} (left given : I → Option (List ℕ)) (input_faults : I → ℕ) (written : O → Option (List ℕ)) (output_faults : O → ℕ) (finished : D → ℕ) (told : D → Option (List (I × O))) (config : Config) where
+module _ {D : Type 0} (faults : D → ℕ) (is_out has_closed : D → Bool) {L : Type 0} (left given : L → Option (List ℕ)) (read_faults : L → ℕ) (written : L → Option (List ℕ)) (write_faults : L → ℕ) (finished : D → ℕ) (told : D → Option (List L)) (config : Config) where
   -- a connection was served, and given back
-  pub serves_one : (input_old input : I) (output_old output : O) (seat seat_new : EngineSeat) (end : End) (old new : Worker D) (mid : D) → IsFresh given input_faults written output_faults input_old output_old (told old.door)
-      → ServedConnection config (Takes left given input_old input) (left input) (written output_old) (written output) seat seat_new end
-      → CountsFault (input_faults input_old) (input_faults input) (end ≡ ReadFault) → CountsFault (output_faults output_old) (output_faults output) (end ≡ WriteFault)
-      → is_out mid ≡ false → finished mid ≡ count_on (finished old.door) 1 → told mid ≡ with_one (told old.door) (input, output) → faults mid ≡ faults old.door → has_closed mid ≡ has_closed old.door
+  pub serves_one : (line_old line : L) (seat seat_new : EngineSeat) (end : End) (old new : Worker D) (mid : D) → IsFresh given read_faults written write_faults line_old (told old.door)
+      → ServedConnection config (Takes left given line_old line) (left line) (written line_old) (written line) seat seat_new end
+      → CountsFault (read_faults line_old) (read_faults line) (end ≡ ReadFault) → CountsFault (write_faults line_old) (write_faults line) (end ≡ WriteFault)
+      → is_out mid ≡ false → finished mid ≡ count_on (finished old.door) 1 → told mid ≡ with_one (told old.door) line → faults mid ≡ faults old.door → has_closed mid ≡ has_closed old.door
       → new ≡ record old { seat = Some seat_new; door = mid; served = count_up old.served 1; starved = one_more (is_memory end) (2 ^ 64 - 1) old.starved }
-      → Serves faults is_out has_closed left given input_faults written output_faults finished told config seat old new
-  serves_one input_old input output_old output seat seat_new end old new mid fresh served reads writes home finished_so told_so faults_so closed_so is =
+      → Serves faults is_out has_closed left given read_faults written write_faults finished told config seat old new
+  serves_one line_old line seat seat_new end old new mid fresh served reads writes home finished_so told_so faults_so closed_so is =
       let course : Course = record { old = seat; new = seat_new; end = end } in
       let door : new.door ≡ mid = ap (λ (w : Worker D). w.door) is in record {
         course = course;
-        course_is = course_of config (Takes left given input_old input) (left input) (written output_old) (written output) seat seat_new end served;
+        course_is = course_of config (Takes left given line_old line) (left line) (written line_old) (written line) seat seat_new end served;
         from_seat = refl;
         to_seat = ap (λ (w : Worker D). w.seat) is;
-        tells = tells_one left given input_faults written output_faults config course (input, output) (told old.door) (told new.door)
-            (λ some. is_served_in left given input_faults written output_faults config input_old input output_old output seat seat_new end (told old.door) fresh some served reads writes) (ap told door ∙ told_so);
+        tells = tells_one left given read_faults written write_faults config course line (told old.door) (told new.door)
+            (λ some. is_served_in left given read_faults written write_faults config line_old line seat seat_new end (told old.door) fresh some served reads writes) (ap told door ∙ told_so);
         home = ap is_out door ∙ home;
         faults_same = ap faults door ∙ faults_so;
         closed_same = ap has_closed door ∙ closed_so;
@@ -116,8 +116,8 @@ module _ {D : Type 0} (faults : D → ℕ) (is_out has_closed : D → Bool) {I O
 
   -- a worker whose door gave a connection, and that has served it
   pub worked_one : (desk : TableId) (seat : EngineSeat) (old mid new : Worker D) → IsPosted faults is_out has_closed desk seat old → finished mid.door ≡ finished old.door → told mid.door ≡ told old.door → faults mid.door ≡ faults old.door → has_closed mid.door ≡ has_closed old.door
-      → mid ≡ record old { door = mid.door } → Serves faults is_out has_closed left given input_faults written output_faults finished told config seat mid new
-      → WorkedOne faults is_out has_closed left given input_faults written output_faults finished told config desk seat old new
+      → mid ≡ record old { door = mid.door } → Serves faults is_out has_closed left given read_faults written write_faults finished told config seat mid new
+      → WorkedOne faults is_out has_closed left given read_faults written write_faults finished told config desk seat old new
   worked_one desk seat old mid new posted finished_so told_so faults_so closed_so is serves =
       let course : Course = serves.course in
       let outcome : new.outcome ≡ old.outcome = serves.outcome_same ∙ ap (λ (w : Worker D). w.outcome) is in
@@ -135,7 +135,7 @@ module _ {D : Type 0} (faults : D → ℕ) (is_out has_closed : D → Bool) {I O
           };
           share = serves.share_same ∙ ap (λ (w : Worker D). w.share) is;
           finished_so = λ bound. serves.finished_more ∙ ap (λ n. count_on n 1) finished_so;
-          tells = subst (λ (before : Option (List (I × O))). TellsCourses left given input_faults written output_faults config (course ∷ []) before (told new.door)) told_so serves.tells;
+          tells = subst (λ (before : Option (List L)). TellsCourses left given read_faults written write_faults config (course ∷ []) before (told new.door)) told_so serves.tells;
           served = λ bound. let same : mid.served ≡ old.served = ap (λ (w : Worker D). w.served) is in serves.served (omega (arith, same, bound)) ∙ ap (λ n. count_on n 1) same;
           starved = λ bound. let same : mid.starved ≡ old.starved = ap (λ (w : Worker D). w.starved) is in
               serves.starved (omega (arith, same, bound)) ∙ (ap (λ n. count_on n (one_if (is_memory course.end))) same ∙ ap (count_on old.starved) (sym (starved_one course)));
@@ -143,13 +143,13 @@ module _ {D : Type 0} (faults : D → ℕ) (is_out has_closed : D → Bool) {I O
       )
 
   -- it has served none
-  pub worked_nothing : (desk : TableId) (seat : EngineSeat) (worker : Worker D) → IsPosted faults is_out has_closed desk seat worker → WorkedNone faults is_out has_closed left given input_faults written output_faults finished told config desk seat worker worker
+  pub worked_nothing : (desk : TableId) (seat : EngineSeat) (worker : Worker D) → IsPosted faults is_out has_closed desk seat worker → WorkedNone faults is_out has_closed left given read_faults written write_faults finished told config desk seat worker worker
   worked_nothing desk seat worker posted = record {
     follow = refl;
     posted = posted;
     share = refl;
     finished_so = λ bound. sym (count_none (finished worker.door) bound);
-    tells = tells_none left given input_faults written output_faults config (told worker.door);
+    tells = tells_none left given read_faults written write_faults config (told worker.door);
     served = λ bound. sym (count_none worker.served bound);
     starved = λ bound. sym (count_none worker.starved bound);
   }
@@ -157,13 +157,13 @@ module _ {D : Type 0} (faults : D → ℕ) (is_out has_closed : D → Bool) {I O
   -- its door gave none, and has failed or closed
   pub worked_none : (desk : TableId) (seat : EngineSeat) (old new : Worker D) → IsPosted faults is_out has_closed desk seat old → is_out new.door ≡ false → finished new.door ≡ finished old.door → told new.door ≡ told old.door
       → has_failed (faults new.door) ≡ is_failed new.outcome → has_closed new.door ≡ is_closed new.outcome → new ≡ record old { door = new.door; outcome = new.outcome }
-      → WorkedNone faults is_out has_closed left given input_faults written output_faults finished told config desk seat old new
+      → WorkedNone faults is_out has_closed left given read_faults written write_faults finished told config desk seat old new
   worked_none desk seat old new posted home finished_so told_so failed closed is = record {
     follow = refl;
     posted = record { has = ap (λ (w : Worker D). w.seat) is ∙ posted.has; at_desk = posted.at_desk; idle = posted.idle; home = home; failed = failed; closed = closed };
     share = ap (λ (w : Worker D). w.share) is;
     finished_so = λ bound. finished_so ∙ sym (count_none (finished old.door) bound);
-    tells = subst (TellsCourses left given input_faults written output_faults config [] (told old.door)) (sym told_so) (tells_none left given input_faults written output_faults config (told old.door));
+    tells = subst (TellsCourses left given read_faults written write_faults config [] (told old.door)) (sym told_so) (tells_none left given read_faults written write_faults config (told old.door));
     served = λ bound. ap (λ (w : Worker D). w.served) is ∙ sym (count_none old.served bound);
     starved = λ bound. ap (λ (w : Worker D). w.starved) is ∙ sym (count_none old.starved bound);
   }
@@ -174,15 +174,15 @@ module _ {D : Type 0} (faults : D → ℕ) (is_out has_closed : D → Bool) {I O
       let here : mid ≡ count_on old more = first bound in
       second (omega (arith, here)) ∙ (ap (λ n. count_on n again) here ∙ count_twice old more again)
 
-  pub worked_on : (desk : TableId) (xs ys : List Course) (seat seat_mid seat_new : EngineSeat) (old mid new : Worker D) → Worked faults is_out has_closed left given input_faults written output_faults finished told config xs desk seat seat_mid old mid
-      → Worked faults is_out has_closed left given input_faults written output_faults finished told config ys desk seat_mid seat_new mid new → Worked faults is_out has_closed left given input_faults written output_faults finished told config (xs ++ ys) desk seat seat_new old new
+  pub worked_on : (desk : TableId) (xs ys : List Course) (seat seat_mid seat_new : EngineSeat) (old mid new : Worker D) → Worked faults is_out has_closed left given read_faults written write_faults finished told config xs desk seat seat_mid old mid
+      → Worked faults is_out has_closed left given read_faults written write_faults finished told config ys desk seat_mid seat_new mid new → Worked faults is_out has_closed left given read_faults written write_faults finished told config (xs ++ ys) desk seat seat_new old new
   worked_on desk xs ys seat seat_mid seat_new old mid new first second =
       let longer : length (xs ++ ys) ≡ length xs + length ys = length-append xs ys in record {
         follow = follow_append seat seat_mid seat_new xs ys first.follow second.follow;
         posted = second.posted;
         share = second.share ∙ first.share;
         finished_so = subst (RisesBy (finished old.door) (finished new.door)) (sym longer) (rises_on (finished old.door) (finished mid.door) (finished new.door) (length xs) (length ys) first.finished_so second.finished_so);
-        tells = tells_append left given input_faults written output_faults config xs ys (told old.door) (told mid.door) (told new.door) first.tells second.tells;
+        tells = tells_append left given read_faults written write_faults config xs ys (told old.door) (told mid.door) (told new.door) first.tells second.tells;
         served = subst (RisesBy old.served new.served) (sym longer) (rises_on old.served mid.served new.served (length xs) (length ys) first.served second.served);
         starved = subst (RisesBy old.starved new.starved) (sym (starved_append xs ys)) (rises_on old.starved mid.starved new.starved (starved_in xs) (starved_in ys) first.starved second.starved);
       }
@@ -195,7 +195,7 @@ module _ {D : Type 0} (faults : D → ℕ) (is_out has_closed : D → Bool) {I O
     pub new_seat : EngineSeat
     pub had : old.seat ≡ Some old_seat
     pub courses : List Course
-    pub worked : Worked faults is_out has_closed left given input_faults written output_faults finished told config courses desk old_seat new_seat old new
+    pub worked : Worked faults is_out has_closed left given read_faults written write_faults finished told config courses desk old_seat new_seat old new
     pub going : new.outcome ≡ Going
     pub within : IfSome old.share (λ share. length courses ≤ share)
 
@@ -215,7 +215,7 @@ module _ {D : Type 0} (faults : D → ℕ) (is_out has_closed : D → Bool) {I O
   }
 
   -- it stops where its share is served
-  pub stops_served : (desk : TableId) (closing : Type 0) (old new : Worker D) → old.served ≡ 0 → GoesOn desk old new → is_served new.share new.served ≡ true → Works faults is_out has_closed left given input_faults written output_faults finished told config desk closing old new
+  pub stops_served : (desk : TableId) (closing : Type 0) (old new : Worker D) → old.served ≡ 0 → GoesOn desk old new → is_served new.share new.served ≡ true → Works faults is_out has_closed left given read_faults written write_faults finished told config desk closing old new
   stops_served desk closing old new none goes all = record {
     old_seat = goes.old_seat;
     new_seat = goes.new_seat;
@@ -234,8 +234,8 @@ module _ {D : Type 0} (faults : D → ℕ) (is_out has_closed : D → Bool) {I O
       by_share (Some many) within served = (within, inl (grind (arith, within, counted_so, served)))
 
   -- or where its door lets it serve no more
-  pub stops_ended : (desk : TableId) (closing : Type 0) (old mid new : Worker D) → GoesOn desk old mid → new.outcome ≢ Going → (new.outcome ≡ Closed → closing) → ((seat : EngineSeat) → IsPosted faults is_out has_closed desk seat mid → WorkedNone faults is_out has_closed left given input_faults written output_faults finished told config desk seat mid new)
-      → Works faults is_out has_closed left given input_faults written output_faults finished told config desk closing old new
+  pub stops_ended : (desk : TableId) (closing : Type 0) (old mid new : Worker D) → GoesOn desk old mid → new.outcome ≢ Going → (new.outcome ≡ Closed → closing) → ((seat : EngineSeat) → IsPosted faults is_out has_closed desk seat mid → WorkedNone faults is_out has_closed left given read_faults written write_faults finished told config desk seat mid new)
+      → Works faults is_out has_closed left given read_faults written write_faults finished told config desk closing old new
   stops_ended desk closing old mid new goes ended closes none = record {
     old_seat = goes.old_seat;
     new_seat = goes.new_seat;
@@ -252,7 +252,7 @@ module _ {D : Type 0} (faults : D → ℕ) (is_out has_closed : D → Bool) {I O
 
   -- it goes on behind one more
   pub goes_more : (desk : TableId) (old mid new : Worker D) → old.served ≡ 0 → IfSome mid.share (λ share. share < 2 ^ 32) → GoesOn desk old mid → is_served mid.share mid.served ≡ false → new.outcome ≡ Going
-      → ((seat : EngineSeat) → IsPosted faults is_out has_closed desk seat mid → WorkedOne faults is_out has_closed left given input_faults written output_faults finished told config desk seat mid new) → GoesOn desk old new
+      → ((seat : EngineSeat) → IsPosted faults is_out has_closed desk seat mid → WorkedOne faults is_out has_closed left given read_faults written write_faults finished told config desk seat mid new) → GoesOn desk old new
   goes_more desk old mid new none range goes more going one =
       let served = one goes.new_seat goes.worked.posted in record {
         old_seat = goes.old_seat;

@@ -30,17 +30,17 @@ none_in_all : (seats : List EngineSeat) → all_courses (no_courses seats) ≡ [
 none_in_all [] = refl
 none_in_all (seat ∷ seats) = none_in_all seats
 
-module _ {I O : Type 0} (left given : I → Option (List ℕ)) (input_faults : I → ℕ) (written : O → Option (List ℕ)) (output_faults : O → ℕ) (config : Config) where
-  tells_stayed : (courses : List Course) (before mid after : Option (List (I × O))) → StaysTold before mid → TellsCourses left given input_faults written output_faults config courses mid after → TellsCourses left given input_faults written output_faults config courses before after
+module _ {L : Type 0} (left given : L → Option (List ℕ)) (read_faults : L → ℕ) (written : L → Option (List ℕ)) (write_faults : L → ℕ) (config : Config) where
+  tells_stayed : (courses : List Course) (before mid after : Option (List L)) → StaysTold before mid → TellsCourses left given read_faults written write_faults config courses mid after → TellsCourses left given read_faults written write_faults config courses before after
   tells_stayed courses before mid None stays tells = tt
   tells_stayed courses before None (Some after) stays tells = absurd (none_some tells.2)
   tells_stayed courses before (Some mid) (Some after) stays tells = (tells.0, tells.1, stays ∙ tells.2, tells.3, tells.4)
 
-  pub none_worked : (seats : List EngineSeat) (before after : Option (List (I × O))) (tally : Tally) → StaysTold before after → tally ≡ no_memory → AllWorked left given input_faults written output_faults config seats seats before after tally
+  pub none_worked : (seats : List EngineSeat) (before after : Option (List L)) (tally : Tally) → StaysTold before after → tally ≡ no_memory → AllWorked left given read_faults written write_faults config seats seats before after tally
   none_worked seats before after tally stays is = record {
     each = no_courses seats;
     follow = none_follow seats;
-    told = subst (λ (courses : List Course). TellsCourses left given input_faults written output_faults config courses before after) (sym (none_in_all seats)) (tells_stayed [] before after after stays (tells_none left given input_faults written output_faults config after));
+    told = subst (λ (courses : List Course). TellsCourses left given read_faults written write_faults config courses before after) (sym (none_in_all seats)) (tells_stayed [] before after after stays (tells_none left given read_faults written write_faults config after));
     connections = ap (λ (t : Tally). t.connections) is ∙ ap (λ (courses : List Course). count_on 0 (length courses)) (sym (none_in_all seats));
     starved = ap (λ (t : Tally). t.starved) is ∙ ap (λ (courses : List Course). count_on 0 (starved_in courses)) (sym (none_in_all seats));
   }
@@ -89,16 +89,16 @@ ended_by (Some all) many served failed closed none shares = absurd (none_some (s
 
 -- ---- all of them
 
-module _ {D : Type 0} (faults : D → ℕ) (is_out has_closed : D → Bool) {I O : Type 0} (left given : I → Option (List ℕ)) (input_faults : I → ℕ) (written : O → Option (List ℕ)) (output_faults : O → ℕ) (finished : D → ℕ) (told : D → Option (List (I × O))) (config : Config) (desk : TableId) (closing : Type 0) (rounds : Option ℕ)
-    (olds news : List EngineSeat) (workers : List (Worker D)) (tally : Tally) (done : Dismissal faults is_out has_closed left given input_faults written output_faults finished told config desk closing rounds (length olds) 0 olds workers) (is : tally ≡ tally_after no_tally workers) where
+module _ {D : Type 0} (faults : D → ℕ) (is_out has_closed : D → Bool) {L : Type 0} (left given : L → Option (List ℕ)) (read_faults : L → ℕ) (written : L → Option (List ℕ)) (write_faults : L → ℕ) (finished : D → ℕ) (told : D → Option (List L)) (config : Config) (desk : TableId) (closing : Type 0) (rounds : Option ℕ)
+    (olds news : List EngineSeat) (workers : List (Worker D)) (tally : Tally) (done : Dismissal faults is_out has_closed left given read_faults written write_faults finished told config desk closing rounds (length olds) 0 olds workers) (is : tally ≡ tally_after no_tally workers) where
   connections_are : tally.connections ≡ count_on 0 (length (all_courses done.each))
   connections_are = ap (λ (t : Tally). t.connections) is ∙ done.connections no_tally (omega arith)
 
-  pub all_worked : (before mid after : Option (List (I × O))) → StaysTold before mid → TakesAll told mid workers after → news ≡ [] ++ seats_of workers → AllWorked left given input_faults written output_faults config olds news before after tally
+  pub all_worked : (before mid after : Option (List L)) → StaysTold before mid → TakesAll told mid workers after → news ≡ [] ++ seats_of workers → AllWorked left given read_faults written write_faults config olds news before after tally
   all_worked before mid after stays takes seats = record {
     each = done.each;
     follow = subst (AllFollow olds done.each) (sym seats) done.follow;
-    told = tells_stayed left given input_faults written output_faults config (all_courses done.each) before mid after stays (done.tells mid after takes);
+    told = tells_stayed left given read_faults written write_faults config (all_courses done.each) before mid after stays (done.tells mid after takes);
     connections = connections_are;
     starved = ap (λ (t : Tally). t.starved) is ∙ done.starved no_tally (omega arith);
   }

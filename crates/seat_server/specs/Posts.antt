@@ -45,14 +45,14 @@ is_closed Going = false
 is_closed Failed = false
 is_closed Closed = true
 
-module _ {I O : Type 0} (given : I → Option (List ℕ)) (input_faults : I → ℕ) (written : O → Option (List ℕ)) (output_faults : O → ℕ) where
-  -- nothing went through this connection yet, and if the door tells its connections, the source of this one tells what it gives
-  pub record IsFresh (input : I) (output : O) (connections : Option (List (I × O))) : Type 0 where
-    pub given_none : IsUntouched (given input)
-    pub written_none : IsUntouched (written output)
-    pub input_sound : input_faults input ≡ 0
-    pub output_sound : output_faults output ≡ 0
-    pub given_told : IsSome connections → IsSome (given input)
+module _ {L : Type 0} (given : L → Option (List ℕ)) (read_faults : L → ℕ) (written : L → Option (List ℕ)) (write_faults : L → ℕ) where
+  -- nothing went through this line yet, and if the door tells its connections, this one tells what it gives
+  pub record IsFresh (line : L) (connections : Option (List L)) : Type 0 where
+    pub given_none : IsUntouched (given line)
+    pub written_none : IsUntouched (written line)
+    pub reads_sound : read_faults line ≡ 0
+    pub writes_sound : write_faults line ≡ 0
+    pub given_told : IsSome connections → IsSome (given line)
 
 module _ {D : Type 0} (faults : D → ℕ) (is_out has_closed : D → Bool) where
   -- It has this seat, which is one of this desk and has no transaction open, and a door at which no connection is out; it knows whether the
@@ -73,14 +73,14 @@ module _ {D : Type 0} (faults : D → ℕ) (is_out has_closed : D → Bool) wher
   abbrev pub Begins : TableId → Worker D → Type 0
   Begins desk worker = HasPost desk worker × (worker.outcome ≡ Going) × (worker.served ≡ 0)
 
-  module _ {I O : Type 0} (left given : I → Option (List ℕ)) (input_faults : I → ℕ) (written : O → Option (List ℕ)) (output_faults : O → ℕ) (finished : D → ℕ) (told : D → Option (List (I × O))) where
+  module _ {L : Type 0} (left given : L → Option (List ℕ)) (read_faults : L → ℕ) (written : L → Option (List ℕ)) (write_faults : L → ℕ) (finished : D → ℕ) (told : D → Option (List L)) where
     -- It has served one connection by its seat, and has given it back to its door. Nothing else has changed there.
     pub record Serves (config : Config) (seat : EngineSeat) (old new : Worker D) : Type 0 where
       pub course : Course
       pub course_is : IsCourse course
       pub from_seat : course.old ≡ seat
       pub to_seat : new.seat ≡ Some course.new
-      pub tells : TellsCourses left given input_faults written output_faults config (course ∷ []) (told old.door) (told new.door)
+      pub tells : TellsCourses left given read_faults written write_faults config (course ∷ []) (told old.door) (told new.door)
       pub home : is_out new.door ≡ false
       pub faults_same : faults new.door ≡ faults old.door
       pub closed_same : has_closed new.door ≡ has_closed old.door
@@ -96,7 +96,7 @@ module _ {D : Type 0} (faults : D → ℕ) (is_out has_closed : D → Bool) wher
       pub posted : IsPosted desk new_seat new
       pub share : new.share ≡ old.share
       pub finished_so : RisesBy (finished old.door) (finished new.door) (length courses)
-      pub tells : TellsCourses left given input_faults written output_faults config courses (told old.door) (told new.door)
+      pub tells : TellsCourses left given read_faults written write_faults config courses (told old.door) (told new.door)
       pub served : RisesBy old.served new.served (length courses)
       pub starved : RisesBy old.starved new.starved (starved_in courses)
 

@@ -14,22 +14,22 @@ use Rattle.seat_server.specs.Served.{Course, Follow, ServedConnection}
 
 -- ---- what is told of connections
 
-module _ {I O : Type 0} (left given : I → Option (List ℕ)) (input_faults : I → ℕ) (written : O → Option (List ℕ)) (output_faults : O → ℕ) where
-  -- a connection, as a door was given it back, was served in this course
-  pub record IsServedIn (config : Config) (course : Course) (connection : I × O) : Type 0 where
+module _ {L : Type 0} (left given : L → Option (List ℕ)) (read_faults : L → ℕ) (written : L → Option (List ℕ)) (write_faults : L → ℕ) where
+  -- a line, as a door was given it back, was served in this course
+  pub record IsServedIn (config : Config) (course : Course) (line : L) : Type 0 where
     -- as the door gave it: nothing had gone through it, and neither side had a fault
-    pub first : I × O
-    pub untouched : (given first.0 ≡ Some []) × IsUntouched (written first.1)
-    pub faultless : (input_faults first.0 ≡ 0) × (output_faults first.1 ≡ 0)
-    pub served : ServedConnection config (Takes left given first.0 connection.0) (left connection.0) (written first.1) (written connection.1) course.old course.new course.end
+    pub first : L
+    pub untouched : (given first ≡ Some []) × IsUntouched (written first)
+    pub faultless : (read_faults first ≡ 0) × (write_faults first ≡ 0)
+    pub served : ServedConnection config (Takes left given first line) (left line) (written first) (written line) course.old course.new course.end
     -- when reading and writing have failed
-    pub reads : CountsFault (input_faults first.0) (input_faults connection.0) (course.end ≡ ReadFault)
-    pub writes : CountsFault (output_faults first.1) (output_faults connection.1) (course.end ≡ WriteFault)
+    pub reads : CountsFault (read_faults first) (read_faults line) (course.end ≡ ReadFault)
+    pub writes : CountsFault (write_faults first) (write_faults line) (course.end ≡ WriteFault)
 
   -- where a list of connections is told, it has those of these courses behind what it had
-  abbrev pub TellsCourses : Config → List Course → Option (List (I × O)) → Option (List (I × O)) → Type 0
+  abbrev pub TellsCourses : Config → List Course → Option (List L) → Option (List L) → Type 0
   TellsCourses config courses before None = Unit {0}
-  TellsCourses config courses before (Some after) = (earlier mine : List (I × O)) × (before ≡ Some earlier) × (after ≡ earlier ++ mine) × AllZip (IsServedIn config) courses mine
+  TellsCourses config courses before (Some after) = (earlier mine : List L) × (before ≡ Some earlier) × (after ≡ earlier ++ mine) × AllZip (IsServedIn config) courses mine
 
 -- ---- all workers
 
@@ -64,12 +64,12 @@ AllFollow (old ∷ olds) [] news = ⊥
 AllFollow (old ∷ olds) (courses ∷ each) [] = ⊥
 AllFollow (old ∷ olds) (courses ∷ each) (new ∷ news) = Follow old courses new × AllFollow olds each news
 
-module _ {I O : Type 0} (left given : I → Option (List ℕ)) (input_faults : I → ℕ) (written : O → Option (List ℕ)) (output_faults : O → ℕ) where
+module _ {L : Type 0} (left given : L → Option (List ℕ)) (read_faults : L → ℕ) (written : L → Option (List ℕ)) (write_faults : L → ℕ) where
   -- Each seat served the connections of one of these lists, and all of them are what the hall was given back since.
-  pub record AllWorked (config : Config) (olds news : List EngineSeat) (told_old told_new : Option (List (I × O))) (tally : Tally) : Type 0 where
+  pub record AllWorked (config : Config) (olds news : List EngineSeat) (told_old told_new : Option (List L)) (tally : Tally) : Type 0 where
     pub each : List (List Course)
     pub follow : AllFollow olds each news
-    pub told : TellsCourses left given input_faults written output_faults config (all_courses each) told_old told_new
+    pub told : TellsCourses left given read_faults written write_faults config (all_courses each) told_old told_new
     pub connections : tally.connections ≡ count_on 0 (length (all_courses each))
     pub starved : tally.starved ≡ count_on 0 (starved_in (all_courses each))
 

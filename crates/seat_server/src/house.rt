@@ -16,7 +16,7 @@ use crate::connection::serve_connection;
 use crate::tally::Tally;
 use crate::workers::serve_workers;
 use engine_core::Engine;
-use outside_io::{Hall, Sink, Source};
+use outside_io::{Hall, Line};
 use session_server::End;
 use shared_port::Bell;
 use std::alloc::Global;
@@ -82,22 +82,22 @@ impl House {
     }
 
     /// Serves one connection by the first seat, as [`serve_connection`] does.
-    pub fn serve_first<S: Source, K: Sink, R: Wait>(
+    pub fn serve_first<L: Line, R: Wait>(
         &mut self,
         alloc: Global,
         rt: &R,
         config: &Config,
-        source: &mut S,
-        sink: &mut K,
+        line: &mut L,
     ) -> End
         requires some { 0 < length self.old.seats }
-        ensures served { ServesFirst (λ old new. ServedConnection config.now (Takes S.left S.given source.old source.new) (S.left source.new)
-            (K.written sink.old) (K.written sink.new) old new result) self.old.seats self.new.seats }
+        ensures served { ServesFirst (λ old new. ServedConnection config.now (Takes L.left L.given line.old line.new) (L.left line.new)
+            (L.written line.old) (L.written line.new) old new result) self.old.seats self.new.seats }
         ensures desk { self.new.desk ≡ self.old.desk }
         ensures full { (many : ℕ) → IsFull many self.old → IsFull many self.new }
-        ensures reads { CountsFault (S.faults source.old) (S.faults source.new) (result ≡ End.ReadFault) }
-        ensures writes { CountsFault (K.faults sink.old) (K.faults sink.new) (result ≡ End.WriteFault) }
-        ensures complete { result ≢ End.ReadFault → result ≢ End.WriteFault → Completes config.now (S.left source.old) result }
+        ensures reads { CountsFault (L.Source.faults line.old) (L.Source.faults line.new) (result ≡ End.ReadFault) }
+        ensures writes { CountsFault (L.Sink.faults line.old) (L.Sink.faults line.new) (result ≡ End.WriteFault) }
+        ensures held { L.held line.new ≡ L.held line.old }
+        ensures complete { result ≢ End.ReadFault → result ≢ End.WriteFault → Completes config.now (L.left line.old) result }
     {
         serve_by_first(
             alloc,
@@ -106,8 +106,7 @@ impl House {
             &self.bell,
             &mut self.seats,
             config,
-            source,
-            sink,
+            line,
         )
     }
 
@@ -123,7 +122,7 @@ impl House {
     ) -> Tally
         requires some { 1 ≤ workers }
         requires few { workers ≤ length self.old.seats }
-        ensures worked { AllWorked H.Door.Input.left H.Door.Input.given H.Door.Input.faults H.Door.Output.written H.Door.Output.faults
+        ensures worked { AllWorked H.Door.Line.left H.Door.Line.given H.Door.Line.Source.faults H.Door.Line.written H.Door.Line.Sink.faults
             config.now (take workers self.old.seats) (take workers self.new.seats) (H.told hall.old) (H.told hall.new) result }
         ensures others { drop workers self.new.seats ≡ drop workers self.old.seats }
         ensures desk { self.new.desk ≡ self.old.desk }
@@ -147,28 +146,28 @@ impl House {
 }
 
 /// Serves one connection by the first of these seats, which goes to its end and comes back to the front.
-fn serve_by_first<S: Source, K: Sink, R: Wait>(
+fn serve_by_first<L: Line, R: Wait>(
     alloc: Global,
     rt: &R,
     desk: &Desk<Engine>,
     bell: &Bell,
     seats: &mut Vec<Seat<Engine>>,
     config: &Config,
-    source: &mut S,
-    sink: &mut K,
+    line: &mut L,
 ) -> End
     requires some { 0 < length seats.old.items }
     requires hosted { AreHosted desk.now.desk seats.old.items }
-    ensures served { ServesFirst (λ old new. ServedConnection config.now (Takes S.left S.given source.old source.new) (S.left source.new)
-        (K.written sink.old) (K.written sink.new) old new result) seats.old.items seats.new.items }
+    ensures served { ServesFirst (λ old new. ServedConnection config.now (Takes L.left L.given line.old line.new) (L.left line.new)
+        (L.written line.old) (L.written line.new) old new result) seats.old.items seats.new.items }
     ensures hosted { AreHosted desk.now.desk seats.new.items }
     ensures numbers { SameNumbers seats.old.items seats.new.items }
-    ensures reads { CountsFault (S.faults source.old) (S.faults source.new) (result ≡ End.ReadFault) }
-    ensures writes { CountsFault (K.faults sink.old) (K.faults sink.new) (result ≡ End.WriteFault) }
-    ensures complete { result ≢ End.ReadFault → result ≢ End.WriteFault → Completes config.now (S.left source.old) result }
+    ensures reads { CountsFault (L.Source.faults line.old) (L.Source.faults line.new) (result ≡ End.ReadFault) }
+    ensures writes { CountsFault (L.Sink.faults line.old) (L.Sink.faults line.new) (result ≡ End.WriteFault) }
+    ensures held { L.held line.new ≡ L.held line.old }
+    ensures complete { result ≢ End.ReadFault → result ≢ End.WriteFault → Completes config.now (L.left line.old) result }
 {
     let seat = seats.remove(0);
-    let (seat, end) = serve_connection(alloc, rt, desk, bell, seat, config, source, sink);
+    let (seat, end) = serve_connection(alloc, rt, desk, bell, seat, config, line);
     seats.push_reserved(seat);
     seats.as_mut_slice().rotate_right(1);
     end
@@ -189,7 +188,7 @@ fn serve_by_many<H: Hall, R: Threads + Wait + Sync>(
     requires some { 1 ≤ workers }
     requires few { workers ≤ length seats.old.items }
     requires hosted { AreHosted desk.now.desk seats.old.items }
-    ensures worked { AllWorked H.Door.Input.left H.Door.Input.given H.Door.Input.faults H.Door.Output.written H.Door.Output.faults
+    ensures worked { AllWorked H.Door.Line.left H.Door.Line.given H.Door.Line.Source.faults H.Door.Line.written H.Door.Line.Sink.faults
         config.now (take workers seats.old.items) (take workers seats.new.items) (H.told hall.old) (H.told hall.new) result }
     ensures others { drop workers seats.new.items ≡ drop workers seats.old.items }
     ensures hosted { AreHosted desk.now.desk seats.new.items }

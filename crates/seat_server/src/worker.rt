@@ -63,7 +63,7 @@ impl<D: Door + Drop> Worker<D> {
         config: &Config,
     )
         requires begin { Begins D.faults D.is_out D.has_closed desk.now.desk self.old }
-        ensures { Works D.faults D.is_out D.has_closed D.Input.left D.Input.given D.Input.faults D.Output.written D.Output.faults D.finished D.told
+        ensures { Works D.faults D.is_out D.has_closed D.Line.left D.Line.given D.Line.Source.faults D.Line.written D.Line.Sink.faults D.finished D.told
             config.now desk.now.desk (SomeMayClose D.may_close) self.old self.new }
     {
         for _ in rt.forever() {
@@ -102,16 +102,16 @@ impl<D: Door + Drop> Worker<D> {
         ensures closes { self.new.outcome ≡ Outcome.Closed → SomeMayClose D.may_close }
         ensures none { result ≡ false → (self.new.outcome ≢ Outcome.Going)
             × ((seat : EngineSeat) → IsPosted D.faults D.is_out D.has_closed desk.now.desk seat self.old
-            → WorkedNone D.faults D.is_out D.has_closed D.Input.left D.Input.given D.Input.faults D.Output.written D.Output.faults D.finished D.told
+            → WorkedNone D.faults D.is_out D.has_closed D.Line.left D.Line.given D.Line.Source.faults D.Line.written D.Line.Sink.faults D.finished D.told
             config.now desk.now.desk seat self.old self.new) }
         ensures one { result ≡ true → (self.new.outcome ≡ Outcome.Going)
             × ((seat : EngineSeat) → IsPosted D.faults D.is_out D.has_closed desk.now.desk seat self.old
-            → WorkedOne D.faults D.is_out D.has_closed D.Input.left D.Input.given D.Input.faults D.Output.written D.Output.faults D.finished D.told
+            → WorkedOne D.faults D.is_out D.has_closed D.Line.left D.Line.given D.Line.Source.faults D.Line.written D.Line.Sink.faults D.finished D.told
             config.now desk.now.desk seat self.old self.new) }
     {
         match self.door.accept() {
-            Ok(Some((input, output))) => {
-                self.serve(alloc, rt, desk, bell, config, input, output);
+            Ok(Some(line)) => {
+                self.serve(alloc, rt, desk, bell, config, line);
                 true
             }
             Ok(None) => {
@@ -133,31 +133,21 @@ impl<D: Door + Drop> Worker<D> {
         desk: &Desk<Engine>,
         bell: &Bell,
         config: &Config,
-        mut input: D::Input,
-        mut output: D::Output,
+        mut line: D::Line,
     )
         requires seat { (seat : EngineSeat) × (self.old.seat ≡ Some seat) × (seat.desk ≡ desk.now.desk) × IsIdle seat }
         requires out { D.is_out self.old.door ≡ true }
-        requires fresh { IsFresh D.Input.given D.Input.faults D.Output.written D.Output.faults input output (D.told self.old.door) }
+        requires fresh { IsFresh D.Line.given D.Line.Source.faults D.Line.written D.Line.Sink.faults line (D.told self.old.door) }
         ensures { (seat : EngineSeat) → self.old.seat ≡ Some seat
-            → Serves D.faults D.is_out D.has_closed D.Input.left D.Input.given D.Input.faults D.Output.written D.Output.faults D.finished D.told
+            → Serves D.faults D.is_out D.has_closed D.Line.left D.Line.given D.Line.Source.faults D.Line.written D.Line.Sink.faults D.finished D.told
             config.now seat self.old self.new }
     {
         let Some(seat) = self.seat.take() else {
             unreachable!()
         };
-        let (seat, end) = serve_connection(
-            alloc,
-            rt,
-            desk,
-            bell,
-            seat,
-            config,
-            &mut input,
-            &mut output,
-        );
+        let (seat, end) = serve_connection(alloc, rt, desk, bell, seat, config, &mut line);
         self.seat = Some(seat);
-        self.door.finish(input, output);
+        self.door.finish(line);
         self.count(end);
     }
 

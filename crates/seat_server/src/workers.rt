@@ -48,7 +48,7 @@ pub fn serve_workers<H: Hall, R: Threads + Wait + Sync>(
     requires idle { All IsIdle seats.items }
 
     // What each seat served, and what the hall tells of its connections.
-    ensures worked { AllWorked H.Door.Input.left H.Door.Input.given H.Door.Input.faults H.Door.Output.written H.Door.Output.faults
+    ensures worked { AllWorked H.Door.Line.left H.Door.Line.given H.Door.Line.Source.faults H.Door.Line.written H.Door.Line.Sink.faults
         config.now seats.items result.0.items (H.told hall.old) (H.told hall.new) result.1 }
 
     // How much was done.
@@ -154,7 +154,7 @@ fn serve_at_once<D: Door + Send + Drop, R: Threads + Wait + Sync>(
     workers: &mut Vec<Worker<D>>,
 )
     requires begin { All (Begins D.faults D.is_out D.has_closed desk.now.desk) workers.old.items }
-    ensures { AllZip (Works D.faults D.is_out D.has_closed D.Input.left D.Input.given D.Input.faults D.Output.written D.Output.faults D.finished D.told
+    ensures { AllZip (Works D.faults D.is_out D.has_closed D.Line.left D.Line.given D.Line.Source.faults D.Line.written D.Line.Sink.faults D.finished D.told
         config.now desk.now.desk (SomeMayClose D.may_close)) workers.old.items workers.new.items }
 {
     thread::for_each_mut(
@@ -163,7 +163,7 @@ fn serve_at_once<D: Door + Send + Drop, R: Threads + Wait + Sync>(
         MOST_WORKERS,
         &|_, worker: &mut Worker<D>|
             requires { Begins D.faults D.is_out D.has_closed desk.now.desk worker.old }
-            ensures { Works D.faults D.is_out D.has_closed D.Input.left D.Input.given D.Input.faults D.Output.written D.Output.faults D.finished D.told
+            ensures { Works D.faults D.is_out D.has_closed D.Line.left D.Line.given D.Line.Source.faults D.Line.written D.Line.Sink.faults D.finished D.told
                 config.entry.now desk.entry.now.desk (SomeMayClose D.may_close) worker.old worker.new }
         { worker.serve_all(alloc, rt, desk, bell, config) },
     );

@@ -1,5 +1,6 @@
 pub mod Ended
 pub mod Handled
+pub mod Lined
 pub mod Refusals
 pub mod Served
 pub mod Sizes

@@ -2,7 +2,6 @@
 use Rattle.std.proofs.Common.{◌≡◌, ℕ, ◌+◌, List, length, Option, Result, Ok, Err, IfOk, IfErr, inl, inr, refl, sym, subst}
 use Rattle.std.specs.Result.{IsErr, IsErrAnd}
 use Rattle.std.specs.Io.KnownBytes.{Appends, IsAtEnd}
-use Rattle.std.proofs.KnownBytes.{Appends-nil}
 use Rattle.value_types.specs.declared.memory.Memory.{Memory as NoMemory}
 use Rattle.tds_login.specs.declared.config.Config.{Config}
 use Rattle.tds_packets.specs.Header.{tabular_result}
@@ -25,6 +24,7 @@ use Rattle.session_server.specs.Talk.{handle}
 use Rattle.session_server.specs.Conversation.{Emptied}
 use Rattle.session_server.specs.Ends.{no_message, by_message, unsent, unmade, end_of_message, end_of_sending}
 use Rattle.session_server.specs.Parts.{IsHandled, Turned, Ended}
+use Rattle.session_server.proofs.Lined.{appends_none}
 
 -- the bytes that were prepared
 abbrev pub bytes_of : PreparedResponse → List ℕ
@@ -41,58 +41,62 @@ emptied_by left reading.Spent end = tt
 
 module _ (config : Config) (spid at : ℕ) (state : ServerState) (took : List ℕ → Type 0) (emptied_left : Option (List ℕ)) where
   -- no message came
-  pub ended_stopped : (past : PortPast) (sink : Option (List ℕ)) (p : SessionProgress) (result : Result ServerState End) (fault : MessageFault) → IsErr result → IsErrAnd result (λ end. end ≡ end_of_message fault) → (bytes : List ℕ) → took bytes → StopsBy at bytes fault → (IsEnd {T = Message} (Err fault) → IsAtEnd emptied_left)
-      → IfErr result (Ended config spid at state took emptied_left past past sink sink p p)
-  ended_stopped past sink p (Ok to) fault err same bytes taken stops end = tt
-  ended_stopped past sink p (Err made) fault err same bytes taken stops end = record {
+  pub ended_stopped : (past : PortPast) {old new : Option (List ℕ)} → new ≡ old → (p : SessionProgress) (result : Result ServerState End) (fault : MessageFault) → IsErr result → IsErrAnd result (λ end. end ≡ end_of_message fault) → (bytes : List ℕ) → took bytes → StopsBy at bytes fault → (IsEnd {T = Message} (Err fault) → IsAtEnd emptied_left)
+      → IfErr result (Ended config spid at state took emptied_left past past old new p p)
+  ended_stopped past unwritten p (Ok to) fault err same bytes taken stops end = tt
+  ended_stopped past unwritten p (Err made) fault err same bytes taken stops end = record {
     bytes = bytes;
     cause = no_message fault;
     taken = taken;
     end_is = same;
-    how = (stops, goes_nowhere past, refl, Appends-nil sink);
+    how = (stops, goes_nowhere past, refl, appends_none unwritten);
     emptied = emptied_by emptied_left fault end;
   }
 
   -- there was no memory for its response
-  pub ended_unmade : {before after : PortPast} (sink : Option (List ℕ)) {p q : SessionProgress} (result : Result ServerState End) → IsErr result → IsErrAnd result (λ end. end ≡ Memory) → (bytes : List ℕ) → took bytes → (message : Message) → IsMessage at bytes message → (memory : NoMemory) → IsHandled spid before after (handle config state message) p (Err memory) q
-      → IfErr result (Ended config spid at state took emptied_left before after sink sink p q)
-  ended_unmade sink (Ok to) err same bytes taken message is memory handled = tt
-  ended_unmade sink (Err made) err same bytes taken message is memory handled = record {
+  pub ended_unmade : {before after : PortPast} {old new : Option (List ℕ)} → new ≡ old → {p q : SessionProgress} (result : Result ServerState End) → IsErr result → IsErrAnd result (λ end. end ≡ Memory) → (bytes : List ℕ) → took bytes → (message : Message) → IsMessage at bytes message → (memory : NoMemory) → IsHandled spid before after (handle config state message) p (Err memory) q
+      → IfErr result (Ended config spid at state took emptied_left before after old new p q)
+  ended_unmade unwritten (Ok to) err same bytes taken message is memory handled = tt
+  ended_unmade unwritten (Err made) err same bytes taken message is memory handled = record {
     bytes = bytes;
     cause = unmade;
     taken = taken;
     end_is = same;
-    how = (message, is, handled.0, handled.1, Appends-nil sink);
+    how = (message, is, handled.0, handled.1, appends_none unwritten);
     emptied = tt;
   }
 
   -- it ended the connection by itself
-  pub ended_alone : {before after : PortPast} {sink : Option (List ℕ)} {p q : SessionProgress} (bytes : List ℕ) → took bytes → (message : Message) → IsMessage at bytes message → {end : End} → IsHandled spid before after (handle config state message) p (Ok (Ends end)) q
-      → Ended config spid at state took emptied_left before after sink sink p q end
-  ended_alone {sink = sink} bytes taken message is {end = end} handled = record {
+  pub ended_alone : {before after : PortPast} {old new : Option (List ℕ)} → new ≡ old → {p q : SessionProgress} (bytes : List ℕ) → took bytes → (message : Message) → IsMessage at bytes message → {end : End} → IsHandled spid before after (handle config state message) p (Ok (Ends end)) q
+      → Ended config spid at state took emptied_left before after old new p q end
+  ended_alone unwritten bytes taken message is {end = end} handled = record {
     bytes = bytes;
     cause = by_message end;
     taken = taken;
     end_is = refl;
-    how = (message, is, inl (handled.0, handled.1, handled.2, Appends-nil sink));
+    how = (message, is, inl (handled.0, handled.1, handled.2, appends_none unwritten));
     emptied = tt;
   }
 
-  module _ {before after : PortPast} {p q : SessionProgress} (old new : Option (List ℕ)) (bytes : List ℕ) (taken : took bytes) (message : Message) (is : IsMessage at bytes message) {prepared : PreparedResponse} (next : Result ServerState End) (handled : IsHandled spid before after (handle config state message) p (Ok (Responds prepared next)) q) where
+  module _ {before after : PortPast} {p q : SessionProgress} {old mid new : Option (List ℕ)} (unwritten : mid ≡ old) (bytes : List ℕ) (taken : took bytes) (message : Message) (is : IsMessage at bytes message) {prepared : PreparedResponse} (next : Result ServerState End) (handled : IsHandled spid before after (handle config state message) p (Ok (Responds prepared next)) q) where
+    -- what is written behind it is written behind what stood before
+    sent_behind : Appends mid new (bytes_of prepared) → Appends old new (bytes_of prepared)
+    sent_behind sent = subst (λ (at : Option (List ℕ)). Appends at new (bytes_of prepared)) unwritten sent
+
     -- its response could not be sent
-    pub ended_unsent : (result : Result ServerState End) (fault : SendFault) → IsErr result → IsErrAnd result (λ end. end ≡ end_of_sending fault) → IsPartSent old new (bytes_of prepared) fault → IfErr result (Ended config spid at state took emptied_left before after old new p q)
+    pub ended_unsent : (result : Result ServerState End) (fault : SendFault) → IsErr result → IsErrAnd result (λ end. end ≡ end_of_sending fault) → IsPartSent mid new (bytes_of prepared) fault → IfErr result (Ended config spid at state took emptied_left before after old new p q)
     ended_unsent (Ok to) fault err same part = tt
     ended_unsent (Err made) fault err same part = record {
       bytes = bytes;
       cause = unsent fault;
       taken = taken;
       end_is = same;
-      how = (message, is, handled.0, handled.1, subst (λ (b : List ℕ). IsPartSent old new b fault) handled.2.bytes part);
+      how = (message, is, handled.0, handled.1, subst (λ (b : List ℕ). IsPartSent old new b fault) handled.2.bytes (subst (λ (at : Option (List ℕ)). IsPartSent at new (bytes_of prepared) fault) unwritten part));
       emptied = tt;
     }
 
     -- it was sent, and the connection ends
-    pub ended_behind : Appends old new (bytes_of prepared) → IfErr next (Ended config spid at state took emptied_left before after old new p q)
+    pub ended_behind : Appends mid new (bytes_of prepared) → IfErr next (Ended config spid at state took emptied_left before after old new p q)
     ended_behind sent = by_next next handled
       where
         by_next : (to : Result ServerState End) → IsHandled spid before after (handle config state message) p (Ok (Responds prepared to)) q → IfErr to (Ended config spid at state took emptied_left before after old new p q)
@@ -102,12 +106,12 @@ module _ (config : Config) (spid at : ℕ) (state : ServerState) (took : List �
           cause = by_message end;
           taken = taken;
           end_is = refl;
-          how = (message, is, inr (h.0, h.1, sym h.3, subst (Appends old new) h.2.bytes sent));
+          how = (message, is, inr (h.0, h.1, sym h.3, subst (Appends old new) h.2.bytes (sent_behind sent)));
           emptied = tt;
         }
 
     -- or goes on
-    pub turned : (count : ℕ) → count ≡ at + length bytes → Appends old new (bytes_of prepared) → IfOk next (Turned config spid at state took before after old new p q count)
+    pub turned : (count : ℕ) → count ≡ at + length bytes → Appends mid new (bytes_of prepared) → IfOk next (Turned config spid at state took before after old new p q count)
     turned count counted sent = by_next next handled
       where
         by_next : (to : Result ServerState End) → IsHandled spid before after (handle config state message) p (Ok (Responds prepared to)) q → IfOk to (Turned config spid at state took before after old new p q count)
@@ -121,5 +125,5 @@ module _ (config : Config) (spid at : ℕ) (state : ServerState) (took : List �
           counted = counted;
           goes_on = sym h.3;
           answers = h.1;
-          written = subst (Appends old new) h.2.bytes sent;
+          written = subst (Appends old new) h.2.bytes (sent_behind sent);
         }

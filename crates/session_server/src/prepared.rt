@@ -8,7 +8,7 @@ ghost use Rattle.tds_packets.specs.Packets.{Packets, IsPartSent, IsPacketSize};
 ghost use Rattle.tds_tokens.specs.Spelling.{TokenBytes};
 ghost use Rattle.tds_tokens.specs.Fit.{FitTokens};
 
-use outside_io::Sink;
+use outside_io::Line;
 use std::alloc::Global;
 use tds_packets::{SendFault, TABULAR_RESULT, send_message};
 use tds_tokens::{Token, write_tokens};
@@ -48,17 +48,23 @@ impl PreparedResponse {
         Ok(PreparedResponse { channel, payload })
     }
 
-    /// Sends it whole, or a front of it where writing fails or memory is wanting.
-    pub(crate) fn send<K: Sink>(&self, alloc: Global, sink: &mut K) -> Result<(), SendFault>
+    /// Sends it whole on a line, or a front of it where writing fails or memory is wanting.
+    pub(crate) fn send<L: Line>(&self, alloc: Global, line: &mut L) -> Result<(), SendFault>
         requires { IsPacketSize self.now.channel.packet_size }
-        ensures sent { OnOk result (Appends (K.written sink.old) (K.written sink.new) (Packets tabular_result self.now.channel.spid self.now.channel.packet_size self.now.payload.items)) }
-        ensures part { IfErr result (IsPartSent (K.written sink.old) (K.written sink.new) (Packets tabular_result self.now.channel.spid self.now.channel.packet_size self.now.payload.items)) }
-        ensures write_fault { result ≡ Err SendFault.WriteFault → HasRisen (K.faults sink.old) (K.faults sink.new) }
-        ensures no_fault { result ≢ Err SendFault.WriteFault → K.faults sink.new ≡ K.faults sink.old }
-        ensures counted { K.faults sink.old ≤ K.faults sink.new }
+        ensures sent { OnOk result (Appends (L.written line.old) (L.written line.new) (Packets tabular_result self.now.channel.spid self.now.channel.packet_size self.now.payload.items)) }
+        ensures part { IfErr result (IsPartSent (L.written line.old) (L.written line.new) (Packets tabular_result self.now.channel.spid self.now.channel.packet_size self.now.payload.items)) }
+        ensures write_fault { result ≡ Err SendFault.WriteFault → HasRisen (L.Sink.faults line.old) (L.Sink.faults line.new) }
+        ensures no_fault { result ≢ Err SendFault.WriteFault → L.Sink.faults line.new ≡ L.Sink.faults line.old }
+        ensures counted { L.Sink.faults line.old ≤ L.Sink.faults line.new }
+
+        // Nothing is read.
+        ensures left { L.left line.new ≡ L.left line.old }
+        ensures given { L.given line.new ≡ L.given line.old }
+        ensures reads { L.Source.faults line.new ≡ L.Source.faults line.old }
+        ensures held { L.held line.new ≡ L.held line.old }
     {
         let Channel { spid, packet_size } = self.channel;
         let payload = self.payload.as_slice();
-        send_message(alloc, sink, TABULAR_RESULT, spid, packet_size, payload)
+        send_message(alloc, line, TABULAR_RESULT, spid, packet_size, payload)
     }
 }

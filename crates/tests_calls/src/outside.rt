@@ -31,10 +31,10 @@ fn is_given(alloc: Global) -> Result<bool, Memory> {
     let mut hall = MemoryHall::new(alloc, inputs, Vec::new(alloc));
     let has_begun = hall.begin(1).is_ok();
     let mut door = hall.door()?;
-    let Ok(Some((input, output))) = door.accept() else {
+    let Ok(Some(line)) = door.accept() else {
         return Ok(false);
     };
-    door.finish(input, output);
+    door.finish(line);
     let has_closed = matches!(door.accept(), Ok(None));
     hall.rejoin(door);
     Ok(has_begun && has_closed)

@@ -7,7 +7,7 @@ ghost use Rattle.engine_core.specs.Solo.{solo_open, solo_past};
 use crate::judging::{Left, Outcome, Step, outcome_of, step_count, step_numbered};
 use crate::replies::{put_batch, told_of};
 use engine_core::SoloPort;
-use outside_io::{MemorySink, MemorySource};
+use outside_io::{Joined, MemorySink, MemorySource};
 use session_server::{End, serve_on_port};
 use std::alloc::Global;
 use step_model::{Manner, Op, Patience, Port, Reply};
@@ -122,10 +122,12 @@ fn serve(alloc: Global, port: &mut SoloPort, input: Vec<u8>) -> (End, Vec<u8>)
         password: Units::new(alloc),
         entry: Entry::Bare,
     };
-    let mut source = MemorySource::new(input, 4096, Vec::new(alloc));
-    let mut sink = MemorySink::new(alloc, 4096, Vec::new(alloc));
-    let end = serve_on_port(alloc, 1, port, &config, &mut source, &mut sink);
-    (end, sink.into_bytes())
+    let mut line = Joined {
+        source: MemorySource::new(input, 4096, Vec::new(alloc)),
+        sink: MemorySink::new(alloc, 4096, Vec::new(alloc)),
+    };
+    let end = serve_on_port(alloc, 1, port, &config, &mut line);
+    (end, line.sink.into_bytes())
 }
 
 /// How many commits the log has, if there is memory for a transaction that asks nothing.

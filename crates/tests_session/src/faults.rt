@@ -2,7 +2,7 @@
 
 use crate::messages::batch;
 use engine_core::SoloPort;
-use outside_io::{MemorySink, MemorySource};
+use outside_io::{Joined, MemorySink, MemorySource};
 use session_server::{End, serve_on_port};
 use std::alloc::{AllocError, Global};
 use std::test::Fail;
@@ -49,18 +49,14 @@ const DONE: &[u8; 21] =
 const NEVER: u32 = 0;
 
 /// The end of a connection of session 1 over a new port, of which the user is to be `sa` and the password `A`.
-fn serve_over(
-    alloc: Global,
-    source: &mut MemorySource,
-    sink: &mut MemorySink,
-) -> Result<End, Memory> {
+fn serve_over(alloc: Global, line: &mut Joined<MemorySource, MemorySink>) -> Result<End, Memory> {
     let config = Config {
         user: units_of_str(alloc, "sa")?,
         password: units_of_str(alloc, "A")?,
         entry: Entry::Login,
     };
     let mut port = SoloPort::new(alloc, 1);
-    Ok(serve_on_port(alloc, 1, &mut port, &config, source, sink))
+    Ok(serve_on_port(alloc, 1, &mut port, &config, line))
 }
 
 /// Whether a connection of which the reads give one byte each and the writes take at most seven, and a read and a write of these
@@ -74,10 +70,12 @@ fn ends_so(
     bytes: &[u8],
 ) -> Result<bool, Memory> {
     let input = Vec::from_slice(alloc, input)?;
-    let mut source = MemorySource::new(input, 1, vec![in alloc; read]?);
-    let mut sink = MemorySink::new(alloc, 7, vec![in alloc; write]?);
-    let ended = serve_over(alloc, &mut source, &mut sink)?;
-    Ok(ended == end && sink.into_bytes().as_slice() == bytes)
+    let mut line = Joined {
+        source: MemorySource::new(input, 1, vec![in alloc; read]?),
+        sink: MemorySink::new(alloc, 7, vec![in alloc; write]?),
+    };
+    let ended = serve_over(alloc, &mut line)?;
+    Ok(ended == end && line.sink.into_bytes().as_slice() == bytes)
 }
 
 /// Three lists of bytes, one behind another.

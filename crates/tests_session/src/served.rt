@@ -3,7 +3,7 @@
 ghost use Rattle.std.specs.Prelude.{◌≡◌, false};
 
 use crate::messages::{batch, words_of};
-use outside_io::{MemorySink, MemorySource};
+use outside_io::{Joined, MemorySink, MemorySource};
 use session_server::{End, serve_on_port};
 use std::alloc::Global;
 use step_model::Port;
@@ -23,10 +23,12 @@ fn serve<P: Port>(alloc: Global, port: &mut P, input: Vec<u8>) -> (End, Vec<u8>)
         password: Units::new(alloc),
         entry: Entry::Bare,
     };
-    let mut source = MemorySource::new(input, 4096, Vec::new(alloc));
-    let mut sink = MemorySink::new(alloc, 4096, Vec::new(alloc));
-    let end = serve_on_port(alloc, 1, port, &config, &mut source, &mut sink);
-    (end, sink.into_bytes())
+    let mut line = Joined {
+        source: MemorySource::new(input, 4096, Vec::new(alloc)),
+        sink: MemorySink::new(alloc, 4096, Vec::new(alloc)),
+    };
+    let end = serve_on_port(alloc, 1, port, &config, &mut line);
+    (end, line.sink.into_bytes())
 }
 
 /// The words of the reply to a batch, which is one packet.

@@ -2,7 +2,7 @@
 
 ghost use Rattle.std.specs.Prelude.{◌≡◌, None, true};
 
-use outside_io::{Door, Failed, Hall, Sink, SinkFault, Source};
+use outside_io::{Door, Failed, Hall, Joined, Sink, SinkFault, Source};
 use std::sync::atomic::AtomicU64;
 use std::sync::atomic::Ordering::SeqCst;
 use value_types::Memory;
@@ -119,9 +119,7 @@ pub struct GatedDoor<'a> {
 }
 
 impl<'a> Door for GatedDoor<'a> {
-    type Input = GatedSource<'a>;
-
-    type Output = KeptSink<'a>;
+    type Line = Joined<GatedSource<'a>, KeptSink<'a>>;
 
     ghost faults = { λ d. 0 };
 
@@ -135,33 +133,34 @@ impl<'a> Door for GatedDoor<'a> {
 
     ghost told = { λ d. None };
 
-    fn accept(&mut self) -> Result<Option<(GatedSource<'a>, KeptSink<'a>)>, Failed> {
+    fn accept(&mut self) -> Result<Option<Joined<GatedSource<'a>, KeptSink<'a>>>, Failed> {
         let number = self.floor.handed.fetch_add(1, SeqCst);
         if number > 1 {
             self.has_closed = true;
             return Ok(None);
         }
         self.is_out = true;
-        let input = GatedSource {
+        let source = GatedSource {
             floor: self.floor,
             left: BATCH,
             behind: if number == 0 { 1 } else { 0 },
             faults: 0,
         };
-        let output = KeptSink {
+        let sink = KeptSink {
             floor: self.floor,
             is_second: number == 1,
             count: 0,
         };
-        Ok(Some((input, output)))
+        Ok(Some(Joined { source, sink }))
     }
 
     /// Each answer has 52 bytes, and the first connection two of them.
-    fn finish(&mut self, input: GatedSource<'a>, output: KeptSink<'a>) {
+    fn finish(&mut self, line: Joined<GatedSource<'a>, KeptSink<'a>>) {
         self.is_out = false;
         self.finished = self.finished.saturating_add(1);
-        let wanted = if output.is_second { 52 } else { 104 };
-        if input.left.is_empty() && input.behind == 0 && output.count == wanted {
+        let Joined { source, sink } = line;
+        let wanted = if sink.is_second { 52 } else { 104 };
+        if source.left.is_empty() && source.behind == 0 && sink.count == wanted {
             self.floor.answered.fetch_add(1, SeqCst);
         }
     }

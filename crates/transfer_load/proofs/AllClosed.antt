@@ -13,18 +13,18 @@ use Rattle.seat_server.specs.declared.tally.Tally.{Tally}
 use Rattle.seat_server.specs.Workers.{AllWorked, IsServedIn, TellsCourses, all_courses, is_memory, starved_in}
 use Rattle.transfer_load.specs.Load.{Transferred}
 use Rattle.transfer_load.specs.Batches.{batches_bytes, worker_texts}
-use Rattle.transfer_load.specs.Connections.{AreDone, Connection, IsDone, input_faults, input_given, input_left, output_faults, output_written}
+use Rattle.transfer_load.specs.Connections.{AreDone, Connection, IsDone, line_given, line_left, line_written, read_faults, write_faults}
 use Rattle.transfer_load.proofs.Messages.{worker_bytes_few, worker_short}
 use Rattle.transfer_load.proofs.Closing.{closed_end}
 
 abbrev Served : Config → Course → Connection → Type 0
-Served config course connection = IsServedIn input_left input_given input_faults output_written output_faults config course connection
+Served config course connection = IsServedIn line_left line_given read_faults line_written write_faults config course connection
 
 one_closed : (config : Config) (transfers worker : ℕ) (course : Course) (connection : Connection) (replies : List (List Token)) → config.entry ≡ Bare → transfers ≤ 10000
     → Served config course connection → IsDone transfers worker connection replies → (course.end ≡ Memory → ⊥) → course.end ≡ Closed
 one_closed config transfers worker course connection replies bare many served done plenty =
     let heard = served.served.conversation.heard in
-    let none : served.first.0.given ≡ [] = let is = served.untouched.0 in cc in
+    let none : served.first.source.given ≡ [] = let is = served.untouched.0 in cc in
     let taken : heard.taken ≡ batches_bytes (worker_texts transfers worker) =
     sym (heard.from_source.to_given ∙ ap (λ (s : List ℕ). s ++ heard.taken) none) ∙ done.taken in
     closed_end config _ _ _ _ _ course.end heard (worker_texts transfers worker) bare (worker_short transfers worker) taken
@@ -49,7 +49,7 @@ all_closed config transfers worker (course ∷ courses) (c ∷ connections) (r �
       all_closed config transfers (worker + 1) courses connections each bare many served.1 done.1 memory.1,
     )
 
-told_apart : (config : Config) (courses : List Course) (connections : List Connection) → TellsCourses input_left input_given input_faults output_written output_faults config courses (Some []) (Some connections)
+told_apart : (config : Config) (courses : List Course) (connections : List Connection) → TellsCourses line_left line_given read_faults line_written write_faults config courses (Some []) (Some connections)
     → AllZip (Served config) courses connections
 told_apart config courses connections told =
     let none : told.0 ≡ [] = let is = told.2 in cc in
@@ -57,7 +57,7 @@ told_apart config courses connections told =
     subst (AllZip (Served config) courses) (sym all) told.4
 
 abbrev Worked : Config → List EngineSeat → List EngineSeat → Option (List Connection) → Option (List Connection) → Tally → Type 0
-Worked config olds news old new tally = AllWorked input_left input_given input_faults output_written output_faults config olds news old new tally
+Worked config olds news old new tally = AllWorked line_left line_given read_faults line_written write_faults config olds news old new tally
 
 pub transferred_all : (config : Config) (workers transfers : ℕ) (olds news : List EngineSeat) (tally : Tally) (told_old told_new : Option (List Connection)) (connections : List Connection) (each : List (List (List Token)))
     → config.entry ≡ Bare → transfers ≤ 10000 → Worked config (take workers olds) (take workers news) told_old told_new tally → told_old ≡ Some [] → told_new ≡ Some connections

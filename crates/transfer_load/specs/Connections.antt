@@ -1,7 +1,8 @@
--- Own: the connections of workers, one each: the source of a worker's batches, and the sink of the replies to them. The code keeps a place
+-- Own: the connections of workers, one each: a line with the source of a worker's batches and the sink of the replies to them. The code keeps a place
 -- in the bytes, and the number of the worker beside them.
 use Rattle.std.specs.Prelude.{◌≡◌, ℕ, ◌+◌, List, [], ◌∷◌, length, Option, Some}
 use Rattle.std.specs.List.{flat_map}
+use Rattle.outside_io.specs.declared.joined.Joined.{Joined}
 use Rattle.tds_tokens.specs.declared.token.Token.{Token}
 use Rattle.transfer_load.specs.Batches.{batches_bytes, worker_texts}
 use Rattle.transfer_load.specs.Replies.{AreReplies}
@@ -28,14 +29,30 @@ output_written written = Some written
 abbrev pub output_faults : List ℕ → ℕ
 output_faults written = 0
 
+-- a worker's line
 abbrev pub Connection : Type 0
-Connection = InputState × List ℕ
+Connection = Joined InputState (List ℕ)
+
+abbrev pub line_left : Connection → Option (List ℕ)
+line_left line = input_left line.source
+
+abbrev pub line_given : Connection → Option (List ℕ)
+line_given line = input_given line.source
+
+abbrev pub read_faults : Connection → ℕ
+read_faults line = input_faults line.source
+
+abbrev pub line_written : Connection → Option (List ℕ)
+line_written line = output_written line.sink
+
+abbrev pub write_faults : Connection → ℕ
+write_faults line = output_faults line.sink
 
 -- all batches of this worker were taken, and each has a reply
 pub record IsDone (transfers worker : ℕ) (connection : Connection) (replies : List (List Token)) : Type 0 where
-  pub taken : connection.0.given ≡ batches_bytes (worker_texts transfers worker)
-  pub none_left : connection.0.left ≡ []
-  pub written : AreReplies connection.1 replies
+  pub taken : connection.source.given ≡ batches_bytes (worker_texts transfers worker)
+  pub none_left : connection.source.left ≡ []
+  pub written : AreReplies connection.sink replies
   pub many : length replies ≡ transfers
 
 -- so it is of all workers, the first of which has this number

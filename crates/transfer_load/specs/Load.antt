@@ -15,7 +15,7 @@ use Rattle.seat_server.specs.Workers.{AllFollow, AllWorked, all_courses}
 use Rattle.seat_server.specs.House.{HouseState, ServesFirst}
 use Rattle.transfer_load.specs.Batches.{batches_bytes, closing_texts, opening_texts}
 use Rattle.transfer_load.specs.Replies.{AreReplies, number_in, refused_in, summary_text, transfers_in}
-use Rattle.transfer_load.specs.Connections.{AreDone, Connection, all_replies, input_faults, input_given, input_left, output_faults, output_written}
+use Rattle.transfer_load.specs.Connections.{AreDone, Connection, all_replies, line_given, line_left, line_written, read_faults, write_faults}
 
 -- a seat has served one connection in memory, of these bytes, until the client closed it, and has written those
 pub record ServesBytes (config : Config) (bytes written : List ℕ) (old new : EngineSeat) : Type 0 where
@@ -35,7 +35,7 @@ pub record OnlyServes (old new : HouseState) : Type 0 where
 pub record Transferred (config : Config) (workers transfers : ℕ) (olds news : List EngineSeat) (each : List (List (List Token))) : Type 0 where
   pub tally : Tally
   pub connections : List Connection
-  pub served : AllWorked input_left input_given input_faults output_written output_faults config (take workers olds) (take workers news) (Some []) (Some connections) tally
+  pub served : AllWorked line_left line_given read_faults line_written write_faults config (take workers olds) (take workers news) (Some []) (Some connections) tally
   pub closed : AllByRecursion (λ course. course.end ≡ Closed) (all_courses served.each)
   pub others : drop workers news ≡ drop workers olds
   pub many : length connections ≡ workers

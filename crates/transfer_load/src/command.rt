@@ -9,7 +9,7 @@ use crate::batches::{closing_bytes, opening_bytes};
 use crate::replies::read_number;
 use crate::summary::summary_text;
 use crate::transfers::transfer;
-use outside_io::{MemorySink, MemorySource};
+use outside_io::{Joined, MemorySink, MemorySource};
 use seat_server::House;
 use session_server::End;
 use std::alloc::Global;
@@ -97,10 +97,12 @@ fn serve_bytes<R: Wait>(
     ensures full { IsFull 64 house.new }
     ensures only { OnlyServes house.old house.new }
 {
-    let mut source = MemorySource::new(bytes, u32::MAX, Vec::new(alloc));
-    let mut sink = MemorySink::new(alloc, u32::MAX, Vec::new(alloc));
-    match house.serve_first(alloc, rt, config, &mut source, &mut sink) {
-        End::Closed => Ok(sink.into_bytes()),
+    let mut line = Joined {
+        source: MemorySource::new(bytes, u32::MAX, Vec::new(alloc)),
+        sink: MemorySink::new(alloc, u32::MAX, Vec::new(alloc)),
+    };
+    match house.serve_first(alloc, rt, config, &mut line) {
+        End::Closed => Ok(line.sink.into_bytes()),
         _ => Err(Memory),
     }
 }

@@ -3,7 +3,7 @@
 ghost use Rattle.std.specs.Prelude.{◌≡◌, ◌≤◌, ◌<◌, [], Some, true, false, IfOk, option_map, vec_items};
 
 use crate::connection::{BatchSource, ReplySink};
-use outside_io::{Door, Failed, Hall};
+use outside_io::{Door, Failed, Hall, Joined};
 use std::alloc::Global;
 use std::marker::Model;
 use value_types::Memory;
@@ -17,7 +17,7 @@ pub struct WorkerDoor {
     next: Option<BatchSource>,
     is_out: bool,
     has_closed: bool,
-    finished: Option<(BatchSource, ReplySink)>,
+    finished: Option<Joined<BatchSource, ReplySink>>,
     alloc: Global,
 }
 
@@ -35,13 +35,11 @@ impl Model for WorkerDoor {
       finished = connections_of d.finished;
     } };
 
-    ghost invariant = { λ d. (one_if (is_some d.next) + one_if d.is_out + one_if (is_some d.finished) ≤ 1) × IfSome d.next (λ input. input.given ≡ []) };
+    ghost invariant = { λ d. (one_if (is_some d.next) + one_if d.is_out + one_if (is_some d.finished) ≤ 1) × IfSome d.next (λ source. source.given ≡ []) };
 }
 
 impl Door for WorkerDoor {
-    type Input = BatchSource;
-
-    type Output = ReplySink;
+    type Line = Joined<BatchSource, ReplySink>;
 
     ghost use Rattle.std.specs.Prelude.{length, not};
     ghost use Rattle.transfer_load.specs.Hall.{door_told};
@@ -58,11 +56,12 @@ impl Door for WorkerDoor {
 
     ghost told = { door_told };
 
-    fn accept(&mut self) -> Result<Option<(BatchSource, ReplySink)>, Failed> {
+    fn accept(&mut self) -> Result<Option<Joined<BatchSource, ReplySink>>, Failed> {
         match self.next.take() {
-            Some(input) => {
+            Some(source) => {
                 self.is_out = true;
-                Ok(Some((input, ReplySink::new(self.alloc))))
+                let sink = ReplySink::new(self.alloc);
+                Ok(Some(Joined { source, sink }))
             }
             None => {
                 self.has_closed = true;
@@ -71,9 +70,9 @@ impl Door for WorkerDoor {
         }
     }
 
-    fn finish(&mut self, input: BatchSource, output: ReplySink) {
+    fn finish(&mut self, line: Joined<BatchSource, ReplySink>) {
         self.is_out = false;
-        self.finished = Some((input, output));
+        self.finished = Some(line);
     }
 }
 
@@ -104,7 +103,7 @@ pub struct WorkerHall {
     finished: u64,
     closed: u64,
     tells: bool,
-    connections: Vec<(BatchSource, ReplySink)>,
+    connections: Vec<Joined<BatchSource, ReplySink>>,
 }
 
 impl Model for WorkerHall {
@@ -136,7 +135,7 @@ impl WorkerHall {
     }
 
     /// The connections that came back, if they are all told.
-    pub(crate) fn into_connections(self) -> Option<Vec<(BatchSource, ReplySink)>>
+    pub(crate) fn into_connections(self) -> Option<Vec<Joined<BatchSource, ReplySink>>>
         ensures { option_map vec_items result ≡ self.told }
     {
         if self.tells {

@@ -11,6 +11,7 @@ ghost use Rattle.transfer_load.specs.Replies.{refused_in, transfers_in};
 use crate::connection::{BatchSource, ReplySink};
 use crate::hall::WorkerHall;
 use crate::replies::{Counts, count_replies};
+use outside_io::Joined;
 use seat_server::House;
 use std::alloc::Global;
 use std::sync::Wait;
@@ -54,7 +55,7 @@ pub(crate) fn transfer<R: Threads + Wait + Sync>(
 /// Counts the replies of all workers' connections.
 fn count_all(
     alloc: Global,
-    connections: &[(BatchSource, ReplySink)],
+    connections: &[Joined<BatchSource, ReplySink>],
     transfers: u32,
 ) -> Result<Counts, Memory>
     requires workers { length connections.now ≤ 64 }
@@ -80,17 +81,16 @@ fn count_all(
 /// Counts the replies of a worker's connection, if it is that, and all its batches were taken.
 fn count_one(
     alloc: Global,
-    connection: &(BatchSource, ReplySink),
+    connection: &Joined<BatchSource, ReplySink>,
     transfers: u32,
     worker: u32,
 ) -> Result<Counts, Memory>
     ensures { IfOk result (λ counts. (replies : List (List Token)) × IsDone transfers worker connection.now replies
         × (counts.transfers ≡ transfers_in replies) × (counts.refused ≡ refused_in replies) × (counts.transfers + counts.refused ≡ transfers)) }
 {
-    let (input, output) = connection;
-    if !input.has_given_all(transfers, worker) {
+    if !connection.source.has_given_all(transfers, worker) {
         return Err(Memory);
     }
-    let written = Vec::from_slice(alloc, output.as_slice())?;
+    let written = Vec::from_slice(alloc, connection.sink.as_slice())?;
     count_replies(alloc, written, transfers)
 }

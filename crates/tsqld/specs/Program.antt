@@ -97,12 +97,12 @@ pub record HallNumbers : Type 0 where
 abbrev pub numbers_of : {H : Type 0} → (H → ℕ) → (H → ℕ) → (H → ℕ) → (H → ℕ) → H → HallNumbers
 numbers_of faults finished failed closed hall = record { faults = faults hall; finished = finished hall; failed = failed hall; closed = closed hall }
 
-module _ {D I O : Type 0} (may_close : D → Bool) (left given : I → Option (List ℕ)) (input_faults : I → ℕ) (written : O → Option (List ℕ)) (output_faults : O → ℕ) where
+module _ {D L : Type 0} (may_close : D → Bool) (left given : L → Option (List ℕ)) (read_faults : L → ℕ) (written : L → Option (List ℕ)) (write_faults : L → ℕ) where
   -- The first of the seats served the connections of the hall, so many workers beside one another, and the others nothing; then it was
   -- printed how many connections that were. Doors closed only where there is one that may.
-  pub record HallServed (config : Config) (workers : ℕ) (rounds : Option ℕ) (told_old told_new : Option (List (I × O))) (before after : HallNumbers) (sink_before sink_after : Option (List ℕ)) (olds news : List EngineSeat) (status : ℕ) : Type 0 where
+  pub record HallServed (config : Config) (workers : ℕ) (rounds : Option ℕ) (told_old told_new : Option (List L)) (before after : HallNumbers) (sink_before sink_after : Option (List ℕ)) (olds news : List EngineSeat) (status : ℕ) : Type 0 where
     pub tally : Tally
-    pub worked : AllWorked left given input_faults written output_faults config (take workers olds) (take workers news) told_old told_new tally
+    pub worked : AllWorked left given read_faults written write_faults config (take workers olds) (take workers news) told_old told_new tally
     pub others : drop workers news ≡ drop workers olds
     pub tallied : Tallied rounds workers before.faults after.faults before.finished after.finished before.failed after.failed before.closed after.closed tally
     pub closes : 0 < tally.closed → (door : D) × IsTrue (may_close door)
@@ -116,11 +116,11 @@ pub record NotBegun (before after : HallNumbers) (sink_before sink_after : Optio
   pub unprinted : sink_after ≡ sink_before
   pub unserved : news ≡ olds
 
-module _ {D I O : Type 0} (may_close : D → Bool) (left given : I → Option (List ℕ)) (input_faults : I → ℕ) (written : O → Option (List ℕ)) (output_faults : O → ℕ) where
+module _ {D L : Type 0} (may_close : D → Bool) (left given : L → Option (List ℕ)) (read_faults : L → ℕ) (written : L → Option (List ℕ)) (write_faults : L → ℕ) where
   -- `listen` by this configuration: the hall was served, or could not begin
-  abbrev pub Listened : Config → ℕ → Option ℕ → Option (List (I × O)) → Option (List (I × O)) → HallNumbers → HallNumbers → Option (List ℕ) → Option (List ℕ) → List EngineSeat → List EngineSeat → ℕ → Type 0
+  abbrev pub Listened : Config → ℕ → Option ℕ → Option (List L) → Option (List L) → HallNumbers → HallNumbers → Option (List ℕ) → Option (List ℕ) → List EngineSeat → List EngineSeat → ℕ → Type 0
   Listened config workers rounds told_old told_new before after sink_before sink_after olds news status =
-      HallServed may_close left given input_faults written output_faults config workers rounds told_old told_new before after sink_before sink_after olds news status
+      HallServed may_close left given read_faults written write_faults config workers rounds told_old told_new before after sink_before sink_after olds news status
       ⊎ ((told_new ≡ told_old) × NotBegun before after sink_before sink_after olds news status)
 
 -- Where rounds are given, nothing fails, and no door may close: as many connections were served, and that was printed; or memory was

@@ -4,14 +4,15 @@ ghost use Rattle.std.specs.Prelude.{◌≡◌, ◌≢◌, ◌⊎◌, ◌≤◌, 
 ghost use Rattle.outside_io.specs.Bytes.{HasRisen, Takes};
 ghost use Rattle.program_words.specs.Asked.{AsksForTextAlone, IsInRange};
 ghost use Rattle.program_words.specs.declared.command.ProgramCommand.{ProgramCommand};
-ghost use Rattle.session_server.specs.Conversation.{CountsFault};
+ghost use Rattle.session_server.specs.Conversation.{Completes, CountsFault};
 ghost use Rattle.steps_command.specs.Command.{Steps, EndsWell as AllAnswered};
-ghost use Rattle.seat_server.specs.House.{IsFull};
+ghost use Rattle.seat_server.specs.House.{IsFull, ServesFirst};
+ghost use Rattle.seat_server.specs.Served.{ServedConnection};
 ghost use Rattle.tsqld.specs.Asking.{AsksFor, AsksForText, IfText, IsNoCommand, IsRefused};
 ghost use Rattle.tsqld.specs.Program.{EndsWell, Listened, Piped, Prints, PrintsLoad, ServesAll, config_of, first_stage, house_seats, numbers_of, served_text, status_of, tally_status, unprinted_status};
 
 use engine_core::Engine;
-use outside_io::{Clock, Hall, Sink, SinkFault, Source};
+use outside_io::{Clock, Hall, Joined, Sink, SinkFault, Source};
 use program_words::{ProgramCommand, WordsFault, read_words};
 use seat_server::{House, Tally};
 use session_server::End;
@@ -71,7 +72,7 @@ pub fn run_program<S: Source, K: Sink, H: Hall, C: Clock, R: Threads + Wait + Sy
 
     // What was served of the hall's connections, and what was printed.
     ensures listen { (port workers : ℕ) (rounds : Option ℕ) (user password : List ℕ) → AsksFor (map string_bytes words.now) (ProgramCommand.Listen port workers rounds user password)
-        → (input.new ≡ input.old) × (Listened H.Door.may_close H.Door.Input.left H.Door.Input.given H.Door.Input.faults H.Door.Output.written H.Door.Output.faults (config_of user password false) workers rounds
+        → (input.new ≡ input.old) × (Listened H.Door.may_close H.Door.Line.left H.Door.Line.given H.Door.Line.Source.faults H.Door.Line.written H.Door.Line.Sink.faults (config_of user password false) workers rounds
         (H.told hall.old) (H.told hall.new) (numbers_of H.faults H.finished H.failed H.closed hall.old) (numbers_of H.faults H.finished H.failed H.closed hall.new)
         (K.written output.old) (K.written output.new) house.old.seats house.new.seats result
         ⊎ ((result ≡ 6) × (output.new ≡ output.old) × (hall.new ≡ hall.old) × (house.new ≡ house.old))) }
@@ -134,7 +135,7 @@ fn run_command<S: Source, K: Sink, H: Hall, R: Threads + Wait + Sync>(
     ensures complete { (user password : List ℕ) (bare : Bool) → command ≡ ProgramCommand.Pipe user password bare
         → result ≢ 3 → result ≢ 4 → EndsWell (config_of user password bare) (S.left input.old) result }
     ensures listen { (port workers : ℕ) (rounds : Option ℕ) (user password : List ℕ) → command ≡ ProgramCommand.Listen port workers rounds user password
-        → (input.new ≡ input.old) × Listened H.Door.may_close H.Door.Input.left H.Door.Input.given H.Door.Input.faults H.Door.Output.written H.Door.Output.faults (config_of user password false) workers rounds
+        → (input.new ≡ input.old) × Listened H.Door.may_close H.Door.Line.left H.Door.Line.given H.Door.Line.Source.faults H.Door.Line.written H.Door.Line.Sink.faults (config_of user password false) workers rounds
         (H.told hall.old) (H.told hall.new) (numbers_of H.faults H.finished H.failed H.closed hall.old) (numbers_of H.faults H.finished H.failed H.closed hall.new)
         (K.written output.old) (K.written output.new) house.old.seats house.new.seats result }
     ensures complete_listen { (port workers : ℕ) (rounds : Option ℕ) (user password : List ℕ) → command ≡ ProgramCommand.Listen port workers rounds user password
@@ -204,7 +205,28 @@ fn pipe<S: Source, K: Sink, R: Wait>(
     ensures writes { CountsFault (K.faults output.old) (K.faults output.new) (result ≡ 4) }
     ensures others { (result ≢ 2) × (result ≢ 7) }
 {
-    status_of(house.serve_first(alloc, rt, config, input, output))
+    status_of(serve_joined(alloc, rt, house, config, input, output))
+}
+
+/// Serves one connection by the house's first seat, of which source and sink are one line.
+fn serve_joined<S: Source, K: Sink, R: Wait>(
+    alloc: Global,
+    rt: &R,
+    house: &mut House,
+    config: &Config,
+    source: &mut S,
+    sink: &mut K,
+) -> End
+    requires full { IsFull house_seats house.old }
+    ensures full { IsFull house_seats house.new }
+    ensures served { ServesFirst (λ old new. ServedConnection config.now (Takes S.left S.given source.old source.new) (S.left source.new)
+        (K.written sink.old) (K.written sink.new) old new result) house.old.seats house.new.seats }
+    ensures complete { result ≢ End.ReadFault → result ≢ End.WriteFault → Completes config.now (S.left source.old) result }
+    ensures reads { CountsFault (S.faults source.old) (S.faults source.new) (result ≡ End.ReadFault) }
+    ensures writes { CountsFault (K.faults sink.old) (K.faults sink.new) (result ≡ End.WriteFault) }
+{
+    let mut line = Joined { source, sink };
+    house.serve_first(alloc, rt, config, &mut line)
 }
 
 /// Answers a script over an engine of its own.
@@ -259,7 +281,7 @@ fn listen<K: Sink, H: Hall, R: Threads + Wait + Sync>(
     requires full { IsFull house_seats house.old }
     requires workers { (1 ≤ workers) × (workers ≤ 64) }
     ensures full { IsFull house_seats house.new }
-    ensures listened { Listened H.Door.may_close H.Door.Input.left H.Door.Input.given H.Door.Input.faults H.Door.Output.written H.Door.Output.faults config.now workers rounds
+    ensures listened { Listened H.Door.may_close H.Door.Line.left H.Door.Line.given H.Door.Line.Source.faults H.Door.Line.written H.Door.Line.Sink.faults config.now workers rounds
         (H.told hall.old) (H.told hall.new) (numbers_of H.faults H.finished H.failed H.closed hall.old) (numbers_of H.faults H.finished H.failed H.closed hall.new)
         (K.written output.old) (K.written output.new) house.old.seats house.new.seats result }
     ensures complete { ((door : H.Door) → H.Door.may_close door ≡ false) → result ≢ 4 → result ≢ 7 → ServesAll rounds (K.written output.old) (K.written output.new) result }

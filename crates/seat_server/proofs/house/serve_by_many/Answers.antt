@@ -9,8 +9,8 @@ use Rattle.seat_server.proofs.house.serve_by_many.Goals as goal
 pub returns-in_default-clause-worked : goal.returns-in_default-clause-worked
 returns-in_default-clause-worked g c =
     let H = g.H.Hall in
-    let I = g.H.Door.Input.Source in
-    let O = g.H.Door.Output.Sink in
+    let I = g.H.Door.Line.Source in
+    let O = g.H.Door.Line.Sink in
     none_worked I.left I.given I.faults O.written O.faults c.args.config.now (take c.args.workers c.args.seats.now.items) (H.told c.args.hall.now) (H.told c.args.hall.now) c.without_memory.result (stays_self (H.told c.args.hall.now)) c.without_memory.ensures
 
 pub serve_workers-first-requires-clause-idle : goal.serve_workers-first-requires-clause-idle
@@ -36,8 +36,8 @@ stand_back-requires g c =
 pub returns-clause-worked : goal.returns-clause-worked
 returns-clause-worked g c =
     let H = g.H.Hall in
-    let I = g.H.Door.Input.Source in
-    let O = g.H.Door.Output.Sink in
+    let I = g.H.Door.Line.Source in
+    let O = g.H.Door.Line.Sink in
     let olds = c.args.seats.now.items in
     let firsts = c.replace-first.result.items in
     let others = reverse c.stand_aside.new.others.items in

@@ -7,8 +7,8 @@ use Rattle.seat_server.proofs.workers.serve_at_once.Goals as goal
 pub returns : goal.returns
 returns g c =
     let D = g.D.Door in
-    let I = g.D.Input.Source in
-    let O = g.D.Output.Sink in
+    let I = g.D.Line.Source in
+    let O = g.D.Line.Sink in
     let olds = c.args.workers.now.items in
     let news = c.for_each_mut.new.s in
     let long : length news ≡ length c.as_mut_slice.result.now = search rules in

@@ -11,16 +11,16 @@ use Rattle.seat_server.proofs.workers.serve_workers.Goals as goal
 pub returns-in_default-clause-worked : goal.returns-in_default-clause-worked
 returns-in_default-clause-worked g c =
     let H = g.H.Hall in
-    let I = g.H.Door.Input.Source in
-    let O = g.H.Door.Output.Sink in
+    let I = g.H.Door.Line.Source in
+    let O = g.H.Door.Line.Sink in
     none_worked I.left I.given I.faults O.written O.faults c.args.config.now c.args.seats.items (H.told c.args.hall.now) (H.told c.open_doors.new.hall) c.without_memory.result c.open_doors.ensures.unmoved.told_same c.without_memory.ensures
 
 pub returns-in_default-with_capacity-clause-worked : goal.returns-in_default-with_capacity-clause-worked
 returns-in_default-with_capacity-clause-worked g c =
     let H = g.H.Hall in
     let D = g.H.Door.Door in
-    let I = g.H.Door.Input.Source in
-    let O = g.H.Door.Output.Sink in
+    let I = g.H.Door.Line.Source in
+    let O = g.H.Door.Line.Sink in
     let unmoved = unmoved_more D.faults D.is_out D.has_closed D.finished D.told H.faults H.finished H.failed H.closed H.told c.args.hall.now c.open_doors.new.hall c.shut_doors.new.hall c.open_doors.ensures.unmoved c.shut_doors.ensures in
     none_worked I.left I.given I.faults O.written O.faults c.args.config.now c.args.seats.items (H.told c.args.hall.now) (H.told c.shut_doors.new.hall) c.without_memory-in_default-with_capacity.result unmoved.told_same c.without_memory-in_default-with_capacity.ensures
 
@@ -37,16 +37,16 @@ serve_at_once-requires-clause-begin g c κs within =
 pub dismiss-tally-requires-clause-home : goal.dismiss-tally-requires-clause-home
 dismiss-tally-requires-clause-home g c κs within =
     let D = g.H.Door.Door in
-    let I = g.H.Door.Input.Source in
-    let O = g.H.Door.Output.Sink in
+    let I = g.H.Door.Line.Source in
+    let O = g.H.Door.Line.Sink in
     all_home D.faults D.is_out D.has_closed I.left I.given I.faults O.written O.faults D.finished D.told c.args.config.now c.args.desk.now.desk (SomeMayClose D.may_close) c.args.rounds (length c.args.seats.items)
     c.hire.new.workers.items c.serve_at_once.new.workers.items c.serve_at_once.ensures
 
 pub dismiss-tally-requires-clause-room : goal.dismiss-tally-requires-clause-room
 dismiss-tally-requires-clause-room g c =
     let D = g.H.Door.Door in
-    let I = g.H.Door.Input.Source in
-    let O = g.H.Door.Output.Sink in
+    let I = g.H.Door.Line.Source in
+    let O = g.H.Door.Line.Sink in
     let seats = c.args.seats in
     let workers = c.serve_at_once.new.workers.items in
     let done = all_done D.faults D.is_out D.has_closed I.left I.given I.faults O.written O.faults D.finished D.told c.args.config.now c.args.desk.now.desk (SomeMayClose D.may_close) c.args.rounds (length seats.items)
@@ -57,8 +57,8 @@ pub returns-clause-worked : goal.returns-clause-worked
 returns-clause-worked g c =
     let H = g.H.Hall in
     let D = g.H.Door.Door in
-    let I = g.H.Door.Input.Source in
-    let O = g.H.Door.Output.Sink in
+    let I = g.H.Door.Line.Source in
+    let O = g.H.Door.Line.Sink in
     let seats = c.args.seats.items in
     let workers = c.serve_at_once.new.workers.items in
     let given = c.dismiss-tally in
@@ -72,8 +72,8 @@ pub returns-clause-tallied : goal.returns-clause-tallied
 returns-clause-tallied g c =
     let H = g.H.Hall in
     let D = g.H.Door.Door in
-    let I = g.H.Door.Input.Source in
-    let O = g.H.Door.Output.Sink in
+    let I = g.H.Door.Line.Source in
+    let O = g.H.Door.Line.Sink in
     let seats = c.args.seats.items in
     let workers = c.serve_at_once.new.workers.items in
     let given = c.dismiss-tally in
@@ -90,8 +90,8 @@ returns-clause-tallied g c =
 pub returns-clause-may_close : goal.returns-clause-may_close
 returns-clause-may_close g c =
     let D = g.H.Door.Door in
-    let I = g.H.Door.Input.Source in
-    let O = g.H.Door.Output.Sink in
+    let I = g.H.Door.Line.Source in
+    let O = g.H.Door.Line.Sink in
     let seats = c.args.seats.items in
     let workers = c.serve_at_once.new.workers.items in
     let given = c.dismiss-tally in

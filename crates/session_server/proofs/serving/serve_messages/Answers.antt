@@ -5,11 +5,12 @@ use Rattle.session_server.proofs.serving.serve_messages.Goals as goal
 
 pub loop-next-init : goal.loop-next-init
 loop-next-init g c = record {
-  served = rw c.new-reader.ensures (rw c.first-state.ensures (nothing_served c.args.config.now g.S.Source.left g.S.Source.given c.args.source.now (g.P.Port.past c.args.port.now) (g.K.Sink.written c.args.sink.now) c.args.spid c.requires.first));
+  served = rw c.new-reader.ensures (rw c.first-state.ensures (nothing_served c.args.config.now g.L.Source.left g.L.Source.given c.args.line.now (g.P.Port.past c.args.port.now) (g.L.Sink.written c.args.line.now) c.args.spid c.requires.first));
   ready = c.requires.ready;
   sized = rw c.first-state.ensures (first_sized c.args.config.now.entry);
   reads = refl;
   writes = refl;
+  held = refl;
   within = rw c.new-reader.ensures (omega arith);
 }
 
@@ -20,6 +21,7 @@ loop-next-preserved g c = record {
   sized = c.in-Ok.ensures.sized;
   reads = c.in-Ok.ensures.no_read_fault (λ is. let never : ⊥ = cc in never) ∙ c.loop-next.invariant.reads;
   writes = c.in-Ok.ensures.no_write_fault (λ is. let never : ⊥ = cc in never) ∙ c.loop-next.invariant.writes;
+  held = c.in-Ok.ensures.held ∙ c.loop-next.invariant.held;
   within = c.in-Ok.ensures.within.1;
 }
 

@@ -8,11 +8,12 @@ use Rattle.session_server.proofs.serving.serve_messages.Given as goal
 -- each message so far has its response, and no byte was taken behind them
 abbrev pub invariant-loop-next : goal.invariant-loop-next
 invariant-loop-next g l = record {
-  served : Served l.config g.S.Source.left g.S.Source.given l.initial.source l.source (g.P.Port.past l.initial.port) (g.P.Port.past l.port) (g.K.Sink.written l.initial.sink) (g.K.Sink.written l.sink) l.spid l.reader l.state l.session;
+  served : Served l.config g.L.Source.left g.L.Source.given l.initial.line l.line (g.P.Port.past l.initial.port) (g.P.Port.past l.port) (g.L.Sink.written l.initial.line) (g.L.Sink.written l.line) l.spid l.reader l.state l.session;
   ready : Ready l.session (g.P.Port.past l.port);
   sized : IsSized l.state;
-  reads : g.S.Source.faults l.source ≡ g.S.Source.faults l.initial.source;
-  writes : g.K.Sink.faults l.sink ≡ g.K.Sink.faults l.initial.sink;
+  reads : g.L.Source.faults l.line ≡ g.L.Source.faults l.initial.line;
+  writes : g.L.Sink.faults l.line ≡ g.L.Sink.faults l.initial.line;
+  held : g.L.Line.held l.line ≡ g.L.Line.held l.initial.line;
   within : l.reader ≤ byte_limit;
 }
 

@@ -5,8 +5,8 @@ use Rattle.seat_server.proofs.worker.Worker.serve_all.Goals as goal
 pub loop-init : goal.loop-init
 loop-init g c =
     let D = g.D.Door in
-    let I = g.D.Input.Source in
-    let O = g.D.Output.Sink in
+    let I = g.D.Line.Source in
+    let O = g.D.Line.Sink in
     begins_so D.faults D.is_out D.has_closed I.left I.given I.faults O.written O.faults D.finished D.told c.args.config.now c.args.desk.now.desk c.args.self.now c.requires.begin
 
 pub serve_next-requires-clause-post : goal.serve_next-requires-clause-post
@@ -18,8 +18,8 @@ serve_next-requires-clause-going g c κs within = c.loop.invariant.going
 pub loop-preserved : goal.loop-preserved
 loop-preserved g c =
     let D = g.D.Door in
-    let I = g.D.Input.Source in
-    let O = g.D.Output.Sink in
+    let I = g.D.Line.Source in
+    let O = g.D.Line.Sink in
     let came : c.serve_next.result ≡ true = search rules in
     let served = c.serve_next.ensures.one came in
     goes_more D.faults D.is_out D.has_closed I.left I.given I.faults O.written O.faults D.finished D.told c.args.config.now c.args.desk.now.desk c.args.self.now c.loop.self c.serve_next.new.self

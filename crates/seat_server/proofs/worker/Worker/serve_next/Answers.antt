@@ -12,8 +12,8 @@ returns-in-Ok-Some-clause-closes g c =
 pub returns-in-Ok-Some-clause-one : goal.returns-in-Ok-Some-clause-one
 returns-in-Ok-Some-clause-one g c =
     let D = g.D.Door in
-    let I = g.D.Input.Source in
-    let O = g.D.Output.Sink in
+    let I = g.D.Line.Source in
+    let O = g.D.Line.Sink in
     let old = c.args.self.now in
     let came = c.in-Ok-Some.ensures in
     let serves = c.serve.ensures c.requires.post.0 c.requires.post.1.has in
