@@ -99,8 +99,8 @@ module _ (config : Config) (taken back : List ℕ) (whole_messages messages : Li
   ended_well unended (unsent sending.Memory) end is caused emptied not_read not_written = inr is
   ended_well unended unmade end is caused emptied not_read not_written = inr is
 
-pub complete : {S : Type 0} {config : Config} {spid : ℕ} {left given : S → Option (List ℕ)} {first next : S} {sink_before sink_after : Option (List ℕ)} {end : End} → Heard config spid (Takes left given first next) (left next) sink_before sink_after end → (end ≡ ReadFault → ⊥) → (end ≡ WriteFault → ⊥) → Completes config (left first) end
-complete {config = config} {left = left} {first = first} {next = next} {end = end} heard not_read not_written = by_told (left first) (left next) heard.from_source.from_left heard.emptied
+pub complete : {S : Type 0} {config : Config} {spid : ℕ} (left given : S → Option (List ℕ)) (first next : S) {sink_before sink_after : Option (List ℕ)} {end : End} → Heard config spid (Takes left given first next) (left next) sink_before sink_after end → (end ≡ ReadFault → ⊥) → (end ≡ WriteFault → ⊥) → Completes config (left first) end
+complete {config = config} left given first next {end = end} heard not_read not_written = by_told (left first) (left next) heard.from_source.from_left heard.emptied
   where
     by_told : (told after : Option (List ℕ)) → Consumes told after heard.taken → Emptied after heard.cause → Completes config told end
     by_told None after took emptied = tt

@@ -78,7 +78,7 @@ module _ (config : Config) (spid at : ℕ) (state : ServerState) (took : List �
     emptied = tt;
   }
 
-  module _ {before after : PortPast} {p q : SessionProgress} {old mid new : Option (List ℕ)} (unwritten : mid ≡ old) (bytes : List ℕ) (taken : took bytes) (message : Message) (is : IsMessage at bytes message) {prepared : PreparedResponse} (next : Result ServerState End) (handled : IsHandled spid before after (handle config state message) p (Ok (Responds prepared next)) q) where
+  module _ {before after : PortPast} {p q : SessionProgress} {old mid : Option (List ℕ)} (new : Option (List ℕ)) (unwritten : mid ≡ old) (bytes : List ℕ) (taken : took bytes) (message : Message) (is : IsMessage at bytes message) {prepared : PreparedResponse} (next : Result ServerState End) (handled : IsHandled spid before after (handle config state message) p (Ok (Responds prepared next)) q) where
     -- what is written behind it is written behind what stood before
     sent_behind : Appends mid new (bytes_of prepared) → Appends old new (bytes_of prepared)
     sent_behind sent = subst (λ (at : Option (List ℕ)). Appends at new (bytes_of prepared)) unwritten sent

@@ -10,13 +10,13 @@ pub returns-in_err-response-clause-ended : goal.returns-in_err-response-clause-e
 returns-in_err-response-clause-ended g c = ended_unmade c.args.config.now c.args.spid c.args.reader.now c.args.state (Takes g.L.Source.left g.L.Source.given c.args.line.now c.next_message.new.line) (g.L.Source.left c.next_message.new.line) c.next_message.ensures.unwritten c.from_residual-in_err-response.result c.from_residual-in_err-response.ensures.0 c.from_residual-in_err-response.ensures.1 c.in_ok-message.ensures.next.0 c.in_ok-message.ensures.next.1 c.in_ok-message.message c.in_ok-message.ensures.next.3 c.in_err-response.field-0.0 c.in_err-response.ensures.handled
 
 pub returns-in_err-send-in-Responds-clause-ended : goal.returns-in_err-send-in-Responds-clause-ended
-returns-in_err-send-in-Responds-clause-ended g c = ended_unsent c.args.config.now c.args.spid c.args.reader.now c.args.state (Takes g.L.Source.left g.L.Source.given c.args.line.now c.send.new.line) (g.L.Source.left c.send.new.line) c.next_message.ensures.unwritten c.in_ok-message.ensures.next.0 (takes_still g.L.Source.left g.L.Source.given c.args.line.now c.next_message.new.line c.send.new.line c.send.ensures.left c.send.ensures.given c.in_ok-message.ensures.next.1) c.in_ok-message.message c.in_ok-message.ensures.next.3 c.in-Responds.next (rw c.in-Responds.is at c.in_ok-response.ensures.handled) c.from_residual-in_err-send-in-Responds.result c.in_err-send-in-Responds.field-0.0 c.from_residual-in_err-send-in-Responds.ensures.0 c.from_residual-in_err-send-in-Responds.ensures.1 c.in_err-send-in-Responds.ensures.part
+returns-in_err-send-in-Responds-clause-ended g c = ended_unsent c.args.config.now c.args.spid c.args.reader.now c.args.state (Takes g.L.Source.left g.L.Source.given c.args.line.now c.send.new.line) (g.L.Source.left c.send.new.line) (g.L.Sink.written c.send.new.line) c.next_message.ensures.unwritten c.in_ok-message.ensures.next.0 (takes_still g.L.Source.left g.L.Source.given c.args.line.now c.next_message.new.line c.send.new.line c.send.ensures.left c.send.ensures.given c.in_ok-message.ensures.next.1) c.in_ok-message.message c.in_ok-message.ensures.next.3 c.in-Responds.next (rw c.in-Responds.is at c.in_ok-response.ensures.handled) c.from_residual-in_err-send-in-Responds.result c.in_err-send-in-Responds.field-0.0 c.from_residual-in_err-send-in-Responds.ensures.0 c.from_residual-in_err-send-in-Responds.ensures.1 c.in_err-send-in-Responds.ensures.part
 
 pub returns-in-Responds-clause-ended : goal.returns-in-Responds-clause-ended
-returns-in-Responds-clause-ended g c = ended_behind c.args.config.now c.args.spid c.args.reader.now c.args.state (Takes g.L.Source.left g.L.Source.given c.args.line.now c.send.new.line) (g.L.Source.left c.send.new.line) c.next_message.ensures.unwritten c.in_ok-message.ensures.next.0 (takes_still g.L.Source.left g.L.Source.given c.args.line.now c.next_message.new.line c.send.new.line c.send.ensures.left c.send.ensures.given c.in_ok-message.ensures.next.1) c.in_ok-message.message c.in_ok-message.ensures.next.3 c.in-Responds.next (rw c.in-Responds.is at c.in_ok-response.ensures.handled) c.in_ok-send-in-Responds.ensures.sent
+returns-in-Responds-clause-ended g c = ended_behind c.args.config.now c.args.spid c.args.reader.now c.args.state (Takes g.L.Source.left g.L.Source.given c.args.line.now c.send.new.line) (g.L.Source.left c.send.new.line) (g.L.Sink.written c.send.new.line) c.next_message.ensures.unwritten c.in_ok-message.ensures.next.0 (takes_still g.L.Source.left g.L.Source.given c.args.line.now c.next_message.new.line c.send.new.line c.send.ensures.left c.send.ensures.given c.in_ok-message.ensures.next.1) c.in_ok-message.message c.in_ok-message.ensures.next.3 c.in-Responds.next (rw c.in-Responds.is at c.in_ok-response.ensures.handled) c.in_ok-send-in-Responds.ensures.sent
 
 pub returns-in-Responds-clause-turned : goal.returns-in-Responds-clause-turned
-returns-in-Responds-clause-turned g c = turned c.args.config.now c.args.spid c.args.reader.now c.args.state (Takes g.L.Source.left g.L.Source.given c.args.line.now c.send.new.line) (g.L.Source.left c.send.new.line) c.next_message.ensures.unwritten c.in_ok-message.ensures.next.0 (takes_still g.L.Source.left g.L.Source.given c.args.line.now c.next_message.new.line c.send.new.line c.send.ensures.left c.send.ensures.given c.in_ok-message.ensures.next.1) c.in_ok-message.message c.in_ok-message.ensures.next.3 c.in-Responds.next (rw c.in-Responds.is at c.in_ok-response.ensures.handled) _ c.in_ok-message.ensures.next.2 c.in_ok-send-in-Responds.ensures.sent
+returns-in-Responds-clause-turned g c = turned c.args.config.now c.args.spid c.args.reader.now c.args.state (Takes g.L.Source.left g.L.Source.given c.args.line.now c.send.new.line) (g.L.Source.left c.send.new.line) (g.L.Sink.written c.send.new.line) c.next_message.ensures.unwritten c.in_ok-message.ensures.next.0 (takes_still g.L.Source.left g.L.Source.given c.args.line.now c.next_message.new.line c.send.new.line c.send.ensures.left c.send.ensures.given c.in_ok-message.ensures.next.1) c.in_ok-message.message c.in_ok-message.ensures.next.3 c.in-Responds.next (rw c.in-Responds.is at c.in_ok-response.ensures.handled) _ c.in_ok-message.ensures.next.2 c.in_ok-send-in-Responds.ensures.sent
 
 pub returns-clause-ended : goal.returns-clause-ended
 returns-clause-ended g c = ended_alone c.args.config.now c.args.spid c.args.reader.now c.args.state (Takes g.L.Source.left g.L.Source.given c.args.line.now c.next_message.new.line) (g.L.Source.left c.next_message.new.line) c.next_message.ensures.unwritten c.in_ok-message.ensures.next.0 c.in_ok-message.ensures.next.1 c.in_ok-message.message c.in_ok-message.ensures.next.3 (rw c.in-Ends.is at c.in_ok-response.ensures.handled)

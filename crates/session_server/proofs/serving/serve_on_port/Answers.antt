@@ -13,7 +13,7 @@ pub returns-clause-writes : goal.returns-clause-writes
 returns-clause-writes g c = record { risen = c.serve_messages-end.ensures.write_fault; still = c.serve_messages-end.ensures.no_write_fault; counted = c.serve_messages-end.ensures.writes_counted }
 
 pub returns-clause-complete : goal.returns-clause-complete
-returns-clause-complete g c = complete c.serve_messages-end.ensures.spoke.heard
+returns-clause-complete g c = complete g.L.Source.left g.L.Source.given c.args.line.now c.serve_messages-end.new.line c.serve_messages-end.ensures.spoke.heard
 
 pub returns-clause-session : goal.returns-clause-session
 returns-clause-session g c = (conversation_of c.roll_back_open.ensures.does c.serve_messages-end.ensures.spoke).means.past.session ∙ c.requires.session
