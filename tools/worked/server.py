@@ -11,6 +11,14 @@ from worked.wire import Unread, batch, login
 PATIENCE = 300
 
 
+def free_port():
+    """A port of this machine that is free. The socket that finds it does not listen: a process that is started meanwhile has it, too."""
+    with socket.socket() as free:
+        free.setsockopt(socket.SOL_SOCKET, socket.SO_REUSEADDR, 1)
+        free.bind(("127.0.0.1", 0))
+        return free.getsockname()[1]
+
+
 def words_of(user):
     """The words that ask for the login of this user, or for none."""
     return ["--bare"] if user is None else ["--user", user[0], "--password", user[1]]
@@ -101,8 +109,7 @@ class Listening:
         self.words, self.user, self.workers, self.links = [program, "listen"], user, workers, []
 
     def __enter__(self):
-        with socket.create_server(("127.0.0.1", 0)) as free:
-            self.port = free.getsockname()[1]
+        self.port = free_port()
         user, password = self.user
         words = ["--port", str(self.port), "--workers", str(self.workers), "--user", user, "--password", password]
         self.run = subprocess.Popen([*self.words, *words], stdin=subprocess.DEVNULL, stdout=subprocess.DEVNULL)

@@ -6,7 +6,7 @@ import socket
 import subprocess
 import time
 
-from worked.server import PATIENCE
+from worked.server import PATIENCE, free_port
 from worked.wire import Unread, bytes_of
 
 # What a client is answered whose connection no door takes.
@@ -69,11 +69,6 @@ def put(run, names, mark, rest):
         run.settings.add(rest)
     else:
         raise Unread(f"there is no line {mark}")
-
-
-def free_port():
-    with socket.create_server(("127.0.0.1", 0)) as free:
-        return free.getsockname()[1]
 
 
 def limit_files():
