@@ -1,5 +1,5 @@
 -- What a conversation says of its exchanges.
-use Rattle.std.proofs.Common.{ℕ, ◌-◌, List, Option}
+use Rattle.std.proofs.Common.{ℕ, List, Option}
 use Rattle.tds_login.specs.declared.config.Config.{Config}
 use Rattle.step_model.specs.Port.{PortPast}
 use Rattle.session_server.specs.declared.end.End.{End}
