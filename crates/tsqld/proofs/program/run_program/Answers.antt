@@ -1,4 +1,4 @@
-use Rattle.std.proofs.Common.{List, rules, subst, inl, inr, refl, [], map, string_bytes}
+use Rattle.std.proofs.Common.{List, rules, subst, inl, inr, refl, []}
 use Rattle.std.specs.Prelude.{◌≡◌, Err}
 use Rattle.program_words.specs.declared.fault.WordsFault.{WordsFault}
 use Rattle.program_words.specs.declared.fault.WordsFault.TheVariants.{Refused}
