@@ -18,6 +18,10 @@ use Rattle.tsqld.specs.Program.{EndsWell, status_of}
 
 -- ---- `pipe`
 
+-- what holds of a source and a sink holds of those that they are
+pub of_same : {A B : Type 0} (P : A → B → Type 0) (a x : A) (b y : B) → x ≡ a → y ≡ b → P a b → P x y
+of_same P a x b y same other holds = subst (λ (v : _). P x v) (sym other) (subst (λ (u : _). P u b) (sym same) holds)
+
 -- a connection that was closed, or wanted memory
 well_status : (end : End) → (end ≡ ends.Closed) ⊎ (end ≡ ends.Memory) → (status_of end ≡ 0) ⊎ (status_of end ≡ 6)
 well_status end (inl closed) = inl (ap status_of closed)
