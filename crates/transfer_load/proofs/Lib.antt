@@ -6,3 +6,4 @@ mod Closing
 mod AllClosed
 mod OneReading
 pub mod OnlyServing
+mod ServedBytes
