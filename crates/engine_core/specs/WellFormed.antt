@@ -1,5 +1,6 @@
 -- Own: what the parts of the engine keep, beside what holds of its state as the model has that.
-use Rattle.std.specs.Prelude.{◌≡◌, ℕ, ◌+◌, ◌<◌, ◌≤◌, ◌^◌, false, length, List, [], Option, None, Some, vec_len}
+use Rattle.std.specs.Prelude.{◌≡◌, ℕ, ◌+◌, ◌≤◌, false, List, [], Option, None, Some, vec_len}
+use Rattle.std.specs.Vec.{vec_capacity}
 use Rattle.std.specs.List.{AllByRecursion}
 use Rattle.value_types.specs.declared.value.Value.{Value}
 use Rattle.step_model.specs.Locks.{has_lock, is_x}
@@ -28,13 +29,13 @@ abbrev pub IsReached : Rows → List Opened → Type 0
 IsReached rows active = (session level : ℕ) → levels_in session active ≤ level → AreBelow session level rows
 
 abbrev pub state : Inside → Engine
-state parts = shown parts.rows parts.locks parts.active.items parts.log
+state parts = shown parts.rows parts.locks parts.active.items parts.log.items
 
--- also, the commit of each open transaction can be counted
+-- also, the log has room for the commit of each open transaction
 pub record IsWellFormed (parts : Inside) : Type 0 where
   pub distinct : AreDistinct parts.active.items
   pub numbered : AreNumbered parts.active.items
   pub idle : IsIdle parts.locks parts.active.items
   pub held : AreHeld parts.rows parts.locks (entries_of parts.rows)
   pub reached : IsReached parts.rows parts.active.items
-  pub room : length parts.log + vec_len parts.active < 2 ^ 64
+  pub room : vec_len parts.log + vec_len parts.active ≤ vec_capacity parts.log

@@ -99,7 +99,7 @@ impl Parts {
     fn commits(&self) -> u64
         ensures { result ≡ length self.now.log }
     {
-        self.log.len()
+        self.log.len() as u64
     }
 
     // One step.

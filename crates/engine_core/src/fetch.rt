@@ -75,7 +75,7 @@ impl Parts {
         ensures { let answer = fetch_reply_at self.now.entries session table.now stop.now in
             IfOk result (λ reply. reply ≡ answer (length self.now.log) (option_copied found.entry)) }
     {
-        let at = self.log.len();
+        let at = self.log.len() as u64;
         match found {
             Some(found) if includes(stop, found) => {
                 let seen = self.rows.visible(session, table, found);

@@ -9,7 +9,7 @@ ghost use Rattle.step_model.specs.Runs.{opening};
 ghost use Rattle.history_laws.specs.Sane.{Sane};
 
 use crate::claim::{Claim, Foe, resource_at};
-use crate::commit_log::CommitLog;
+use crate::commit::Commit;
 use crate::transaction::Transaction;
 use lock_table::LockTable;
 use row_store::RowStore;
@@ -24,7 +24,7 @@ pub(crate) struct Parts {
     pub(crate) rows: RowStore,
     pub(crate) locks: LockTable,
     pub(crate) active: Vec<Transaction>,
-    pub(crate) log: CommitLog,
+    pub(crate) log: Vec<Commit>,
     pub(crate) alloc: Global,
 }
 
@@ -49,7 +49,7 @@ impl Parts {
             rows: RowStore::new(alloc),
             locks: LockTable::new(alloc),
             active: Vec::new(alloc),
-            log: CommitLog::new(),
+            log: Vec::new(alloc),
             alloc,
         }
     }

@@ -1,5 +1,5 @@
 -- One key more of a walk over a session's keys.
-use Rattle.std.proofs.Common.{◌≡◌, ℕ, ◌+◌, Bool, true, false, if◌then◌else◌, List, [], ◌∷◌, ◌++◌, length, Option, is_some, refl, sym, ap, ◌∙◌, subst, arith}
+use Rattle.std.proofs.Common.{◌≡◌, ℕ, ◌+◌, ◌<◌, ◌≤◌, ◌^◌, Bool, true, false, if◌then◌else◌, List, [], ◌∷◌, ◌++◌, length, Option, Some, None, is_some, refl, sym, ap, ◌∙◌, subst, arith}
 use Rattle.std.specs.List.{cons_option, filter_map}
 use Rattle.std.specs.List.Sorted.{IsStrictlySortedBy}
 use Rattle.std.specs.Option.{option_and_then, option_to_list}
@@ -47,6 +47,19 @@ module _ (session : ℕ) where
       ∙ append_assoc changes first (filter_map (change_in session) (edit_at (settled_left session) p.table p.key now))
       ∙ ap (λ (cs : List Change). changes ++ cs) (sym told_now)
       ∙ all
+
+-- one key has one change at most
+pub room_turn : (o : Option Change) (changes more : List Change) (p : Spot) (spots rest : List Spot) → spots ≡ p ∷ rest → more ≡ changes ++ option_to_list o
+    → length changes + length spots < 2 ^ 63 → length more + length rest < 2 ^ 63
+room_turn o changes more p spots rest is grown room =
+    let longer : length more ≡ length changes + length (option_to_list o) = ap (λ (cs : List Change). length cs) grown ∙ length-append changes (option_to_list o) in
+    let shorter : length spots ≡ 1 + length rest = ap (λ (keys : List Spot). length keys) is ∙ length-append (p ∷ []) rest in
+    let one = at_most_one o in
+    omega (arith, longer, shorter, one, room)
+  where
+    at_most_one : (o : Option Change) → length (option_to_list o) ≤ 1
+    at_most_one None = omega arith
+    at_most_one (Some change) = omega arith
 
 -- ---- counts
 

@@ -5,9 +5,7 @@
 //! say of the list of entries, and on each write changing that list as they say. A caller tells with each write how
 //! many marks the session's transaction has made, and writes only where no other session does. No clause says what
 //! calls cost: a look-up or a write goes down two ordered maps, and an end of a transaction, or the way back to a mark,
-//! goes over the keys at which the session has done something since its last end, each with such a look-up. What an end
-//! changes it gives as data of the proof alone ([`LoggedChange`]), so that neither a write nor an end makes a copy for
-//! the log.
+//! goes over the keys at which the session has done something since its last end, each with such a look-up.
 #![tactic(auto)]
 
 ghost use Rattle.std.specs.Prelude.{◌≡◌, ℕ, [], None, Some, map, length, is_some, OnOk, OnErr};
@@ -16,22 +14,20 @@ ghost use Rattle.step_model.specs.Entries.{next_entry, entry_at, row_at, put_ent
 ghost use Rattle.step_model.specs.Moves.{new_entry, set_at, restore, settle as settle_entry, drop_pending as drop_entry};
 ghost use Rattle.row_store.specs.Rows.{entries_of, MayWrite, AddsMaker, KeepsMakers, DropsMaker, KeepsPast, KeepsBelow, KeepsOthers, AreBelow, pending_state, pending_before, swept};
 
-mod logged;
 mod owned;
 mod parts;
 mod prefix;
 mod stored;
 mod sweep;
 
-pub use crate::logged::LoggedChange;
 use crate::owned::Owned;
 use crate::parts::Parts;
 use crate::stored::Stored;
 use crate::sweep::{back_at, changes_at, drop_at, settle_at};
-use ghost_list::GhostList;
 use std::alloc::Global;
+use std::collections::LinkedList;
 use std::marker::Model;
-use step_model::Start;
+use step_model::{Change, Start};
 use value_types::{Key, Memory, Row, TableName};
 
 /// The entries of all tables, and at which of them each session has done something.
@@ -153,7 +149,7 @@ impl RowStore {
     }
 
     /// Makes a session's pending states the committed rows, and gives what they change, in order.
-    pub fn settle(&mut self, session: u32) -> GhostList<LoggedChange>
+    pub fn settle(&mut self, session: u32) -> LinkedList<Change>
         ensures changes { result ≡ changes_by session (entries_of self.old) }
         ensures entries { entries_of self.new ≡ swept session (settle_entry session) self.old }
         ensures makers { DropsMaker session self.old self.new }
@@ -161,7 +157,7 @@ impl RowStore {
         ensures below { (limit : ℕ) → AreBelow session limit self.new }
     {
         let spots = self.owned.take(self.alloc, session);
-        settle_at(&mut self.parts, session, &spots)
+        settle_at(&mut self.parts, self.alloc, session, &spots)
     }
 
     /// Drops a session's pending states.

@@ -1,38 +1,38 @@
 //! An entry as the store keeps it, and what the open transaction that has written there has done.
 
-ghost use Rattle.std.specs.Prelude.{◌≡◌, ◌==◌, ◌∷◌, ◌++◌, [], Some, nat_lt, is_some, IfOk, OnOk, OnErr};
+ghost use Rattle.std.specs.Prelude.{◌≡◌, ◌==◌, ◌+◌, ◌<◌, ◌^◌, ◌∷◌, ◌++◌, [], Some, nat_lt, is_some, IfOk, OnOk, OnErr};
 ghost use Rattle.std.specs.List.{slice_get};
+ghost use Rattle.std.specs.LinkedList.{linked_list_len};
 ghost use Rattle.std.specs.Option.{option_copied, option_to_list};
 ghost use Rattle.step_model.specs.Entries.{pending_by, seen_by};
 ghost use Rattle.row_store.specs.Rows.{entry_of};
 ghost use Rattle.row_store.specs.Writes.{state_at, new_stored, written, put_state, is_past, before_mark, back_stored, settled, dropped, is_kept, kept_row, kept_change, change_in};
 
-use crate::logged::LoggedChange;
-use ghost_list::GhostList;
 use std::alloc::Global;
 use std::collections::LinkedList;
 use std::marker::Model;
 use std::mem::replace;
-use value_types::{Key, Memory, Row, TableName, letting_go};
+use step_model::Change;
+use value_types::{Key, Memory, Row, TableName, beside, letting_go};
 
-/// A state that a session has given a key. In a clause it is the change that it is, with the key as it was asked last;
-/// only its row is kept.
+/// A state that a session has given a key, as the change that it is: with the key as it was asked last. The log's
+/// copy is made beforehand, so that a commit takes no memory.
 #[derive(Drop)]
 struct State {
     level: u64,
-    row: Option<Row>,
-    change: LoggedChange,
+    change: Change,
+    logged: LinkedList<Change>,
 }
 
 impl Model for State {
-    ghost use Rattle.std.specs.Prelude.{◌≡◌};
+    ghost use Rattle.std.specs.Prelude.{◌≡◌, ◌∷◌, []};
     ghost use Rattle.row_store.specs.Rows.{State as Kept};
 
     ghost Value = { Kept };
 
     ghost view = { λ state. record { level = state.level; change = state.change } };
 
-    ghost invariant = { λ state. state.row ≡ state.change.row };
+    ghost invariant = { λ state. state.logged ≡ state.change ∷ [] };
 }
 
 impl State {
@@ -46,9 +46,14 @@ impl State {
     ) -> Result<State, Memory>
         ensures { IfOk result (λ state. state ≡ state_at level table.now key.now (option_copied row.entry)) }
     {
-        let row = row_copied(alloc, row)?;
-        let change = LoggedChange::new(table, key, &row);
-        Ok(State { level, row, change })
+        let change = change_to(alloc, table, key, row)?;
+        let logged = logged_of(alloc, &change);
+        let (change, logged) = beside(change, logged)?;
+        Ok(State {
+            level,
+            change,
+            logged,
+        })
     }
 
     /// Whether it was written at a level below this.
@@ -62,21 +67,38 @@ impl State {
     fn row(&self) -> Option<&Row>
         ensures { option_copied result ≡ self.now.change.row }
     {
-        self.row.as_ref()
+        self.change.row.as_ref()
     }
 
-    /// The row, or none, and the change for the log.
-    fn into_parts(self) -> (Option<Row>, LoggedChange)
+    /// The row, or none, and the log's copy.
+    fn into_parts(self) -> (Option<Row>, LinkedList<Change>)
         ensures row { result.0 ≡ self.change.row }
-        ensures change { result.1 ≡ self.change }
+        ensures logged { result.1 ≡ self.change ∷ [] }
     {
         let State {
             level: _,
-            row,
             change,
+            logged,
         } = self;
-        (row, change)
+        (change.row, logged)
     }
+}
+
+/// The change that gives a key this row, or its absence.
+fn change_to(
+    alloc: Global,
+    table: &TableName,
+    key: &Key,
+    row: Option<&Row>,
+) -> Result<Change, Memory>
+    ensures { let row = option_copied row.entry in
+        IfOk result (λ change. change ≡ record { table = table.now; key = key.now; row = row }) }
+{
+    let table = table.copy(alloc)?;
+    let (table, key) = beside(table, key.copy(alloc))?;
+    let (at, row) = beside((table, key), row_copied(alloc, row))?;
+    let (table, key) = at;
+    Ok(Change { table, key, row })
 }
 
 /// A row, or its absence, copied.
@@ -87,6 +109,16 @@ fn row_copied(alloc: Global, row: Option<&Row>) -> Result<Option<Row>, Memory>
         Some(row) => Ok(Some(row.copy(alloc)?)),
         None => Ok(None),
     }
+}
+
+/// The log's copy of a change.
+fn logged_of(alloc: Global, change: &Change) -> Result<LinkedList<Change>, Memory>
+    ensures { IfOk result (λ logged. logged ≡ change.now ∷ []) }
+{
+    let copy = change.copy(alloc)?;
+    let mut logged = LinkedList::new(alloc);
+    logged.push_back(copy)?;
+    Ok(logged)
 }
 
 /// What an open transaction has done at an entry: whether it made it, and its states, the latest first.
@@ -243,7 +275,8 @@ impl Stored {
     }
 
     /// Makes a session's pending state the committed row, and adds what it changes.
-    pub(crate) fn settle(&mut self, session: u32, changes: &mut GhostList<LoggedChange>)
+    pub(crate) fn settle(&mut self, session: u32, changes: &mut LinkedList<Change>)
+        requires { linked_list_len changes.old + 1 < 2 ^ 63 }
         ensures stored { self.new ≡ settled session self.old }
         ensures changes { changes.new ≡ changes.old ++ option_to_list (change_in session self.old) }
     {
@@ -254,14 +287,15 @@ impl Stored {
     }
 
     /// Makes the latest state of what was done the committed row, and adds what it changes.
-    fn keep(&mut self, mut work: Work, changes: &mut GhostList<LoggedChange>)
+    fn keep(&mut self, mut work: Work, changes: &mut LinkedList<Change>)
+        requires { linked_list_len changes.old + 1 < 2 ^ 63 }
         ensures stored { self.new ≡ record self.old { committed = kept_row self.old.committed work.states } }
         ensures changes { changes.new ≡ changes.old ++ option_to_list (kept_change self.old.committed work.states) }
     {
         if let Some(state) = work.states.pop_front() {
-            let (row, change) = state.into_parts();
+            let (row, mut logged) = state.into_parts();
             if row.is_some() || self.committed.is_some() {
-                changes.push(&change);
+                let _appended = changes.append(&mut logged);
             }
             self.committed = row;
         }

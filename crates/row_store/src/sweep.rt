@@ -1,6 +1,7 @@
 //! Walks over the entries at a session's own keys: back to a mark, and both ends of its transaction.
 
-ghost use Rattle.std.specs.Prelude.{◌≡◌, ◌++◌, Some, is_some, length};
+ghost use Rattle.std.specs.Prelude.{◌≡◌, ◌+◌, ◌<◌, ◌^◌, ◌++◌, Some, is_some, length};
+ghost use Rattle.std.specs.LinkedList.{linked_list_len};
 ghost use Rattle.std.specs.List.{filter_map};
 ghost use Rattle.std.specs.Option.{option_and_then, option_to_list};
 ghost use Rattle.row_store.specs.Rows.{AreInOrder, at_key};
@@ -9,11 +10,11 @@ ghost use Rattle.row_store.specs.Parts.{AreParts, rows_of};
 ghost use Rattle.row_store.specs.Places.{edit_at};
 ghost use Rattle.row_store.specs.Writes.{settled, dropped, settled_left, dropped_left, back_left, is_gone, change_in, pending_at};
 
-use crate::logged::LoggedChange;
 use crate::owned::Spot;
 use crate::parts::Parts;
-use ghost_list::GhostList;
-use std::collections::BTreeSet;
+use std::alloc::Global;
+use std::collections::{BTreeSet, LinkedList};
+use step_model::Change;
 
 /// At how many of these keys the session has a state pending.
 pub(crate) fn changes_at(parts: &Parts, session: u32, spots: &BTreeSet<Spot>) -> u64
@@ -70,9 +71,10 @@ fn back_spot(parts: &mut Parts, session: u32, mark: u64, spot: &Spot)
 /// Makes the session's states at these keys the committed rows, and gives what they change, in order.
 pub(crate) fn settle_at(
     parts: &mut Parts,
+    alloc: Global,
     session: u32,
     spots: &BTreeSet<Spot>,
-) -> GhostList<LoggedChange>
+) -> LinkedList<Change>
     requires parts { AreParts parts.old }
     requires ordered { AreInOrder (rows_of parts.old) }
     requires reached { AreReached (settled_left session) spots.now.keys (rows_of parts.old) }
@@ -80,7 +82,7 @@ pub(crate) fn settle_at(
     ensures rows { rows_of parts.new ≡ filter_map (settled_left session) (rows_of parts.old) }
     ensures changes { result ≡ filter_map (change_in session) (rows_of parts.old) }
 {
-    let mut changes = GhostList::new();
+    let mut changes = LinkedList::new(alloc);
     for spot in spots {
         settle_spot(parts, session, spot, &mut changes);
     }
@@ -88,8 +90,9 @@ pub(crate) fn settle_at(
 }
 
 /// Settles the entry at a key, which goes if nothing is kept there then.
-fn settle_spot(parts: &mut Parts, session: u32, spot: &Spot, changes: &mut GhostList<LoggedChange>)
+fn settle_spot(parts: &mut Parts, session: u32, spot: &Spot, changes: &mut LinkedList<Change>)
     requires parts { AreParts parts.old }
+    requires room { linked_list_len changes.old + 1 < 2 ^ 63 }
     ensures parts { AreParts parts.new }
     ensures rows { rows_of parts.new ≡ edit_at (settled_left session) spot.now.table spot.now.key (rows_of parts.old) }
     ensures changes { changes.new ≡ changes.old ++ option_to_list (option_and_then (change_in session) (at_key (rows_of parts.old) spot.now.table spot.now.key)) }
@@ -104,9 +107,10 @@ fn settle_there(
     parts: &mut Parts,
     session: u32,
     spot: &Spot,
-    changes: &mut GhostList<LoggedChange>,
+    changes: &mut LinkedList<Change>,
 ) -> bool
     requires parts { AreParts parts.old }
+    requires room { linked_list_len changes.old + 1 < 2 ^ 63 }
     ensures parts { AreParts parts.new }
     ensures rows { rows_of parts.new ≡ edit_at (λ one. Some (settled session one)) spot.now.table spot.now.key (rows_of parts.old) }
     ensures gone { result ≡ is_gone (settled session) (at_key (rows_of parts.old) spot.now.table spot.now.key) }

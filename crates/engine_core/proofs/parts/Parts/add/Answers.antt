@@ -13,11 +13,11 @@ use Rattle.engine_core.proofs.parts.Parts.add.Goals as goal
 pub invariant_of-self : goal.invariant_of-self
 invariant_of-self c =
     let level : c.made_in-level.result ≡ made_in c.args.session c.self.inside.active.items = c.made_in-level.ensures ∙ ap (made_in c.args.session) c.deref.ensures.value in
-    let parts = well_added c.self.inside.rows c.self.inside.locks c.self.inside.active.items c.self.inside.log c.self.invariant.idle c.self.invariant.held c.args.session
+    let parts = well_added c.self.inside.rows c.self.inside.locks c.self.inside.active.items c.self.inside.log.items c.self.invariant.idle c.self.invariant.held c.args.session
     (subst Sane (sym c.self.view_is) c.requires.sane) c.args.table.now c.args.key.now c.args.row.now
     (ap (λ (e : Engine). entry_at e.entries c.args.table.now c.args.key.now) c.self.view_is ∙ c.requires.absent)
     c.add_locked.result (is_range_s (pair_on c.args.above.now (of_session c.args.session c.self.inside.locks)).range) c.add_locked.new.rows c.add_locked.new.locks
-    (begun_shown c.self.inside.rows c.self.inside.locks c.self.inside.active.items c.self.inside.log c.args.self.now c.self.view_is c.args.session true c.requires.begun) c.self.invariant.reached
+    (begun_shown c.self.inside.rows c.self.inside.locks c.self.inside.active.items c.self.inside.log.items c.args.self.now c.self.view_is c.args.session true c.requires.begun) c.self.invariant.reached
     c.add_locked.ensures.entries c.add_locked.ensures.makers (subst (λ (n : ℕ). OnOk c.add_locked.result (KeepsBelow c.args.session n c.self.inside.rows c.add_locked.new.rows)) level c.add_locked.ensures.below)
     c.add_locked.ensures.locks c.add_locked.ensures.err_rows c.add_locked.ensures.err_locks in
     record { distinct = c.self.invariant.distinct; numbered = c.self.invariant.numbered; idle = parts.0; held = parts.1; reached = parts.2; room = c.self.invariant.room }
@@ -25,7 +25,7 @@ invariant_of-self c =
 pub returns-clause-ok : goal.returns-clause-ok
 returns-clause-ok c =
     let level : c.made_in-level.result ≡ made_in c.args.session c.self.inside.active.items = c.made_in-level.ensures ∙ ap (made_in c.args.session) c.deref.ensures.value in
-    added_ok c.self.inside.rows c.self.inside.locks c.self.inside.active.items c.self.inside.log c.self.invariant.idle c.self.invariant.held c.args.session
+    added_ok c.self.inside.rows c.self.inside.locks c.self.inside.active.items c.self.inside.log.items c.self.invariant.idle c.self.invariant.held c.args.session
     (subst Sane (sym c.self.view_is) c.requires.sane) c.args.table.now c.args.key.now c.args.row.now
     (ap (λ (e : Engine). entry_at e.entries c.args.table.now c.args.key.now) c.self.view_is ∙ c.requires.absent)
     c.args.above.now (c.requires.place ∙ ap (λ (e : Engine). place_on e.entries c.args.table.now c.args.key.now) (sym c.self.view_is))

@@ -17,7 +17,7 @@ pair_there : (c : goal.Joined-branch-2) → c.of.result ≡ pair_of c.open-item.
 pair_there c =
     c.of.ensures ∙ c.pairs-pairs.ensures c.session-holder.result
     ∙ ap (λ (on : Resource). pair_on on (of_session c.session-holder.result c.self.inside.locks)) c.on.ensures
-    ∙ ap (pair_on c.args.wait.now.on) (sym (locks_shown c.self.inside.rows c.self.inside.locks c.self.inside.active.items c.self.inside.log c.self.invariant.idle c.session-holder.result) ∙ ap (locks_of c.session-holder.result) c.self.view_is)
+    ∙ ap (pair_on c.args.wait.now.on) (sym (locks_shown c.self.inside.rows c.self.inside.locks c.self.inside.active.items c.self.inside.log.items c.self.invariant.idle c.session-holder.result) ∙ ap (locks_of c.session-holder.result) c.self.view_is)
     ∙ ap (λ (n : ℕ). pair_of n c.args.wait.now.on c.args.self.now) c.session-holder.ensures
 
 next : (c : goal.Joined-branch-2) → c.loop-open.edges.items ++ cons_option c.in_ok-edge.field-0 [] ≡ c.args.edges.now.items ++ edges_by c.args.self.now c.args.waiter c.args.wait.now (take (c.loop-open.open-index + 1) c.args.self.now.active)

@@ -15,7 +15,7 @@ use Rattle.engine_core.proofs.parts.Parts.back_to.Goals as goal
 pub cut-requires-clause-begun : goal.cut-requires-clause-begun
 cut-requires-clause-begun c =
     ap (is_active c.args.session) c.deref_mut.ensures.value
-    ∙ begun_shown c.self.inside.rows c.self.inside.locks c.self.inside.active.items c.self.inside.log c.args.self.now c.self.view_is c.args.session true c.requires.begun
+    ∙ begun_shown c.self.inside.rows c.self.inside.locks c.self.inside.active.items c.self.inside.log.items c.args.self.now c.self.view_is c.args.session true c.requires.begun
 
 pub invariant_of-self : goal.invariant_of-self
 invariant_of-self c =
@@ -34,7 +34,7 @@ pub returns-clause-new : goal.returns-clause-new
 returns-clause-new c =
     let active = c.self.inside.active.items in
     let is : (with_items c.self.inside.active c.cut.new.active).items ≡ with_opened c.args.session (cut_marks c.args.mark) active = wrote_all c.self.inside.active c.cut.new.active _ (c.cut.ensures ∙ ap (with_opened c.args.session (cut_marks c.args.mark)) c.deref_mut.ensures.value) (same_length c.args.session (cut_marks c.args.mark) active) in
-    ap (λ (ts : List Opened). shown c.back_to.new.self c.self.inside.locks ts c.self.inside.log) is
-    ∙ back_shown c.args.session c.args.mark c.self.inside.rows c.self.inside.locks c.back_to.new.self c.back_to.ensures.entries active c.self.inside.log
+    ap (λ (ts : List Opened). shown c.back_to.new.self c.self.inside.locks ts c.self.inside.log.items) is
+    ∙ back_shown c.args.session c.args.mark c.self.inside.rows c.self.inside.locks c.back_to.new.self c.back_to.ensures.entries active c.self.inside.log.items
     (subst (λ (e : Engine). list_any (λ (s : Saved). s.mark == c.args.mark) (saved_of c.args.session e) ≡ true) (sym c.self.view_is) (live_saved c.args.mark (saved_of c.args.session c.args.self.now) ∙ c.requires.live)) c.back_to.ensures.past
     ∙ ap (after_back c.args.session c.args.mark) c.self.view_is

@@ -7,8 +7,8 @@ use Rattle.engine_core.proofs.Showing.{begun_shown}
 use Rattle.engine_core.proofs.Begins.{fresh, idle_begun, reached_begun, begin_shown}
 use Rattle.engine_core.proofs.parts.Parts.begin.Goals as goal
 
-pub invariant_of-self : goal.invariant_of-self
-invariant_of-self c = record {
+pub invariant_of-self-in_err-insert : goal.invariant_of-self-in_err-insert
+invariant_of-self-in_err-insert c = record {
   distinct = subst AreDistinct (sym c.in_err-insert.ensures.items) c.self.invariant.distinct;
   numbered = subst AreNumbered (sym c.in_err-insert.ensures.items) c.self.invariant.numbered;
   idle = subst (IsIdle c.self.inside.locks) (sym c.in_err-insert.ensures.items) c.self.invariant.idle;
@@ -19,7 +19,7 @@ invariant_of-self c = record {
 
 pub invariant_of-self-2 : goal.invariant_of-self-2
 invariant_of-self-2 c =
-    let closed : is_active c.args.session c.self.inside.active.items ≡ false = begun_shown c.self.inside.rows c.self.inside.locks c.self.inside.active.items c.self.inside.log c.args.self.now c.self.view_is c.args.session false c.requires.closed in
+    let closed : is_active c.args.session c.self.inside.active.items ≡ false = begun_shown c.self.inside.rows c.self.inside.locks c.self.inside.active.items c.self.inside.log.items c.args.self.now c.self.view_is c.args.session false c.requires.closed in
     let items : c.insert.new.self.items ≡ fresh c.args.session ∷ c.self.inside.active.items = c.in_ok-insert.ensures.items ∙ ap (λ (t : Opened). t ∷ c.self.inside.active.items) c.new-transaction.ensures in
     record {
       distinct = subst AreDistinct (sym items) (closed, c.self.invariant.distinct);
@@ -32,8 +32,9 @@ invariant_of-self-2 c =
 
 pub returns-clause-ok : goal.returns-clause-ok
 returns-clause-ok c =
-    let closed : is_active c.args.session c.self.inside.active.items ≡ false = begun_shown c.self.inside.rows c.self.inside.locks c.self.inside.active.items c.self.inside.log c.args.self.now c.self.view_is c.args.session false c.requires.closed in
+    let closed : is_active c.args.session c.self.inside.active.items ≡ false = begun_shown c.self.inside.rows c.self.inside.locks c.self.inside.active.items c.self.inside.log.items c.args.self.now c.self.view_is c.args.session false c.requires.closed in
     let items : c.insert.new.self.items ≡ fresh c.args.session ∷ c.self.inside.active.items = c.in_ok-insert.ensures.items ∙ ap (λ (t : Opened). t ∷ c.self.inside.active.items) c.new-transaction.ensures in
-    ap (λ (ts : List Opened). shown c.self.inside.rows c.self.inside.locks ts c.self.inside.log) items
-    ∙ begin_shown c.self.inside.rows c.self.inside.locks c.self.inside.active.items c.args.session closed c.self.inside.log c.self.invariant.idle
+    ap (λ (ts : List Opened). shown c.self.inside.rows c.self.inside.locks ts c.reserve.new.self.items) items
+    ∙ ap (shown c.self.inside.rows c.self.inside.locks (fresh c.args.session ∷ c.self.inside.active.items)) c.in_ok-reserve.ensures.items
+    ∙ begin_shown c.self.inside.rows c.self.inside.locks c.self.inside.active.items c.args.session closed c.self.inside.log.items c.self.invariant.idle
     ∙ ap (after_begin c.args.session) c.self.view_is

@@ -27,6 +27,6 @@ pub returns : goal.returns
 returns c =
     let active = c.self.inside.active.items in
     let is : (with_items c.self.inside.active c.begin_wait.new.active).items ≡ with_opened c.args.session (set_wait c.args.wait) active = wrote_all c.self.inside.active c.begin_wait.new.active _ (c.begin_wait.ensures ∙ ap (with_opened c.args.session (set_wait c.args.wait)) c.deref_mut.ensures.value) (same_length c.args.session (set_wait c.args.wait) active) in
-    ap (λ (ts : List Opened). shown c.self.inside.rows c.self.inside.locks ts c.self.inside.log) is
-    ∙ changed_shown c.args.session (set_wait c.args.wait) (set_wait_there c.args.wait) c.self.inside.rows c.self.inside.locks (λ t. refl) active c.self.inside.log
+    ap (λ (ts : List Opened). shown c.self.inside.rows c.self.inside.locks ts c.self.inside.log.items) is
+    ∙ changed_shown c.args.session (set_wait c.args.wait) (set_wait_there c.args.wait) c.self.inside.rows c.self.inside.locks (λ t. refl) active c.self.inside.log.items
     ∙ ap (with_wait c.args.session c.args.wait) c.self.view_is

@@ -27,6 +27,6 @@ pub returns : goal.returns
 returns c =
     let active = c.self.inside.active.items in
     let is : (with_items c.self.inside.active c.fall.new.active).items ≡ with_opened c.args.session (mark_victim c.args.cycle) active = wrote_all c.self.inside.active c.fall.new.active _ (c.fall.ensures ∙ ap (with_opened c.args.session (mark_victim c.args.cycle)) c.deref_mut.ensures.value) (same_length c.args.session (mark_victim c.args.cycle) active) in
-    ap (λ (ts : List Opened). shown c.self.inside.rows c.self.inside.locks ts c.self.inside.log) is
-    ∙ changed_shown c.args.session (mark_victim c.args.cycle) (mark_victim_there c.args.cycle) c.self.inside.rows c.self.inside.locks (λ t. refl) active c.self.inside.log
+    ap (λ (ts : List Opened). shown c.self.inside.rows c.self.inside.locks ts c.self.inside.log.items) is
+    ∙ changed_shown c.args.session (mark_victim c.args.cycle) (mark_victim_there c.args.cycle) c.self.inside.rows c.self.inside.locks (λ t. refl) active c.self.inside.log.items
     ∙ ap (after_fall c.args.session c.args.cycle) c.self.view_is

@@ -10,5 +10,5 @@ returns c =
     c.contains.ensures.value
     ∙ ap (list_any (λ (live : ℕ). live == c.args.mark))
     (c.marks_in.ensures ∙ ap (marks_in c.args.session) c.deref.ensures.value
-    ∙ sym (numbers_shown c.self.inside.rows c.self.inside.locks c.self.inside.active.items c.self.inside.log c.args.session)
+    ∙ sym (numbers_shown c.self.inside.rows c.self.inside.locks c.self.inside.active.items c.self.inside.log.items c.args.session)
     ∙ ap (λ (e : Engine). map (λ (s : Saved). s.mark) (saved_of c.args.session e)) c.self.view_is)

@@ -15,7 +15,7 @@ use Rattle.engine_core.proofs.parts.Parts.mark.Goals as goal
 pub mark-requires-clause-begun : goal.mark-requires-clause-begun
 mark-requires-clause-begun c =
     ap (is_active c.args.session) c.deref_mut.ensures.value
-    ∙ begun_shown c.self.inside.rows c.self.inside.locks c.self.inside.active.items c.self.inside.log c.args.self.now c.self.view_is c.args.session true c.requires.begun
+    ∙ begun_shown c.self.inside.rows c.self.inside.locks c.self.inside.active.items c.self.inside.log.items c.args.self.now c.self.view_is c.args.session true c.requires.begun
 
 pub invariant_of-self : goal.invariant_of-self
 invariant_of-self c =
@@ -46,16 +46,16 @@ invariant_of-self-2 c =
 pub returns-clause-reply : goal.returns-clause-reply
 returns-clause-reply c =
     ap Marked (c.in_ok-mark.ensures.next ∙ ap (λ (ts : List Opened). made_in c.args.session ts + 1) c.deref_mut.ensures.value
-    ∙ ap (λ (n : ℕ). n + 1) (sym (made_shown c.self.inside.rows c.self.inside.locks c.self.inside.active.items c.self.inside.log c.args.session) ∙ ap (made_by c.args.session) c.self.view_is))
+    ∙ ap (λ (n : ℕ). n + 1) (sym (made_shown c.self.inside.rows c.self.inside.locks c.self.inside.active.items c.self.inside.log.items c.args.session) ∙ ap (made_by c.args.session) c.self.view_is))
 
 pub returns-clause-ok : goal.returns-clause-ok
 returns-clause-ok c =
     let active = c.self.inside.active.items in
     let next : c.in_ok-mark.mark ≡ made_in c.args.session active + 1 = c.in_ok-mark.ensures.next ∙ ap (λ (ts : List Opened). made_in c.args.session ts + 1) c.deref_mut.ensures.value in
     let is : (with_items c.self.inside.active c.mark.new.active).items ≡ with_opened c.args.session (add_mark c.in_ok-mark.mark) active = wrote_all c.self.inside.active c.mark.new.active _ (c.in_ok-mark.ensures.kept ∙ ap (with_opened c.args.session (add_mark c.in_ok-mark.mark)) c.deref_mut.ensures.value) (same_length c.args.session (add_mark c.in_ok-mark.mark) active) in
-    let begun = begun_shown c.self.inside.rows c.self.inside.locks active c.self.inside.log c.args.self.now c.self.view_is c.args.session true c.requires.begun in
+    let begun = begun_shown c.self.inside.rows c.self.inside.locks active c.self.inside.log.items c.args.self.now c.self.view_is c.args.session true c.requires.begun in
     let level : levels_in c.args.session active ≡ c.in_ok-mark.mark = levels_active c.args.session active begun ∙ sym next in
-    ap (λ (ts : List Opened). shown c.self.inside.rows c.self.inside.locks ts c.self.inside.log) is
-    ∙ mark_shown c.self.inside.rows c.self.inside.locks c.args.session active c.self.inside.log c.in_ok-mark.mark next
+    ap (λ (ts : List Opened). shown c.self.inside.rows c.self.inside.locks ts c.self.inside.log.items) is
+    ∙ mark_shown c.self.inside.rows c.self.inside.locks c.args.session active c.self.inside.log.items c.in_ok-mark.mark next
     (c.law_pending_now.ensures c.args.session c.in_ok-mark.mark (c.self.invariant.reached c.args.session c.in_ok-mark.mark (omega (arith, level))))
     ∙ ap (after_mark c.args.session) c.self.view_is

@@ -12,7 +12,7 @@ invariant_of-self c = record {
   distinct = c.self.invariant.distinct;
   numbered = c.self.invariant.numbered;
   idle = idle_changes (filter (λ (lock : Lock). is_whole lock.span)) c.args.session c.self.inside.locks c.relax.new.self c.self.inside.active.items
-      (sym (open_shown c.self.inside.rows c.self.inside.locks c.self.inside.active.items c.self.inside.log c.args.session) ∙ ap (is_open c.args.session) c.self.view_is ∙ c.requires.begun)
+      (sym (open_shown c.self.inside.rows c.self.inside.locks c.self.inside.active.items c.self.inside.log.items c.args.session) ∙ ap (is_open c.args.session) c.self.view_is ∙ c.requires.begun)
       c.relax.ensures c.self.invariant.idle;
   held = held_relaxed c.self.inside.rows c.args.session c.self.inside.locks c.relax.new.self c.relax.ensures (entries_of c.self.inside.rows) c.self.invariant.held;
   reached = c.self.invariant.reached;
@@ -21,5 +21,5 @@ invariant_of-self c = record {
 
 pub returns-clause-new : goal.returns-clause-new
 returns-clause-new c =
-    changes_shown c.self.inside.rows c.args.session (filter (λ (lock : Lock). is_whole lock.span)) c.self.inside.locks c.relax.new.self c.self.inside.active.items c.self.inside.log c.relax.ensures
+    changes_shown c.self.inside.rows c.args.session (filter (λ (lock : Lock). is_whole lock.span)) c.self.inside.locks c.relax.new.self c.self.inside.active.items c.self.inside.log.items c.relax.ensures
     ∙ ap (after_relax c.args.session) c.self.view_is
