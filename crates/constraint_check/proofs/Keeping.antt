@@ -27,10 +27,10 @@ use Rattle.step_model.specs.Database.{Database, In, With, is_at, is_within}
 use Rattle.step_model.proofs.Databases.{With-append}
 use Rattle.step_model.specs.Own.{change_of, is_insert, row_of}
 use Rattle.clause_binder.specs.Scope.{key_places}
-use Rattle.table_rows.specs.Rows.{has_columns, key_of, row_fits, values_at}
+use Rattle.table_rows.specs.Rows.{has_columns, key_of, places_of, row_fits, values_at}
 use Rattle.constraint_check.specs.declared.check_read.CheckRead.{CheckRead}
 use Rattle.constraint_check.specs.Local.{broken_among, check_fault, first_given, null_fault, null_in, row_setting}
-use Rattle.constraint_check.specs.Reads.{all_rows, child_read, child_reads, child_where, is_again, is_erase, is_gone, of_both, of_key, of_row, parent_read, parent_reads, parent_reads_of, places_of, is_key, row_at, rows_table, shape_of, unique_read, unique_reads}
+use Rattle.constraint_check.specs.Reads.{all_rows, child_read, child_reads, child_where, is_again, is_erase, is_gone, of_both, of_key, of_row, parent_read, parent_reads, parent_reads_of, is_key, row_at, rows_table, shape_of, unique_read, unique_reads}
 use Rattle.constraint_check.specs.Judged.{agreeing, agrees, error_where}
 use Rattle.constraint_check.specs.Integrity.{AreKept, HasParents, IsKept, IsUnique, Stands, comes_false, has_false}
 use Rattle.constraint_check.specs.Laws.{Checked, CheckedKept, KeysAreOne, Passes, behind}
