@@ -13,6 +13,7 @@
 
 ghost use Rattle.write_laws.specs.Planning.{PlannedFits, PlannedKept, PlannedRight, RowsRead, ShapeNamed};
 ghost use Rattle.write_laws.specs.Reading.{ChecksRead, CommitLeaves, FetchesLeave, FirstsFresh, ImagesFetch, ImagesRead, KeyTold, LoggedCommits, NetLeaves, NextState, OnceLeaves, OncePasses, PartAnswers, PlacesAreOne, PlannedKeys, RangeOfWhole, RangeRead, ReadsReady, RowsCurrent, StatesAreOne, WalkRead, WritesLeave, WritesPass};
+ghost use Rattle.write_laws.specs.Told.{RowsTold, TargetsRead};
 ghost use Rattle.write_laws.specs.Keeping.{KeysSized, FirmCreated, FirmDropped, FirmEmpty, FirmErased, FirmPut, FirmSound, FirmWritten, TablesReady, UntriggeredCreated, UntriggeredDropped, UntriggeredEmpty, UntriggeredWritten};
 ghost use Rattle.write_laws.specs.Found.{FoundDefined, FoundDefinitions, FoundTables};
 ghost use Rattle.write_laws.specs.Plans.{BoundStands, PlannedReadable, FirmDropPlanned, FirmPlanned, UntriggeredPlanned};
@@ -59,6 +60,13 @@ pub fn law_kept()
 pub fn law_range_read()
     ensures held { RangeRead }
     ensures current { RowsCurrent }
+{}
+
+/// Each row that was read of a range was told by a fetch of it, with its key; and so was each of those that an UPDATE or DELETE is
+/// planned on, by a fetch with U.
+pub fn law_told()
+    ensures rows { RowsTold }
+    ensures targets { TargetsRead }
 {}
 
 /// What a range of a table has is what stands in it of all that the table has.
