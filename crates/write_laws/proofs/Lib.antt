@@ -15,6 +15,7 @@ pub mod Ranged  -- the rows of a range among those of the table
 pub mod Walks  -- rows that were found one fetch behind another, and one whole key
 pub mod Images  -- images
 pub mod Told  -- the fetch of each row that was read
+pub mod TargetStands  -- a row that was fetched to be written is the one at its transaction's place
 pub mod Currents  -- the rows of a range that was not held
 pub mod Checks  -- reads that gave no error
 pub mod Tables  -- what is read for changes is of tables that are there

@@ -14,6 +14,7 @@
 ghost use Rattle.write_laws.specs.Planning.{PlannedFits, PlannedKept, PlannedRight, RowsRead, ShapeNamed};
 ghost use Rattle.write_laws.specs.Reading.{ChecksRead, CommitLeaves, FetchesLeave, FirstsFresh, ImagesFetch, ImagesRead, KeyTold, LoggedCommits, NetLeaves, NextState, OnceLeaves, OncePasses, PartAnswers, PlacesAreOne, PlannedKeys, RangeOfWhole, RangeRead, ReadsReady, RowsCurrent, StatesAreOne, WalkRead, WritesLeave, WritesPass};
 ghost use Rattle.write_laws.specs.Told.{RowsTold, TargetsRead};
+ghost use Rattle.write_laws.specs.Targets.{TargetStands, ToldStands};
 ghost use Rattle.write_laws.specs.Keeping.{KeysSized, FirmCreated, FirmDropped, FirmEmpty, FirmErased, FirmPut, FirmSound, FirmWritten, TablesReady, UntriggeredCreated, UntriggeredDropped, UntriggeredEmpty, UntriggeredWritten};
 ghost use Rattle.write_laws.specs.Found.{FoundDefined, FoundDefinitions, FoundTables};
 ghost use Rattle.write_laws.specs.Plans.{BoundStands, PlannedReadable, FirmDropPlanned, FirmPlanned, UntriggeredPlanned};
@@ -67,6 +68,13 @@ pub fn law_range_read()
 pub fn law_told()
     ensures rows { RowsTold }
     ensures targets { TargetsRead }
+{}
+
+/// A row that was fetched with U, or with its range, and then written in the same statement, is what the database has at its key at
+/// the transaction's place, with what the transaction had changed by then; so is each that was told so among what was read.
+pub fn law_target_stands()
+    ensures one { TargetStands }
+    ensures told { ToldStands }
 {}
 
 /// What a range of a table has is what stands in it of all that the table has.
