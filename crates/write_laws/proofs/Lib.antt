@@ -43,4 +43,5 @@ pub mod Erased  -- where one is erased
 pub mod Drops  -- what DROP TABLE plans
 pub mod Bound  -- a table whose CREATE TABLE is bound
 pub mod Whole  -- what statements keep is all that is to be kept
+pub mod Indexed  -- index parts where definitions come and go
 mod NameFacts  -- worked names

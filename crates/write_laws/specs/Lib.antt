@@ -8,4 +8,5 @@ pub mod Targets  -- TargetStands, ToldStands: a row that was fetched to be writt
 pub mod Sound  -- Sound: what of a database is to be kept; Firm: what statements keep
 pub mod Keeping  -- FirmSound, FirmEmpty, FirmWritten, FirmDropped, FirmCreated: each change that statements make keeps it
 pub mod Found  -- FoundTables: the tables that are read are those that are defined
+pub mod Indexed  -- Indexed: what is to be kept of index parts, which no table has yet; IndexedCreated, IndexedDropped: definitions keep it
 pub mod Plans  -- FirmPlanned, FirmDropPlanned, BoundStands: what a write and DROP TABLE plan keeps it; what CREATE TABLE asks

@@ -17,6 +17,7 @@ ghost use Rattle.write_laws.specs.Told.{RowsTold, TargetsRead};
 ghost use Rattle.write_laws.specs.Targets.{TargetStands, ToldStands};
 ghost use Rattle.write_laws.specs.Keeping.{KeysSized, FirmCreated, FirmDropped, FirmEmpty, FirmErased, FirmPut, FirmSound, FirmWritten, TablesReady, UntriggeredCreated, UntriggeredDropped, UntriggeredEmpty, UntriggeredWritten};
 ghost use Rattle.write_laws.specs.Found.{FoundDefined, FoundDefinitions, FoundTables};
+ghost use Rattle.write_laws.specs.Indexed.{IndexedCreated, IndexedDropped, IndexedEmpty, IndexedErased, IndexedPut, OwnBehind};
 ghost use Rattle.write_laws.specs.Plans.{BoundStands, PlannedReadable, FirmDropPlanned, FirmPlanned, UntriggeredPlanned};
 
 // ---- what a write plans
@@ -227,4 +228,21 @@ pub fn law_firm_drop_planned()
 /// A table whose CREATE TABLE is bound over definitions of a firm database can stand there.
 pub fn law_bound_stands()
     ensures { BoundStands }
+{}
+
+// ---- index parts, which no table has yet
+
+/// The own rows behind changes are those behind the changes of own rows.
+pub fn law_own_rows()
+    ensures { OwnBehind }
+{}
+
+/// A database without rows has no index part, and so none that is not as it is to be; each part stays exact where definitions come
+/// and go, and where all rows of all parts of a table are erased with its definition.
+pub fn law_indexed()
+    ensures empty { IndexedEmpty }
+    ensures created { IndexedCreated }
+    ensures put { IndexedPut }
+    ensures erased { IndexedErased }
+    ensures dropped { IndexedDropped }
 {}
