@@ -28,8 +28,11 @@ module _ (asked : List Asked) (engine : Engine) (run : Run opening asked engine)
   tied session =
       let fits = law_runs session asked engine run in
       record {
+        numbers = fits.numbers;
+        fetches = fits.fetches;
         ranges = fits.ranges;
         inserts = fits.inserts;
+        targets = fits.targets;
         commits = fits.commits;
         comes = runs_come session asked engine run;
       }
