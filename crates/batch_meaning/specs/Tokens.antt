@@ -44,6 +44,10 @@ procedure_done status = ReturnStatus status ∷ Finished Proc done_more command_
 abbrev pub batch_done : Bool → Token
 batch_done failed = Finished Done (if failed then done_error else done_final) command_none 0
 
+-- the end of a call by RPC, so too: DONEPROC, behind which nothing follows
+abbrev pub rpc_done : Bool → Token
+rpc_done failed = Finished Proc (if failed then done_error else done_final) command_none 0
+
 -- ---- results
 
 -- a token for each row
