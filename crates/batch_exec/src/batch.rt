@@ -118,14 +118,14 @@ fn fail_at<P: Port>(
 }
 
 /// Why a text is refused.
-fn refusal(alloc: Global, code: u16, near: &Units) -> Result<Failure, Memory>
+pub(crate) fn refusal(alloc: Global, code: u16, near: &Units) -> Result<Failure, Memory>
     ensures { IfOk result (λ failure. failure ≡ naming code near.now) }
 {
     Ok(Failure::naming(code, near.copy(alloc)?))
 }
 
 /// Tells that a text is refused.
-fn refuse(
+pub(crate) fn refuse(
     alloc: Global,
     session: &mut SessionState,
     line: i32,
@@ -180,7 +180,7 @@ fn end_doomed<P: Port>(
 }
 
 /// Whether an error ended the batch.
-fn has_failed(exit: &Exit) -> bool
+pub(crate) fn has_failed(exit: &Exit) -> bool
     ensures { result ≡ has_failed exit.now }
 {
     match exit {

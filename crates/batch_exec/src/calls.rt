@@ -127,6 +127,24 @@ fn call_over(
     call_of(alloc, vars, name, arguments, around, procedure)
 }
 
+/// A procedure that is not looked up is bound as one that was.
+pub(crate) fn bind_call(
+    alloc: Global,
+    session: &SessionState,
+    statement: &Statement,
+    arguments: &[Argument],
+    procedure: ProcedureTree,
+) -> Result<Call, Failure>
+    ensures typed { IfOk result (λ call. AreTyped call.procedure.parameters call.values) }
+{
+    bind_first(alloc, session, statement)?;
+    let vars = session.vars();
+    if !are_standing(None, arguments, vars) {
+        return Err(Failure::plain(OUTSIDE_LIMITS));
+    }
+    call_with(alloc, procedure, arguments, vars)
+}
+
 /// Whether each variable that a call names stands.
 fn are_standing(takes: Option<&Units>, arguments: &[Argument], vars: &Vars) -> bool
     ensures stands { result ≡ are_standing (option_map (λ name. name.now) takes.entry) arguments.now vars.now }

@@ -68,7 +68,7 @@ pub(crate) fn return_from<P: Port>(
 }
 
 /// The status with which a procedure returned, or how its call is left: an error is on its way, or has ended the batch.
-fn returned_with(exit: Exit) -> Result<i32, Exit>
+pub(crate) fn returned_with(exit: Exit) -> Result<i32, Exit>
     ensures { result ≡ returned_with exit }
 {
     match exit {
@@ -105,7 +105,7 @@ fn give_back<P: Port>(
 }
 
 /// What it gives back: its status, and then its OUTPUT parameters in their order.
-fn given_back(
+pub(crate) fn given_back(
     alloc: Global,
     vars: &Vars,
     status: i32,
@@ -276,7 +276,7 @@ fn end_call<P: Port>(
 }
 
 /// Whether so many transactions are open in one another.
-fn is_even(session: &SessionState, count: u32) -> bool
+pub(crate) fn is_even(session: &SessionState, count: u32) -> bool
     ensures { result ≡ (session.now.txn.count == count) }
 {
     session.count() == count

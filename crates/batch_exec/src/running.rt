@@ -261,7 +261,7 @@ fn run_try<P: Port>(
 /// end, and it gives its own.
 #[inline(never)]
 #[cycle(running)]
-fn run_body<P: Port>(
+pub(crate) fn run_body<P: Port>(
     alloc: Global,
     session: &mut SessionState,
     port: &mut P,

@@ -1,5 +1,5 @@
 -- Calls by RPC that are known, with what their texts are read as: what they send.
-use Rattle.std.proofs.Common.{◌≡◌, ◌×◌, ℕ, ◌-◌, Bool, true, false, List, [], ◌∷◌, None, Some, pos, refl}
+use Rattle.std.proofs.Common.{◌≡◌, ℕ, ◌-◌, Bool, true, false, List, [], ◌∷◌, None, Some, pos, refl}
 use Rattle.std.specs.Prelude.{codes}
 use Rattle.value_types.specs.declared.sql_type.SqlType.TheVariants.{Int, NText}
 use Rattle.value_types.specs.declared.value.Value.{Value}
@@ -21,11 +21,11 @@ use Rattle.batch_meaning.specs.declared.exit.Exit.TheVariants as exit
 use Rattle.batch_meaning.specs.declared.form.ReadText.TheVariants as text
 use Rattle.batch_meaning.specs.Tokens.{rpc_done}
 use Rattle.batch_meaning.specs.Progress.{SessionProgress, batch_limit, end_size, first_progress, size_of}
-use Rattle.batch_meaning.specs.Doing.{◌then◌, Held}
+use Rattle.batch_meaning.specs.Doing.{◌then◌, Held, over}
 use Rattle.batch_meaning.specs.Calls.{Call}
-use Rattle.batch_meaning.specs.Meaning.{each_of, runs_body}
+use Rattle.batch_meaning.specs.Meaning.{each_of, ended_by, runs_body}
 use Rattle.batch_meaning.specs.Asking.{assigns_all}
-use Rattle.batch_meaning.specs.Rpc.{binds_call, ends_exec, ends_rpc, fails_call, gives_call_back, leaves_body, rpc, rpc_arguments, rpc_text, rpc_vars, runs_exec, runs_rpc}
+use Rattle.batch_meaning.specs.Rpc.{ends_exec, ends_rpc, fails_call, gives_call_back, leaves_body, rpc, rpc_arguments, rpc_text, rpc_vars, runs_exec, runs_rpc}
 
 -- ---- a statement with a parameter, as [MS-TDS] 2.2.6.6 sends it
 
@@ -105,7 +105,7 @@ told = ReturnStatus (pos 7) ∷ ReturnValue 2 (codes "@n") Int (Whole (pos 1)) �
 adds_returned : Held (leaves_body adds added 0 (var (codes "@o") (Whole (pos 3)) ∷ var (codes "@q") (Whole (pos 5)) ∷ var (codes "@n") (Whole (pos 1)) ∷ []) (exit.Return (pos 7))) calling [] exit.On
     (record calling { tokens = told; bytes_left = batch_limit - end_size - size_of told; vars = var (0 ∷ []) (Whole (pos 3)) ∷ var (1 ∷ []) (Whole (pos 5)) ∷ var (2 ∷ []) (Whole (pos 1)) ∷ [] })
 unfolding Held ◌then◌ gives_call_back ends_exec assigns_all tokens_bytes
-adds_returned = (true, refl, refl, refl)
+adds_returned = (true, (refl, refl, refl))
 
 -- ---- calls that end before they begin
 
@@ -123,7 +123,7 @@ unmatched =
     ∷ []
 
 empty_held : Held (rpc empty (text.Statements [])) first_progress [] tt (record (behind empty unmatched) { error = pos 49012 })
-unfolding Held ◌then◌ rpc runs_rpc fails_call ends_rpc tokens_bytes table.row_of table.error_lines
+unfolding Held ◌then◌ rpc runs_rpc fails_call ended_by ends_rpc tokens_bytes table.row_of table.error_lines
 empty_held = (refl, refl, refl)
 
 -- a statement that does not read: its error alone, with the line at which it stands behind CREATE PROCEDURE
@@ -145,12 +145,12 @@ unknown =
     ∷ []
 
 unknown_held : Held (rpc adds (text.Refused (pos 1) 102 [])) first_progress [] tt (record (behind adds unknown) { error = pos 2812 })
-unfolding Held ◌then◌ rpc runs_rpc fails_call ends_rpc tokens_bytes table.row_of table.error_lines
-unknown_held = (true, refl, refl, refl)
+unfolding Held ◌then◌ rpc runs_rpc fails_call ended_by ends_rpc tokens_bytes table.row_of table.error_lines
+unknown_held = (true, (refl, refl, refl))
 
 -- ---- a statement of nothing, with an OUTPUT parameter
 
--- sp_executesql N'', N'@a INT OUTPUT', 5 OUTPUT
+-- sp_executesql N'', N'@a INT OUTPUT', 5 OUTPUT, from where it is bound
 abbrev nothing : RpcCall
 nothing = record { target = ExecuteSql; parameters = sql [] ∷ sql (codes "@a INT OUTPUT") ∷ output [] (Whole (pos 5)) ∷ [] }
 
@@ -160,6 +160,13 @@ nothing_read = record { name = codes "sp_executesql"; parameters = record { name
 abbrev nothing_told : List Token
 nothing_told = ReturnStatus (pos 0) ∷ ReturnValue 2 [] Int (Whole (pos 5)) ∷ Finished Proc 0 0 0 ∷ []
 
-nothing_held : Held (rpc nothing (text.Defines (pos 1) (Procedure nothing_read) [])) first_progress [] tt (behind nothing nothing_told)
-unfolding Held ◌then◌ rpc runs_rpc binds_call runs_exec runs_body each_of gives_call_back ends_exec ends_rpc assigns_all tokens_bytes
-nothing_held = (true, true, true, true, refl, refl, refl)
+-- its procedure, which is bound, and the session that calls it
+abbrev nothing_called : Call
+nothing_called = record { procedure = nothing_read; values = Whole (pos 5) ∷ [] }
+
+abbrev nothing_begun : SessionProgress
+nothing_begun = record first_progress { bytes_left = batch_limit - end_size; statements_left = 999999; vars = rpc_vars nothing }
+
+nothing_held : Held (runs_exec (λ inner at. over exit.On) nothing nothing_called then ends_rpc) nothing_begun [] tt (behind nothing nothing_told)
+unfolding Held ◌then◌ runs_exec runs_body each_of gives_call_back ends_exec ends_rpc assigns_all tokens_bytes
+nothing_held = (true, (refl, refl, refl))

@@ -2,7 +2,7 @@
 -- variables are the parameters of the request: the procedure is called with them, and they take what it gives back. What it sends
 -- tells them too, and ends with DONEPROC in the place of DONE; an error of the EXEC ends the call. The procedure is one that was created, or, for
 -- sp_executesql, one that is read from the request and kept nowhere.
-use Rattle.std.specs.Prelude.{ℕ, ℤ, pos, ◌==◌, ◌&&◌, not, Bool, true, false, nat_lt, if◌then◌else◌, List, [], ◌∷◌, ◌++◌, length, map, filter, drop, get_or, codes, Option, None, Some, Result, Ok, Err}
+use Rattle.std.specs.Prelude.{◌≡◌, ℕ, ℤ, pos, ◌==◌, ◌&&◌, not, Bool, true, false, nat_lt, if◌then◌else◌, List, [], ◌∷◌, ◌++◌, length, map, filter, drop, get_or, codes, Option, None, Some, Result, Ok, Err}
 use Rattle.std.specs.List.{enumerate_from}
 use Rattle.std.specs.Option.{option_map, option_and_then}
 use Rattle.value_types.specs.Units.{same_units}
@@ -34,6 +34,7 @@ use Rattle.batch_meaning.specs.declared.form.ReadText.TheVariants as text
 use Rattle.batch_meaning.specs.declared.raised.Raised.{Raised}
 use Rattle.batch_meaning.specs.Failures.{plain, naming}
 use Rattle.batch_meaning.specs.Raised.{around_batch, action_in, error_token, in_body, raised_at}
+use Rattle.batch_meaning.specs.Statements.{ReadsAs}
 use Rattle.batch_meaning.specs.Tokens.{rpc_done}
 use Rattle.batch_meaning.specs.Progress.{SessionProgress, begins, counts, sends, size_of, statement_limit, tells_error, tells_rows, values_of}
 use Rattle.batch_meaning.specs.Doing.{Doing, over, reads, makes, ◌then◌}
@@ -80,6 +81,15 @@ name_of (Named name) = name
 -- where sp_executesql isn't given a statement.
 abbrev pub rpc_text : RpcCall → Option (List ℕ)
 rpc_text call = if is_sql call.target then sql_in call.parameters else Some (naming_text (name_of call.target))
+
+-- where there is none, a text of no statements is read in its place
+abbrev pub ReadsFor : Option (List ℕ) → ReadText → Type 0
+ReadsFor None read = read ≡ text.Statements []
+ReadsFor (Some units) read = ReadsAs units read
+
+-- What is read for a call.
+abbrev pub ReadsCallAs : RpcCall → ReadText → Type 0
+ReadsCallAs call read = ReadsFor (rpc_text call) read
 
 -- the procedure that the text defines
 abbrev pub defined_in : ReadText → Option ProcedureTree

@@ -36,7 +36,7 @@ use Rattle.batch_meaning.specs.declared.form.ReadText.TheVariants.{Statements}
 use Rattle.batch_meaning.specs.Statements.{ReadsAs}
 use Rattle.batch_meaning.specs.Doing.{Doing, over, reads, never, ◌then◌}
 use Rattle.batch_meaning.specs.Meaning.{batch}
-use Rattle.batch_meaning.specs.Rpc.{rpc, rpc_text}
+use Rattle.batch_meaning.specs.Rpc.{ReadsCallAs, rpc}
 use Rattle.session_server.specs.Response.{Response, options, tabular, attention_tokens, refusal_tokens}
 
 -- ---- one message
@@ -178,13 +178,9 @@ pub record Request : Type 0 where
   pub read_as : ReadText
 
 -- where there is no text it is a batch of no statements
-abbrev pub IsReadFor : Option (List ℕ) → ReadText → Type 0
-IsReadFor None read_as = read_as ≡ Statements []
-IsReadFor (Some text) read_as = ReadsAs text read_as
-
 abbrev pub IsReadAs : Handling → ReadText → Type 0
 IsReadAs (runs size text) read_as = ReadsAs text read_as
-IsReadAs (calls size call) read_as = IsReadFor (rpc_text call) read_as
+IsReadAs (calls size call) read_as = ReadsCallAs call read_as
 IsReadAs handling read_as = read_as ≡ Statements []
 
 abbrev pub IsRequest : Request → Type 0

@@ -3,11 +3,12 @@
 ghost use Rattle.std.specs.Prelude.{◌≡◌, ◌++◌, ◌∷◌, ◌<◌, ◌≤◌, [], All, length, take, IfOk, Some, pos};
 ghost use Rattle.error_table.specs.Text.{text_with};
 ghost use Rattle.tsql_tree.specs.declared.statement.Form.{out-Form};
-ghost use Rattle.session_state.specs.Sendable.{IsResult};
+ghost use Rattle.session_state.specs.Sendable.{IsFit, IsResult};
+ghost use Rattle.tds_tokens.specs.declared.token.Token.TheVariants.{ReturnStatus};
 ghost use Rattle.batch_meaning.specs.Meaning.{told_tokens};
 ghost use Rattle.batch_meaning.specs.Raised.{error_token, named, raised_at, raised_in};
 ghost use Rattle.batch_meaning.specs.Selecting.{messages};
-ghost use Rattle.batch_meaning.specs.Tokens.{batch_done, command_of, descriptor, procedure_done, result_tokens, row_tokens, statement_done, statement_failed, transaction_begun, transaction_committed, transaction_rolled_back};
+ghost use Rattle.batch_meaning.specs.Tokens.{batch_done, command_of, descriptor, procedure_done, result_tokens, rpc_done, row_tokens, statement_done, statement_failed, transaction_begun, transaction_committed, transaction_rolled_back};
 ghost use Rattle.batch_meaning.specs.Values.{is_message};
 
 use crate::sendable::TokenList;
@@ -151,6 +152,42 @@ pub fn error_and_done(alloc: Global, raised: &Raised, status: i32) -> Result<Tok
         Token::ReturnStatus(status),
         done(DoneKind::Proc, DONE_MORE, COMMAND_NONE, 0),
     ]?))
+}
+
+/// What is sent for a procedure that has returned to a call by RPC: its status, and behind it these tokens.
+pub fn returned_tokens(
+    alloc: Global,
+    status: i32,
+    mut values: Vec<Token>,
+) -> Result<TokenList, Memory>
+    requires { IsFit values.items }
+    ensures { IfOk result (λ tokens. tokens ≡ ReturnStatus status ∷ values.items) }
+{
+    let mut tokens = vec![in alloc; Token::ReturnStatus(status)]?;
+    tokens.append(&mut values)?;
+    Ok(TokenList::new(tokens))
+}
+
+/// An error in front of such tokens.
+pub fn error_in_front(
+    alloc: Global,
+    raised: &Raised,
+    behind: TokenList,
+) -> Result<TokenList, Memory>
+    ensures { IfOk result (λ tokens. tokens ≡ error_token raised.now ∷ behind) }
+{
+    let mut tokens = vec![in alloc; Token::Error(notice_of(alloc, raised)?)]?;
+    let mut behind = behind.into_vec();
+    tokens.append(&mut behind)?;
+    Ok(TokenList::new(tokens))
+}
+
+/// The end of a call by RPC, by whether an error ended it.
+pub fn rpc_end(alloc: Global, failed: bool) -> Result<TokenList, Memory>
+    ensures { IfOk result (λ tokens. tokens ≡ rpc_done failed ∷ []) }
+{
+    let status = if failed { DONE_ERROR } else { DONE_FINAL };
+    Ok(TokenList::new(vec![in alloc; done(DoneKind::Proc, status, COMMAND_NONE, 0)]?))
 }
 
 /// The command that a DONE names.

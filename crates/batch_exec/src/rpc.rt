@@ -1,0 +1,520 @@
+//! A call by RPC, from its beginning to its end.
+
+ghost use Rattle.std.specs.Prelude.{◌≡◌, ◌≤◌, ◌++◌, ◌∷◌, ℕ, [], Err, IfOk, IfErr, Option, map, option_map};
+ghost use Rattle.tsql_tree.specs.declared.definition.ProcedureTree.{ProcedureTree as Found};
+ghost use Rattle.batch_meaning.specs.Doing.{Did};
+ghost use Rattle.batch_meaning.specs.Meaning.{mean_of};
+ghost use Rattle.batch_meaning.specs.Progress.{Ready, statement_limit};
+ghost use Rattle.batch_meaning.specs.Rpc.{defined_in, ending, ends_exec, ends_rpc, ends_rpc_doomed, execs, fails_call, gives_call_back, is_too_many, leaves_body, object_in, returned, rpc, rpc_arguments, rpc_statement, rpc_vars, runs_exec, runs_rpc};
+ghost use Rattle.rpc_requests.specs.Fit.{IsParameter};
+ghost use Rattle.batch_exec.specs.Running.{AreTyped};
+
+use crate::batch::{has_failed, refusal, refuse};
+use crate::calls::{Call, bind_call, call_vars, find_call};
+use crate::errors::{end_by, roll_back_told};
+use crate::returning::{CallEnd, given_back, is_even, returned_with};
+use crate::running::run_body;
+use batch_forms::is_sql;
+use batch_meaning::{Exit, Failure, Raised, ReadText};
+use error_table::Action;
+use rpc_requests::{RpcCall, RpcParameter, RpcTarget};
+use session_state::{
+    Around, DOOMED_AT_END, NO_PROCEDURE, OUTSIDE_LIMITS, RESULT_FULL, SessionState, TokenList,
+    UNEVEN, error_in_front, error_tokens, naming, raised_at, returned_tokens, rpc_end,
+};
+use session_vars::Vars;
+use sqlite_items::{Boxed, Items};
+use std::alloc::Global;
+use step_model::Port;
+use tds_tokens::Token;
+use tsql_tree::{Argument, ArgumentValue, Definition, Form, ProcedureTree, Statement};
+use value_types::{Memory, Units, Value};
+
+/// How many parameters a call may have: as many as a batch may name variables.
+const MAX_PARAMETERS: usize = 10_000;
+
+/// The number of the error where the arguments are not those of the procedure.
+const NO_MATCH: u16 = 49012;
+
+/// Runs a call for which this was read, over a session's port: asks what it means, and goes on by the replies. The
+/// session has then what the call sends ([`SessionState::tokens`]). Where memory is wanting for that, the rest is
+/// left, and a transaction may be open.
+pub fn run_call<P: Port>(
+    alloc: Global,
+    session: &mut SessionState,
+    port: &mut P,
+    call: &RpcCall,
+    read: ReadText,
+) -> Result<(), Memory>
+    requires ready { Ready session.old (P.past port.old) }
+    requires fits { All IsParameter call.now.parameters }
+    ensures does { Did (P.past port.old) (P.past port.new) (rpc call.now read) session.old result session.new }
+    ensures ready { Ready session.new (P.past port.new) }
+{
+    let vars = rpc_vars(alloc, call)?;
+    session.begin_batch(vars);
+    session.begin_statement();
+    let exit = run_rpc(alloc, session, port, call, read)?;
+    end_rpc(alloc, session, port, exit)
+}
+
+// ---- its variables and its arguments
+
+/// Whether it has more parameters than a batch may name variables.
+fn is_too_many(call: &RpcCall) -> bool
+    ensures { result ≡ is_too_many call.now }
+{
+    MAX_PARAMETERS < call.parameters.as_slice().len()
+}
+
+/// A variable for each parameter, of its type and with its value.
+fn rpc_vars(alloc: Global, call: &RpcCall) -> Result<Vars, Memory>
+    ensures { IfOk result (λ vars. vars ≡ rpc_vars call.now) }
+{
+    let mut vars = Vars::new(alloc);
+    if is_too_many(call) {
+        return Ok(vars);
+    }
+    for parameter in call.parameters.as_slice() {
+        declare(alloc, &mut vars, parameter)?;
+    }
+    Ok(vars)
+}
+
+/// Adds the variable of a parameter, whose name is its place.
+fn declare(alloc: Global, vars: &mut Vars, parameter: &RpcParameter) -> Result<(), Memory> {
+    let place = vars.count();
+    let name = variable_at(alloc, place)?;
+    let value = parameter.value.copy(alloc)?;
+    match vars.declare(alloc, name, parameter.kind) {
+        Ok(()) => {
+            vars.set(place, value);
+            Ok(())
+        }
+        Err(_) => Err(Memory),
+    }
+}
+
+/// The name of the variable of a place: one unit, by which no text can name it.
+fn variable_at(alloc: Global, place: u16) -> Result<Units, Memory>
+    ensures { IfOk result (λ name. name ≡ place ∷ []) }
+{
+    Ok(Units::from(vec![in alloc; place]?))
+}
+
+/// The arguments of the procedure: the variables of the parameters that are given, behind the first so many.
+fn rpc_arguments(alloc: Global, call: &RpcCall) -> Result<Items<Argument>, Memory>
+    ensures { IfOk result (λ arguments. arguments ≡ rpc_arguments call.now) }
+{
+    let own = if is_sql(&call.target) { 2 } else { 0 };
+    let mut arguments = Vec::new(alloc);
+    for (place, parameter) in call.parameters.as_slice().iter().enumerate() {
+        if own <= place && !parameter.missing {
+            arguments.push(rpc_argument(alloc, place as u16, parameter)?)?;
+        }
+    }
+    Ok(Items::from_vec(arguments))
+}
+
+/// The variable of a parameter as an argument.
+fn rpc_argument(alloc: Global, place: u16, parameter: &RpcParameter) -> Result<Argument, Memory> {
+    Ok(Argument {
+        name: name_given(alloc, &parameter.name)?,
+        value: ArgumentValue::Variable(variable_at(alloc, place)?),
+        output: parameter.output,
+    })
+}
+
+/// The name of an argument; one without a name stands by its place.
+fn name_given(alloc: Global, name: &Units) -> Result<Option<Units>, Memory> {
+    if name.is_empty() {
+        Ok(None)
+    } else {
+        Ok(Some(name.copy(alloc)?))
+    }
+}
+
+/// The EXEC of a procedure with the arguments of a call, at line 1.
+fn rpc_statement(alloc: Global, name: &Units, call: &RpcCall) -> Result<Statement, Memory>
+    ensures { IfOk result (λ statement. statement ≡ rpc_statement name.now (rpc_arguments call.now)) }
+{
+    let form = Form::Execute(None, name.copy(alloc)?, rpc_arguments(alloc, call)?);
+    Ok(Statement { line: 1, form })
+}
+
+/// The arguments of an EXEC.
+fn arguments_in(statement: &Statement) -> &[Argument] {
+    match &statement.form {
+        Form::Execute(_, _, arguments) => arguments.as_slice(),
+        _ => &[],
+    }
+}
+
+// ---- the call
+
+/// The EXEC of a call, whose procedure is looked up or was read.
+fn run_rpc<P: Port>(
+    alloc: Global,
+    session: &mut SessionState,
+    port: &mut P,
+    call: &RpcCall,
+    read: ReadText,
+) -> Result<Exit, Memory>
+    requires ready { Ready session.old (P.past port.old) }
+    requires left { session.old.statements_left ≤ statement_limit }
+    requires fits { All IsParameter call.now.parameters }
+    ensures does { Did (P.past port.old) (P.past port.new) (runs_rpc (λ inner at. mean_of statement_limit inner at) call.now read) session.old result session.new }
+    ensures ready { Ready session.new (P.past port.new) }
+{
+    if is_too_many(call) {
+        let failure = Failure::plain(OUTSIDE_LIMITS);
+        return fail_call(alloc, session, port, &failure);
+    }
+    if is_sql(&call.target) {
+        run_sql(alloc, session, port, call, read)
+    } else {
+        run_named(alloc, session, port, call, read)
+    }
+}
+
+/// That of `sp_executesql`, which was read; a text that is refused is so as that of a batch.
+fn run_sql<P: Port>(
+    alloc: Global,
+    session: &mut SessionState,
+    port: &mut P,
+    call: &RpcCall,
+    read: ReadText,
+) -> Result<Exit, Memory> {
+    match read {
+        ReadText::Refused { line, code, near } => {
+            let failure = refusal(alloc, code, &near)?;
+            refuse(alloc, session, line, &failure)
+        }
+        ReadText::Defines(_, Definition::Procedure(procedure), _) => {
+            run_read(alloc, session, port, call, procedure)
+        }
+        _ => fail_call(alloc, session, port, &Failure::plain(NO_MATCH)),
+    }
+}
+
+/// A procedure that was read.
+fn run_read<P: Port>(
+    alloc: Global,
+    session: &mut SessionState,
+    port: &mut P,
+    call: &RpcCall,
+    procedure: ProcedureTree,
+) -> Result<Exit, Memory> {
+    let statement = rpc_statement(alloc, &procedure.name, call)?;
+    let arguments = arguments_in(&statement);
+    let found = bind_call(alloc, session, &statement, arguments, procedure);
+    run_exec(alloc, session, port, call, arguments, found)
+}
+
+/// That of a name, which is looked up.
+fn run_named<P: Port>(
+    alloc: Global,
+    session: &mut SessionState,
+    port: &mut P,
+    call: &RpcCall,
+    read: ReadText,
+) -> Result<Exit, Memory> {
+    let Some(name) = object_in(read) else {
+        let failure = naming(alloc, NO_PROCEDURE, name_of(&call.target));
+        return fail_call(alloc, session, port, &failure);
+    };
+    let statement = rpc_statement(alloc, &name, call)?;
+    let arguments = arguments_in(&statement);
+    let around = Around::batch();
+    let found = find_call(
+        alloc, session, port, &statement, None, &name, arguments, &around,
+    );
+    run_exec(alloc, session, port, call, arguments, found)
+}
+
+/// The name of an object, where the definition that was read has nothing else.
+fn object_in(read: ReadText) -> Option<Units>
+    ensures { result ≡ object_in read }
+{
+    match read {
+        ReadText::Defines(_, Definition::Procedure(procedure), _) => bare_name(procedure),
+        _ => None,
+    }
+}
+
+/// The name of a procedure without parameters and statements.
+fn bare_name(procedure: ProcedureTree) -> Option<Units> {
+    let ProcedureTree {
+        name,
+        parameters,
+        body,
+    } = procedure;
+    if parameters.as_slice().is_empty() && body.as_slice().is_empty() {
+        Some(name)
+    } else {
+        None
+    }
+}
+
+/// The name of a target.
+fn name_of(target: &RpcTarget) -> &Units {
+    match target {
+        RpcTarget::Named(name) => name,
+        RpcTarget::ExecuteSql => unreachable!(),
+    }
+}
+
+/// The procedure that was found for a call, or why there is none.
+fn run_exec<P: Port>(
+    alloc: Global,
+    session: &mut SessionState,
+    port: &mut P,
+    call: &RpcCall,
+    arguments: &[Argument],
+    found: Result<Call, Failure>,
+) -> Result<Exit, Memory> {
+    match found {
+        Ok(of) => run_found(alloc, session, port, call, arguments, of),
+        Err(failure) => fail_call(alloc, session, port, &failure),
+    }
+}
+
+/// The procedure of a call.
+fn run_found<P: Port>(
+    alloc: Global,
+    session: &mut SessionState,
+    port: &mut P,
+    call: &RpcCall,
+    arguments: &[Argument],
+    of: Call,
+) -> Result<Exit, Memory>
+    requires typed { AreTyped of.procedure.parameters of.values }
+    requires ready { Ready session.old (P.past port.old) }
+    requires left { session.old.statements_left ≤ statement_limit }
+{
+    let Call { procedure, values } = of;
+    let vars = call_vars(alloc, &procedure, values)?;
+    let settings = session.settings();
+    let count = session.count();
+    let around = Around::batch();
+    let inside = around.in_body(&procedure.name, None);
+    let body = procedure.body.as_slice();
+    let (exit, inner) = run_body(alloc, session, port, vars, settings, body, &inside)?;
+    let end = CallEnd {
+        takes: None,
+        arguments,
+        procedure: &procedure,
+        inner: &inner,
+        count,
+    };
+    leave_body(alloc, session, port, call, exit, &end)
+}
+
+// ---- what it gives back
+
+/// Its body was left so; an error that nothing in it caught has ended the call.
+fn leave_body<P: Port>(
+    alloc: Global,
+    session: &mut SessionState,
+    port: &mut P,
+    call: &RpcCall,
+    exit: Exit,
+    end: &CallEnd<'_>,
+) -> Result<Exit, Memory> {
+    match returned_with(exit) {
+        Ok(status) => give_call_back(alloc, session, port, call, status, end),
+        Err(_) => {
+            session.tell_rows(0);
+            Ok(Exit::End)
+        }
+    }
+}
+
+/// It has returned with this status.
+fn give_call_back<P: Port>(
+    alloc: Global,
+    session: &mut SessionState,
+    port: &mut P,
+    call: &RpcCall,
+    status: i32,
+    end: &CallEnd<'_>,
+) -> Result<Exit, Memory> {
+    match given_back(alloc, session.vars(), status, end) {
+        Ok(sets) => {
+            session.assign_all(sets);
+            end_exec(alloc, session, port, call, end.count, status)
+        }
+        Err(failure) => fail_call(alloc, session, port, &failure),
+    }
+}
+
+/// The end of the EXEC: what it has returned, and an error in front where another count of transactions is open.
+fn end_exec<P: Port>(
+    alloc: Global,
+    session: &mut SessionState,
+    port: &mut P,
+    call: &RpcCall,
+    count: u32,
+    status: i32,
+) -> Result<Exit, Memory> {
+    let values = return_values(alloc, session.vars(), call)?;
+    let tokens = returned_tokens(alloc, status, values)?;
+    if is_even(session, count) {
+        return tell_returned(alloc, session, port, 0, tokens, Action::Statement);
+    }
+    let raised = raised_at(alloc, 1, &Failure::plain(UNEVEN))?;
+    let action = Around::batch().action(session.settings().xact_abort, raised.get());
+    let tokens = uneven_tokens(alloc, action, raised.get(), tokens)?;
+    tell_returned(alloc, session, port, raised.get().number, tokens, action)
+}
+
+/// What is sent where another count of transactions is open.
+fn uneven_tokens(
+    alloc: Global,
+    action: Action,
+    raised: &Raised,
+    tokens: TokenList,
+) -> Result<TokenList, Memory> {
+    match action {
+        Action::Statement => error_in_front(alloc, raised, tokens),
+        Action::Doom => error_in_front(alloc, raised, tokens),
+        Action::Batch => error_tokens(alloc, raised),
+        Action::BatchAndTransaction => error_tokens(alloc, raised),
+    }
+}
+
+/// It is sent, where the call may still send as much, and ends what it ends.
+fn tell_returned<P: Port>(
+    alloc: Global,
+    session: &mut SessionState,
+    port: &mut P,
+    error: i32,
+    tokens: TokenList,
+    action: Action,
+) -> Result<Exit, Memory> {
+    if session.is_full(&tokens) {
+        return fail_call(alloc, session, port, &Failure::plain(RESULT_FULL));
+    }
+    session.tell_rows(0);
+    session.tell_error(error);
+    session.send(tokens)?;
+    end_by(alloc, session, port, action)
+}
+
+/// RETURNVALUE of each OUTPUT parameter that is given.
+fn return_values(alloc: Global, vars: &Vars, call: &RpcCall) -> Result<Vec<Token>, Memory> {
+    let mut tokens = Vec::new(alloc);
+    for (place, parameter) in call.parameters.as_slice().iter().enumerate() {
+        if parameter.output && !parameter.missing {
+            tokens.push(return_value(alloc, vars, place as u16, parameter)?)?;
+        }
+    }
+    Ok(tokens)
+}
+
+/// RETURNVALUE of the parameter at a place.
+fn return_value(
+    alloc: Global,
+    vars: &Vars,
+    place: u16,
+    parameter: &RpcParameter,
+) -> Result<Token, Memory> {
+    let value = if place < vars.count() {
+        vars.get(place).copy(alloc)?
+    } else {
+        Value::Null
+    };
+    Ok(Token::ReturnValue {
+        ordinal: place,
+        name: parameter.name.copy(alloc)?,
+        kind: parameter.kind,
+        value,
+    })
+}
+
+// ---- its errors
+
+/// An error of the EXEC, which ends the call.
+fn fail_call<P: Port>(
+    alloc: Global,
+    session: &mut SessionState,
+    port: &mut P,
+    failure: &Failure,
+) -> Result<Exit, Memory>
+    requires ready { Ready session.old (P.past port.old) }
+    ensures does { Did (P.past port.old) (P.past port.new) (fails_call failure.now) session.old result session.new }
+    ensures ready { Ready session.new (P.past port.new) }
+{
+    session.tell_rows(0);
+    let raised = raised_at(alloc, 1, failure)?;
+    let raised = error_or_full(alloc, session, raised)?;
+    let action = Around::batch().action(session.settings().xact_abort, raised.get());
+    session.tell_error(raised.get().number);
+    let tokens = error_tokens(alloc, raised.get())?;
+    session.send(tokens)?;
+    end_by(alloc, session, port, ending(action))
+}
+
+/// An error; one of more bytes than the call may still send is one that says so.
+fn error_or_full(
+    alloc: Global,
+    session: &SessionState,
+    raised: Boxed<Raised>,
+) -> Result<Boxed<Raised>, Memory> {
+    let tokens = error_tokens(alloc, raised.get())?;
+    if session.is_full(&tokens) {
+        raised_at(alloc, 1, &Failure::plain(RESULT_FULL))
+    } else {
+        Ok(raised)
+    }
+}
+
+/// What an error of the EXEC ends: the call, and the transaction where it ends that.
+fn ending(action: Action) -> Action
+    ensures { result ≡ ending action }
+{
+    match action {
+        Action::BatchAndTransaction => Action::BatchAndTransaction,
+        _ => Action::Batch,
+    }
+}
+
+// ---- its end
+
+/// However it ends, that is told; a transaction that is doomed is rolled back.
+fn end_rpc<P: Port>(
+    alloc: Global,
+    session: &mut SessionState,
+    port: &mut P,
+    exit: Exit,
+) -> Result<(), Memory>
+    requires ready { Ready session.old (P.past port.old) }
+    ensures does { Did (P.past port.old) (P.past port.new) (ends_rpc exit) session.old result session.new }
+    ensures ready { Ready session.new (P.past port.new) }
+{
+    if session.is_doomed() {
+        return end_doomed(alloc, session, port);
+    }
+    let end = rpc_end(alloc, has_failed(&exit))?;
+    session.send(end)?;
+    Ok(())
+}
+
+/// A transaction that is doomed at the end of its call is rolled back.
+fn end_doomed<P: Port>(
+    alloc: Global,
+    session: &mut SessionState,
+    port: &mut P,
+) -> Result<(), Memory>
+    requires ready { Ready session.old (P.past port.old) }
+    ensures does { Did (P.past port.old) (P.past port.new) ends_rpc_doomed session.old result session.new }
+    ensures ready { Ready session.new (P.past port.new) }
+{
+    let raised = raised_at(alloc, 1, &Failure::plain(DOOMED_AT_END))?;
+    let tokens = error_tokens(alloc, raised.get())?;
+    session.send(tokens)?;
+    roll_back_told(alloc, session, port)?;
+    let end = rpc_end(alloc, true)?;
+    session.send(end)?;
+    Ok(())
+}
