@@ -13,7 +13,7 @@ use Rattle.tsql_tree.specs.declared.statement.Statement.{Statement}
 use Rattle.tsql_tree.specs.declared.statement.Form.{Form-F}
 use Rattle.bound_tree.specs.declared.write.Bound.{Bound}
 use Rattle.error_table.specs.declared.action.Action.{Action}
-use Rattle.binder.specs.Names.{Layer}
+use Rattle.binder.specs.Names.{Layer, form_of}
 use Rattle.step_model.specs.Port.{PortPast}
 use Rattle.step_model.specs.Ranges.{no_memory}
 use Rattle.batch_meaning.specs.declared.exit.Exit.{Exit}
@@ -140,3 +140,13 @@ abbrev pub Loops : PortPast → PortPast → Doing Exit → Statement → Statem
 Loops before after tree s body around old (Ok (Some exit)) new = Did before after tree old (Ok exit) new
 Loops before after tree s body around old (Ok None) new = (levels : ℕ) × (new.statements_left ≤ levels) × Leads before after tree old (turning levels s body around) new
 Loops before after tree s body around old (Err memory) new = Did before after tree old (Err memory) new
+
+-- ---- calls by RPC
+
+-- the arguments of an EXEC
+abbrev pub arguments_of : Layer → List Argument
+arguments_of (Form-F.Execute status name arguments) = arguments
+arguments_of form = []
+
+abbrev pub arguments_in : Statement → List Argument
+arguments_in statement = arguments_of (form_of statement)

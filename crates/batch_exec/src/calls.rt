@@ -1,9 +1,11 @@
 //! EXEC: what is called, and with which variables.
 
-ghost use Rattle.std.specs.Prelude.{◌≡◌, ◌++◌, ◌∷◌, ◌<◌, [], Option, IfOk, IsTrue, Ok, is_some, option_map, true};
+ghost use Rattle.std.specs.Prelude.{◌≡◌, ◌++◌, ◌∷◌, ◌<◌, [], Option, IfOk, IsTrue, None, Ok, Some, is_some, option_map, true};
 ghost use Rattle.std.specs.List.{list_all};
 ghost use Rattle.session_vars.specs.Variables.{HasItsType, place_of};
 ghost use Rattle.tsql_tree.specs.declared.definition.Definition.{Definition as Found};
+ghost use Rattle.tsql_tree.specs.declared.definition.Definition.TheVariants.{Procedure};
+ghost use Rattle.batch_meaning.specs.Raised.{around_batch};
 ghost use Rattle.call_rules.specs.Arguments.{are_declared, argument_values};
 ghost use Rattle.batch_meaning.specs.Calls.{are_standing, call_of, call_vars, call_with, finds_call, parameter_var, parameter_vars, status_names};
 ghost use Rattle.batch_meaning.specs.Doing.{Did};
@@ -135,6 +137,7 @@ pub(crate) fn bind_call(
     arguments: &[Argument],
     procedure: ProcedureTree,
 ) -> Result<Call, Failure>
+    ensures came { IsOrMemory (call_bound around_batch statement.now None procedure.name arguments.now session.now (Some (Procedure procedure))) result }
     ensures typed { IfOk result (λ call. AreTyped call.procedure.parameters call.values) }
 {
     bind_first(alloc, session, statement)?;

@@ -1,17 +1,18 @@
 //! A call by RPC, from its beginning to its end.
 
-ghost use Rattle.std.specs.Prelude.{◌≡◌, ◌≤◌, ◌++◌, ◌∷◌, ℕ, [], Err, IfOk, IfErr, Option, map, option_map};
-ghost use Rattle.tsql_tree.specs.declared.definition.ProcedureTree.{ProcedureTree as Found};
+ghost use Rattle.std.specs.Prelude.{◌≡◌, ◌<◌, ◌≤◌, ◌++◌, ◌∷◌, ℕ, List, [], All, IfOk, None, Some, false, length, map};
+ghost use Rattle.value_types.specs.declared.value.Value.{Value as Of};
+ghost use Rattle.session_state.specs.Sendable.{IsFit};
 ghost use Rattle.batch_meaning.specs.Doing.{Did};
-ghost use Rattle.batch_meaning.specs.Meaning.{mean_of};
+ghost use Rattle.batch_meaning.specs.Meaning.{ended_by, mean_of, uneven_with};
 ghost use Rattle.batch_meaning.specs.Progress.{Ready, statement_limit};
-ghost use Rattle.batch_meaning.specs.Rpc.{defined_in, ending, ends_exec, ends_rpc, ends_rpc_doomed, execs, fails_call, gives_call_back, is_too_many, leaves_body, object_in, returned, rpc, rpc_arguments, rpc_statement, rpc_vars, runs_exec, runs_rpc};
+ghost use Rattle.batch_meaning.specs.Rpc.{bare_name, ending, ends_exec, error_or_full, execs, fails_call, finds_named, finds_read, gives_call_back, goes_on_with, is_sql, is_too_many, leaves_body, name_given, name_of, object_in, return_value, return_values, rpc, rpc_argument, rpc_arguments, rpc_statement, rpc_var, rpc_vars, runs_exec, runs_rpc, runs_sql, tells_returned};
 ghost use Rattle.rpc_requests.specs.Fit.{IsParameter};
-ghost use Rattle.batch_exec.specs.Running.{AreTyped};
+ghost use Rattle.batch_exec.specs.Running.{AreTyped, arguments_in};
 
-use crate::batch::{has_failed, refusal, refuse};
+use crate::batch::{end, refusal, refuse};
 use crate::calls::{Call, bind_call, call_vars, find_call};
-use crate::errors::{end_by, roll_back_told};
+use crate::errors::end_by;
 use crate::returning::{CallEnd, given_back, is_even, returned_with};
 use crate::running::run_body;
 use batch_forms::is_sql;
@@ -19,16 +20,16 @@ use batch_meaning::{Exit, Failure, Raised, ReadText};
 use error_table::Action;
 use rpc_requests::{RpcCall, RpcParameter, RpcTarget};
 use session_state::{
-    Around, DOOMED_AT_END, NO_PROCEDURE, OUTSIDE_LIMITS, RESULT_FULL, SessionState, TokenList,
-    UNEVEN, error_in_front, error_tokens, naming, raised_at, returned_tokens, rpc_end,
+    Around, NO_PROCEDURE, OUTSIDE_LIMITS, RESULT_FULL, SessionState, TokenList, UNEVEN,
+    error_in_front, error_tokens, naming, raised_at, returned_tokens,
 };
 use session_vars::Vars;
 use sqlite_items::{Boxed, Items};
 use std::alloc::Global;
 use step_model::Port;
-use tds_tokens::Token;
+use tds_tokens::{DoneKind, Token};
 use tsql_tree::{Argument, ArgumentValue, Definition, Form, ProcedureTree, Statement};
-use value_types::{Memory, Units, Value};
+use value_types::{Memory, Units};
 
 /// How many parameters a call may have: as many as a batch may name variables.
 const MAX_PARAMETERS: usize = 10_000;
@@ -55,7 +56,7 @@ pub fn run_call<P: Port>(
     session.begin_batch(vars);
     session.begin_statement();
     let exit = run_rpc(alloc, session, port, call, read)?;
-    end_rpc(alloc, session, port, exit)
+    end(alloc, session, port, exit, DoneKind::Proc)
 }
 
 // ---- its variables and its arguments
@@ -69,6 +70,7 @@ fn is_too_many(call: &RpcCall) -> bool
 
 /// A variable for each parameter, of its type and with its value.
 fn rpc_vars(alloc: Global, call: &RpcCall) -> Result<Vars, Memory>
+    requires fits { All IsParameter call.now.parameters }
     ensures { IfOk result (λ vars. vars ≡ rpc_vars call.now) }
 {
     let mut vars = Vars::new(alloc);
@@ -82,7 +84,11 @@ fn rpc_vars(alloc: Global, call: &RpcCall) -> Result<Vars, Memory>
 }
 
 /// Adds the variable of a parameter, whose name is its place.
-fn declare(alloc: Global, vars: &mut Vars, parameter: &RpcParameter) -> Result<(), Memory> {
+fn declare(alloc: Global, vars: &mut Vars, parameter: &RpcParameter) -> Result<(), Memory>
+    requires room { length vars.old < 10000 }
+    requires fits { IsParameter parameter.now }
+    ensures { IfOk result (λ _. vars.new ≡ vars.old ++ rpc_var (length vars.old, parameter.now) ∷ []) }
+{
     let place = vars.count();
     let name = variable_at(alloc, place)?;
     let value = parameter.value.copy(alloc)?;
@@ -104,6 +110,7 @@ fn variable_at(alloc: Global, place: u16) -> Result<Units, Memory>
 
 /// The arguments of the procedure: the variables of the parameters that are given, behind the first so many.
 fn rpc_arguments(alloc: Global, call: &RpcCall) -> Result<Items<Argument>, Memory>
+    requires few { is_too_many call.now ≡ false }
     ensures { IfOk result (λ arguments. arguments ≡ rpc_arguments call.now) }
 {
     let own = if is_sql(&call.target) { 2 } else { 0 };
@@ -117,7 +124,9 @@ fn rpc_arguments(alloc: Global, call: &RpcCall) -> Result<Items<Argument>, Memor
 }
 
 /// The variable of a parameter as an argument.
-fn rpc_argument(alloc: Global, place: u16, parameter: &RpcParameter) -> Result<Argument, Memory> {
+fn rpc_argument(alloc: Global, place: u16, parameter: &RpcParameter) -> Result<Argument, Memory>
+    ensures { IfOk result (λ argument. argument ≡ rpc_argument (place, parameter.now)) }
+{
     Ok(Argument {
         name: name_given(alloc, &parameter.name)?,
         value: ArgumentValue::Variable(variable_at(alloc, place)?),
@@ -126,7 +135,9 @@ fn rpc_argument(alloc: Global, place: u16, parameter: &RpcParameter) -> Result<A
 }
 
 /// The name of an argument; one without a name stands by its place.
-fn name_given(alloc: Global, name: &Units) -> Result<Option<Units>, Memory> {
+fn name_given(alloc: Global, name: &Units) -> Result<Option<Units>, Memory>
+    ensures { IfOk result (λ given. given ≡ name_given name.now) }
+{
     if name.is_empty() {
         Ok(None)
     } else {
@@ -136,6 +147,7 @@ fn name_given(alloc: Global, name: &Units) -> Result<Option<Units>, Memory> {
 
 /// The EXEC of a procedure with the arguments of a call, at line 1.
 fn rpc_statement(alloc: Global, name: &Units, call: &RpcCall) -> Result<Statement, Memory>
+    requires few { is_too_many call.now ≡ false }
     ensures { IfOk result (λ statement. statement ≡ rpc_statement name.now (rpc_arguments call.now)) }
 {
     let form = Form::Execute(None, name.copy(alloc)?, rpc_arguments(alloc, call)?);
@@ -143,7 +155,9 @@ fn rpc_statement(alloc: Global, name: &Units, call: &RpcCall) -> Result<Statemen
 }
 
 /// The arguments of an EXEC.
-fn arguments_in(statement: &Statement) -> &[Argument] {
+fn arguments_in(statement: &Statement) -> &[Argument]
+    ensures { result.now ≡ arguments_in statement.now }
+{
     match &statement.form {
         Form::Execute(_, _, arguments) => arguments.as_slice(),
         _ => &[],
@@ -184,7 +198,14 @@ fn run_sql<P: Port>(
     port: &mut P,
     call: &RpcCall,
     read: ReadText,
-) -> Result<Exit, Memory> {
+) -> Result<Exit, Memory>
+    requires ready { Ready session.old (P.past port.old) }
+    requires left { session.old.statements_left ≤ statement_limit }
+    requires fits { All IsParameter call.now.parameters }
+    requires few { is_too_many call.now ≡ false }
+    ensures does { Did (P.past port.old) (P.past port.new) (runs_sql (λ inner at. mean_of statement_limit inner at) call.now read) session.old result session.new }
+    ensures ready { Ready session.new (P.past port.new) }
+{
     match read {
         ReadText::Refused { line, code, near } => {
             let failure = refusal(alloc, code, &near)?;
@@ -204,7 +225,14 @@ fn run_read<P: Port>(
     port: &mut P,
     call: &RpcCall,
     procedure: ProcedureTree,
-) -> Result<Exit, Memory> {
+) -> Result<Exit, Memory>
+    requires ready { Ready session.old (P.past port.old) }
+    requires left { session.old.statements_left ≤ statement_limit }
+    requires fits { All IsParameter call.now.parameters }
+    requires few { is_too_many call.now ≡ false }
+    ensures does { Did (P.past port.old) (P.past port.new) (execs (λ inner at. mean_of statement_limit inner at) call.now (finds_read call.now (Some procedure))) session.old result session.new }
+    ensures ready { Ready session.new (P.past port.new) }
+{
     let statement = rpc_statement(alloc, &procedure.name, call)?;
     let arguments = arguments_in(&statement);
     let found = bind_call(alloc, session, &statement, arguments, procedure);
@@ -218,7 +246,15 @@ fn run_named<P: Port>(
     port: &mut P,
     call: &RpcCall,
     read: ReadText,
-) -> Result<Exit, Memory> {
+) -> Result<Exit, Memory>
+    requires ready { Ready session.old (P.past port.old) }
+    requires left { session.old.statements_left ≤ statement_limit }
+    requires fits { All IsParameter call.now.parameters }
+    requires few { is_too_many call.now ≡ false }
+    requires named { is_sql call.now.target ≡ false }
+    ensures does { Did (P.past port.old) (P.past port.new) (execs (λ inner at. mean_of statement_limit inner at) call.now (finds_named call.now (object_in read))) session.old result session.new }
+    ensures ready { Ready session.new (P.past port.new) }
+{
     let Some(name) = object_in(read) else {
         let failure = naming(alloc, NO_PROCEDURE, name_of(&call.target));
         return fail_call(alloc, session, port, &failure);
@@ -243,7 +279,9 @@ fn object_in(read: ReadText) -> Option<Units>
 }
 
 /// The name of a procedure without parameters and statements.
-fn bare_name(procedure: ProcedureTree) -> Option<Units> {
+fn bare_name(procedure: ProcedureTree) -> Option<Units>
+    ensures { result ≡ bare_name procedure }
+{
     let ProcedureTree {
         name,
         parameters,
@@ -257,7 +295,10 @@ fn bare_name(procedure: ProcedureTree) -> Option<Units> {
 }
 
 /// The name of a target.
-fn name_of(target: &RpcTarget) -> &Units {
+fn name_of(target: &RpcTarget) -> &Units
+    requires { is_sql target.now ≡ false }
+    ensures { result.now ≡ name_of target.now }
+{
     match target {
         RpcTarget::Named(name) => name,
         RpcTarget::ExecuteSql => unreachable!(),
@@ -272,7 +313,16 @@ fn run_exec<P: Port>(
     call: &RpcCall,
     arguments: &[Argument],
     found: Result<Call, Failure>,
-) -> Result<Exit, Memory> {
+) -> Result<Exit, Memory>
+    requires ready { Ready session.old (P.past port.old) }
+    requires left { session.old.statements_left ≤ statement_limit }
+    requires fits { All IsParameter call.now.parameters }
+    requires few { is_too_many call.now ≡ false }
+    requires given { arguments.now ≡ rpc_arguments call.now }
+    requires typed { IfOk found (λ of. AreTyped of.procedure.parameters of.values) }
+    ensures does { Did (P.past port.old) (P.past port.new) (goes_on_with (runs_exec (λ inner at. mean_of statement_limit inner at) call.now) found) session.old result session.new }
+    ensures ready { Ready session.new (P.past port.new) }
+{
     match found {
         Ok(of) => run_found(alloc, session, port, call, arguments, of),
         Err(failure) => fail_call(alloc, session, port, &failure),
@@ -288,9 +338,14 @@ fn run_found<P: Port>(
     arguments: &[Argument],
     of: Call,
 ) -> Result<Exit, Memory>
-    requires typed { AreTyped of.procedure.parameters of.values }
     requires ready { Ready session.old (P.past port.old) }
     requires left { session.old.statements_left ≤ statement_limit }
+    requires fits { All IsParameter call.now.parameters }
+    requires few { is_too_many call.now ≡ false }
+    requires given { arguments.now ≡ rpc_arguments call.now }
+    requires typed { AreTyped of.procedure.parameters of.values }
+    ensures does { Did (P.past port.old) (P.past port.new) (runs_exec (λ inner at. mean_of statement_limit inner at) call.now of) session.old result session.new }
+    ensures ready { Ready session.new (P.past port.new) }
 {
     let Call { procedure, values } = of;
     let vars = call_vars(alloc, &procedure, values)?;
@@ -320,7 +375,15 @@ fn leave_body<P: Port>(
     call: &RpcCall,
     exit: Exit,
     end: &CallEnd<'_>,
-) -> Result<Exit, Memory> {
+) -> Result<Exit, Memory>
+    requires ready { Ready session.old (P.past port.old) }
+    requires fits { All IsParameter call.now.parameters }
+    requires few { is_too_many call.now ≡ false }
+    requires given { end.now.arguments.now ≡ rpc_arguments call.now }
+    requires none { end.now.takes ≡ None }
+    ensures does { (values : List Of) → Did (P.past port.old) (P.past port.new) (leaves_body call.now (record { procedure = end.now.procedure.now; values = values }) end.now.count end.now.inner.now exit) session.old result session.new }
+    ensures ready { Ready session.new (P.past port.new) }
+{
     match returned_with(exit) {
         Ok(status) => give_call_back(alloc, session, port, call, status, end),
         Err(_) => {
@@ -338,7 +401,15 @@ fn give_call_back<P: Port>(
     call: &RpcCall,
     status: i32,
     end: &CallEnd<'_>,
-) -> Result<Exit, Memory> {
+) -> Result<Exit, Memory>
+    requires ready { Ready session.old (P.past port.old) }
+    requires fits { All IsParameter call.now.parameters }
+    requires few { is_too_many call.now ≡ false }
+    requires given { end.now.arguments.now ≡ rpc_arguments call.now }
+    requires none { end.now.takes ≡ None }
+    ensures does { (values : List Of) → Did (P.past port.old) (P.past port.new) (gives_call_back call.now (record { procedure = end.now.procedure.now; values = values }) end.now.count end.now.inner.now status) session.old result session.new }
+    ensures ready { Ready session.new (P.past port.new) }
+{
     match given_back(alloc, session.vars(), status, end) {
         Ok(sets) => {
             session.assign_all(sets);
@@ -356,7 +427,13 @@ fn end_exec<P: Port>(
     call: &RpcCall,
     count: u32,
     status: i32,
-) -> Result<Exit, Memory> {
+) -> Result<Exit, Memory>
+    requires ready { Ready session.old (P.past port.old) }
+    requires fits { All IsParameter call.now.parameters }
+    requires few { is_too_many call.now ≡ false }
+    ensures does { Did (P.past port.old) (P.past port.new) (ends_exec call.now count status) session.old result session.new }
+    ensures ready { Ready session.new (P.past port.new) }
+{
     let values = return_values(alloc, session.vars(), call)?;
     let tokens = returned_tokens(alloc, status, values)?;
     if is_even(session, count) {
@@ -374,7 +451,9 @@ fn uneven_tokens(
     action: Action,
     raised: &Raised,
     tokens: TokenList,
-) -> Result<TokenList, Memory> {
+) -> Result<TokenList, Memory>
+    ensures { IfOk result (λ told. told ≡ uneven_with false action tokens raised.now) }
+{
     match action {
         Action::Statement => error_in_front(alloc, raised, tokens),
         Action::Doom => error_in_front(alloc, raised, tokens),
@@ -391,7 +470,11 @@ fn tell_returned<P: Port>(
     error: i32,
     tokens: TokenList,
     action: Action,
-) -> Result<Exit, Memory> {
+) -> Result<Exit, Memory>
+    requires ready { Ready session.old (P.past port.old) }
+    ensures does { Did (P.past port.old) (P.past port.new) (tells_returned error tokens (ended_by action)) session.old result session.new }
+    ensures ready { Ready session.new (P.past port.new) }
+{
     if session.is_full(&tokens) {
         return fail_call(alloc, session, port, &Failure::plain(RESULT_FULL));
     }
@@ -402,7 +485,12 @@ fn tell_returned<P: Port>(
 }
 
 /// RETURNVALUE of each OUTPUT parameter that is given.
-fn return_values(alloc: Global, vars: &Vars, call: &RpcCall) -> Result<Vec<Token>, Memory> {
+fn return_values(alloc: Global, vars: &Vars, call: &RpcCall) -> Result<Vec<Token>, Memory>
+    requires fits { All IsParameter call.now.parameters }
+    requires few { is_too_many call.now ≡ false }
+    ensures told { IfOk result (λ tokens. tokens.items ≡ return_values call.now vars.now) }
+    ensures fit { IfOk result (λ tokens. IsFit tokens.items) }
+{
     let mut tokens = Vec::new(alloc);
     for (place, parameter) in call.parameters.as_slice().iter().enumerate() {
         if parameter.output && !parameter.missing {
@@ -412,23 +500,26 @@ fn return_values(alloc: Global, vars: &Vars, call: &RpcCall) -> Result<Vec<Token
     Ok(tokens)
 }
 
-/// RETURNVALUE of the parameter at a place.
+/// RETURNVALUE of the parameter at a place. Its variable has its type; one of another would not be told: it is as if
+/// memory were wanting.
 fn return_value(
     alloc: Global,
     vars: &Vars,
     place: u16,
     parameter: &RpcParameter,
-) -> Result<Token, Memory> {
-    let value = if place < vars.count() {
-        vars.get(place).copy(alloc)?
-    } else {
-        Value::Null
-    };
+) -> Result<Token, Memory>
+    requires fits { IsParameter parameter.now }
+    ensures told { IfOk result (λ token. token ≡ return_value vars.now (place, parameter.now)) }
+    ensures fit { IfOk result (λ token. IsFit (token ∷ [])) }
+{
+    if vars.count() <= place || vars.kind(place) != parameter.kind {
+        return Err(Memory);
+    }
     Ok(Token::ReturnValue {
         ordinal: place,
         name: parameter.name.copy(alloc)?,
         kind: parameter.kind,
-        value,
+        value: vars.get(place).copy(alloc)?,
     })
 }
 
@@ -460,7 +551,9 @@ fn error_or_full(
     alloc: Global,
     session: &SessionState,
     raised: Boxed<Raised>,
-) -> Result<Boxed<Raised>, Memory> {
+) -> Result<Boxed<Raised>, Memory>
+    ensures { IfOk result (λ told. told ≡ error_or_full session.now raised) }
+{
     let tokens = error_tokens(alloc, raised.get())?;
     if session.is_full(&tokens) {
         raised_at(alloc, 1, &Failure::plain(RESULT_FULL))
@@ -477,44 +570,4 @@ fn ending(action: Action) -> Action
         Action::BatchAndTransaction => Action::BatchAndTransaction,
         _ => Action::Batch,
     }
-}
-
-// ---- its end
-
-/// However it ends, that is told; a transaction that is doomed is rolled back.
-fn end_rpc<P: Port>(
-    alloc: Global,
-    session: &mut SessionState,
-    port: &mut P,
-    exit: Exit,
-) -> Result<(), Memory>
-    requires ready { Ready session.old (P.past port.old) }
-    ensures does { Did (P.past port.old) (P.past port.new) (ends_rpc exit) session.old result session.new }
-    ensures ready { Ready session.new (P.past port.new) }
-{
-    if session.is_doomed() {
-        return end_doomed(alloc, session, port);
-    }
-    let end = rpc_end(alloc, has_failed(&exit))?;
-    session.send(end)?;
-    Ok(())
-}
-
-/// A transaction that is doomed at the end of its call is rolled back.
-fn end_doomed<P: Port>(
-    alloc: Global,
-    session: &mut SessionState,
-    port: &mut P,
-) -> Result<(), Memory>
-    requires ready { Ready session.old (P.past port.old) }
-    ensures does { Did (P.past port.old) (P.past port.new) ends_rpc_doomed session.old result session.new }
-    ensures ready { Ready session.new (P.past port.new) }
-{
-    let raised = raised_at(alloc, 1, &Failure::plain(DOOMED_AT_END))?;
-    let tokens = error_tokens(alloc, raised.get())?;
-    session.send(tokens)?;
-    roll_back_told(alloc, session, port)?;
-    let end = rpc_end(alloc, true)?;
-    session.send(end)?;
-    Ok(())
 }

@@ -183,9 +183,12 @@ return_value vars placed = ReturnValue placed.0 placed.1.name placed.1.kind (get
 abbrev pub is_output : Placed → Bool
 is_output placed = placed.1.output && is_given placed
 
+abbrev pub return_values : RpcCall → List Variable → List Token
+return_values call vars = map (return_value vars) (filter is_output (placed_in call))
+
 -- of a procedure that has returned: RETURNSTATUS, and what each OUTPUT parameter is
 abbrev pub returned : RpcCall → List Variable → ℤ → List Token
-returned call vars status = ReturnStatus status ∷ map (return_value vars) (filter is_output (placed_in call))
+returned call vars status = ReturnStatus status ∷ return_values call vars
 
 -- they fit into what the call may still send
 abbrev pub where_call_fits : List Token → Doing Exit → Doing Exit

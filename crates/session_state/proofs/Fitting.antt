@@ -6,7 +6,6 @@ use Rattle.tds_tokens.specs.declared.columns.ColumnInfo.{ColumnInfo}
 use Rattle.tds_tokens.specs.declared.notice.Notice.{Notice}
 use Rattle.tds_tokens.specs.Numbers.{done_final, done_error, command_none, env_begin, env_collation, env_commit, env_rollback}
 use Rattle.tds_tokens.specs.declared.token.DoneKind.{DoneKind}
-use Rattle.tds_tokens.specs.declared.token.DoneKind.TheVariants.{Done}
 use Rattle.tds_tokens.specs.declared.token.Token.{Token}
 use Rattle.tds_tokens.specs.declared.token.Token.TheVariants.{EnvBytes, Finished}
 use Rattle.tds_tokens.specs.Fit.{FitsNotice, FitTokens}
@@ -16,7 +15,7 @@ use Rattle.batch_meaning.specs.declared.raised.Raised.{Raised}
 use Rattle.batch_meaning.specs.Meaning.{told_tokens}
 use Rattle.batch_meaning.specs.Raised.{error_token, info_token}
 use Rattle.session_state.specs.Sendable.{IsFit}
-use Rattle.batch_meaning.specs.Tokens.{descriptor, procedure_done, statement_done, batch_done, transaction_begun, transaction_committed, transaction_rolled_back}
+use Rattle.batch_meaning.specs.Tokens.{descriptor, procedure_done, statement_done, last_done, transaction_begun, transaction_committed, transaction_rolled_back}
 
 -- ---- one list behind another
 
@@ -77,9 +76,9 @@ pub done_fit : (kind : DoneKind) (status command rows : ℕ) → IsFit (Finished
 unfolding FitTokens
 done_fit kind status command rows = λ columns. (tt, tt)
 
--- a batch's end
-pub batch_done_fit : (failed : Bool) → IsFit (batch_done failed ∷ [])
-batch_done_fit failed = done_fit Done (if failed then done_error else done_final) command_none 0
+-- the end of a batch or a call
+pub last_done_fit : (kind : DoneKind) (failed : Bool) → IsFit (last_done kind failed ∷ [])
+last_done_fit kind failed = done_fit kind (if failed then done_error else done_final) command_none 0
 
 -- a statement's end with its count
 pub told_fit : (kind : DoneKind) (no_count : Bool) (command rows : ℕ) (columns : List ColumnInfo) → FitTokens columns (statement_done kind no_count command rows ∷ [])

@@ -8,7 +8,7 @@ ghost use Rattle.tds_tokens.specs.declared.token.Token.TheVariants.{ReturnStatus
 ghost use Rattle.batch_meaning.specs.Meaning.{told_tokens};
 ghost use Rattle.batch_meaning.specs.Raised.{error_token, named, raised_at, raised_in};
 ghost use Rattle.batch_meaning.specs.Selecting.{messages};
-ghost use Rattle.batch_meaning.specs.Tokens.{batch_done, command_of, descriptor, procedure_done, result_tokens, rpc_done, row_tokens, statement_done, statement_failed, transaction_begun, transaction_committed, transaction_rolled_back};
+ghost use Rattle.batch_meaning.specs.Tokens.{command_of, descriptor, last_done, procedure_done, result_tokens, row_tokens, statement_done, statement_failed, transaction_begun, transaction_committed, transaction_rolled_back};
 ghost use Rattle.batch_meaning.specs.Values.{is_message};
 
 use crate::sendable::TokenList;
@@ -104,20 +104,20 @@ fn statement_failed(kind: DoneKind, command: u16) -> Token
     done(kind, DONE_MORE | DONE_ERROR, command, 0)
 }
 
-/// A batch's end, by whether an error ended it.
-pub fn batch_end(alloc: Global, failed: bool) -> Result<TokenList, Memory>
-    ensures { IfOk result (λ tokens. tokens ≡ batch_done failed ∷ []) }
+/// The last token of a batch or of a call by RPC, by whether an error ended it.
+pub fn last_tokens(alloc: Global, kind: DoneKind, failed: bool) -> Result<TokenList, Memory>
+    ensures { IfOk result (λ tokens. tokens ≡ last_done kind failed ∷ []) }
 {
-    Ok(TokenList::new(vec![in alloc; batch_done(failed)]?))
+    Ok(TokenList::new(vec![in alloc; last_done(kind, failed)]?))
 }
 
-fn batch_done(failed: bool) -> Token
-    ensures { result ≡ batch_done failed }
+fn last_done(kind: DoneKind, failed: bool) -> Token
+    ensures { result ≡ last_done kind failed }
 {
     if failed {
-        done(DoneKind::Done, DONE_ERROR, COMMAND_NONE, 0)
+        done(kind, DONE_ERROR, COMMAND_NONE, 0)
     } else {
-        done(DoneKind::Done, DONE_FINAL, COMMAND_NONE, 0)
+        done(kind, DONE_FINAL, COMMAND_NONE, 0)
     }
 }
 
@@ -180,14 +180,6 @@ pub fn error_in_front(
     let mut behind = behind.into_vec();
     tokens.append(&mut behind)?;
     Ok(TokenList::new(tokens))
-}
-
-/// The end of a call by RPC, by whether an error ended it.
-pub fn rpc_end(alloc: Global, failed: bool) -> Result<TokenList, Memory>
-    ensures { IfOk result (λ tokens. tokens ≡ rpc_done failed ∷ []) }
-{
-    let status = if failed { DONE_ERROR } else { DONE_FINAL };
-    Ok(TokenList::new(vec![in alloc; done(DoneKind::Proc, status, COMMAND_NONE, 0)]?))
 }
 
 /// The command that a DONE names.
