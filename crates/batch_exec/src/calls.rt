@@ -1,11 +1,9 @@
 //! EXEC: what is called, and with which variables.
 
-ghost use Rattle.std.specs.Prelude.{◌≡◌, ◌++◌, ◌∷◌, ◌<◌, [], Option, IfOk, IsTrue, None, Ok, Some, is_some, option_map, true};
+ghost use Rattle.std.specs.Prelude.{◌≡◌, ◌++◌, ◌∷◌, ◌<◌, [], Option, IfOk, IsTrue, Ok, is_some, option_map, true};
 ghost use Rattle.std.specs.List.{list_all};
 ghost use Rattle.session_vars.specs.Variables.{HasItsType, place_of};
 ghost use Rattle.tsql_tree.specs.declared.definition.Definition.{Definition as Found};
-ghost use Rattle.tsql_tree.specs.declared.definition.Definition.TheVariants.{Procedure};
-ghost use Rattle.batch_meaning.specs.Raised.{around_batch};
 ghost use Rattle.call_rules.specs.Arguments.{are_declared, argument_values};
 ghost use Rattle.batch_meaning.specs.Calls.{are_standing, call_of, call_vars, call_with, finds_call, parameter_var, parameter_vars, status_names};
 ghost use Rattle.batch_meaning.specs.Doing.{Did};
@@ -106,7 +104,7 @@ fn call_in<P: Port>(
 }
 
 /// What was found under the name of a call, which is bound then.
-fn call_over(
+pub(crate) fn call_over(
     alloc: Global,
     session: &SessionState,
     statement: &Statement,
@@ -127,25 +125,6 @@ fn call_over(
         return Err(Failure::plain(OUTSIDE_LIMITS));
     }
     call_of(alloc, vars, name, arguments, around, procedure)
-}
-
-/// A procedure that is not looked up is bound as one that was.
-pub(crate) fn bind_call(
-    alloc: Global,
-    session: &SessionState,
-    statement: &Statement,
-    arguments: &[Argument],
-    procedure: ProcedureTree,
-) -> Result<Call, Failure>
-    ensures came { IsOrMemory (call_bound around_batch statement.now None procedure.name arguments.now session.now (Some (Procedure procedure))) result }
-    ensures typed { IfOk result (λ call. AreTyped call.procedure.parameters call.values) }
-{
-    bind_first(alloc, session, statement)?;
-    let vars = session.vars();
-    if !are_standing(None, arguments, vars) {
-        return Err(Failure::plain(OUTSIDE_LIMITS));
-    }
-    call_with(alloc, procedure, arguments, vars)
 }
 
 /// Whether each variable that a call names stands.

@@ -11,7 +11,7 @@ ghost use Rattle.rpc_requests.specs.Fit.{IsParameter};
 ghost use Rattle.batch_exec.specs.Running.{AreTyped, arguments_in};
 
 use crate::batch::{end, refusal, refuse};
-use crate::calls::{Call, bind_call, call_vars, find_call};
+use crate::calls::{Call, call_over, call_vars, find_call};
 use crate::errors::end_by;
 use crate::returning::{CallEnd, given_back, is_even, returned_with};
 use crate::running::run_body;
@@ -233,10 +233,15 @@ fn run_read<P: Port>(
     ensures does { Did (P.past port.old) (P.past port.new) (execs (λ inner at. mean_of statement_limit inner at) call.now (finds_read call.now (Some procedure))) session.old result session.new }
     ensures ready { Ready session.new (P.past port.new) }
 {
-    let statement = rpc_statement(alloc, &procedure.name, call)?;
+    let name = procedure.name.copy(alloc)?;
+    let statement = rpc_statement(alloc, &name, call)?;
     let arguments = arguments_in(&statement);
-    let found = bind_call(alloc, session, &statement, arguments, procedure);
-    run_exec(alloc, session, port, call, arguments, found)
+    let around = Around::batch();
+    let found = Some(Definition::Procedure(procedure));
+    let bound = call_over(
+        alloc, session, &statement, None, &name, arguments, &around, found,
+    );
+    run_exec(alloc, session, port, call, arguments, bound)
 }
 
 /// That of a name, which is looked up.
@@ -538,10 +543,10 @@ fn fail_call<P: Port>(
 {
     session.tell_rows(0);
     let raised = raised_at(alloc, 1, failure)?;
-    let raised = error_or_full(alloc, session, raised)?;
-    let action = Around::batch().action(session.settings().xact_abort, raised.get());
-    session.tell_error(raised.get().number);
-    let tokens = error_tokens(alloc, raised.get())?;
+    let told = error_or_full(alloc, session, raised)?;
+    let action = Around::batch().action(session.settings().xact_abort, told.get());
+    session.tell_error(told.get().number);
+    let tokens = error_tokens(alloc, told.get())?;
     session.send(tokens)?;
     end_by(alloc, session, port, ending(action))
 }
