@@ -97,6 +97,7 @@ pub(crate) fn handle<P: Port>(
 ) -> Result<Handling, Memory>
     requires ready { Ready session.old (P.past port.old) }
     requires sized { IsSized state }
+    requires short { length message.now.payload < 2 ^ 32 }
     ensures handled { IsHandled spid (P.past port.old) (P.past port.new) (handle config.now state message.now) session.old result session.new }
     ensures ready { Ready session.new (P.past port.new) }
 {
