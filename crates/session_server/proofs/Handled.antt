@@ -1,5 +1,5 @@
 -- How one message is handled, from what its parts do.
-use Rattle.std.proofs.Common.{◌≡◌, ℕ, true, false, List, [], Result, Ok, Err, inl, inr, refl, sym, subst, ap, ◌∙◌}
+use Rattle.std.proofs.Common.{◌≡◌, ◌⊎◌, ℕ, true, false, List, [], length, Result, Ok, Err, inl, inr, refl, sym, subst, ap, ◌∙◌}
 use Rattle.value_types.specs.declared.memory.Memory.{Memory}
 use Rattle.step_model.specs.Port.{PortPast}
 use Rattle.step_model.proofs.Pasts.{goes_nowhere}
@@ -12,7 +12,7 @@ use Rattle.session_server.specs.declared.message.Handling.TheVariants.{Responds,
 use Rattle.session_server.specs.declared.prepared.PreparedResponse.{PreparedResponse}
 use Rattle.session_server.specs.declared.prepared.Channel.{Channel}
 use Rattle.batch_meaning.specs.Progress.{SessionProgress}
-use Rattle.session_server.specs.Parts.{Bears, Answers, Says, IsHandled, IsUnasked}
+use Rattle.session_server.specs.Parts.{Bears, Answers, HasResponse, MayWant, Says, IsHandled, IsUnasked}
 use Rattle.session_server.specs.Response.{Response, tabular}
 use Rattle.std.specs.Result.{IsErr}
 use Rattle.tds_login.specs.declared.config.Config.{Config}
@@ -23,7 +23,6 @@ use Rattle.session_server.specs.declared.message.ServerState.{ServerState}
 use Rattle.session_server.specs.declared.message.ServerState.TheVariants.{Initial, LoginReady, LoggedIn}
 use Rattle.batch_meaning.specs.declared.form.ReadText.{ReadText}
 use Rattle.batch_meaning.specs.declared.form.ReadText.TheVariants.{Statements}
-use Rattle.batch_meaning.specs.Statements.{ReadsAs}
 use Rattle.batch_meaning.specs.Doing.{Did}
 use Rattle.session_server.specs.Talk.{Handling, responds, runs, calls, refuses, ends, IsReadAs, handle, handle_prelogin, handle_login, handle_rpc, handle_attention, response_to}
 use Rattle.rpc_requests.specs.declared.call.RpcCall.{RpcCall}

@@ -17,7 +17,7 @@ use Rattle.step_model.specs.Port.{PortPast, GoesOn}
 use Rattle.step_model.proofs.Pasts.{goes_further}
 use Rattle.session_server.specs.declared.end.End.{End}
 use Rattle.session_server.specs.declared.end.End.TheVariants.{LoginRefused}
-use Rattle.session_server.specs.declared.end.End.TheVariants as end
+use Rattle.session_server.specs.declared.end.End.TheVariants as why
 use Rattle.session_server.specs.declared.message.ServerState.{ServerState}
 use Rattle.batch_meaning.specs.Progress.{SessionProgress, first_progress}
 use Rattle.batch_meaning.specs.Doing.{Doing, Did}
@@ -160,19 +160,19 @@ module _ {S : Type 0} {config : Config} {left given : S → Option (List ℕ)} {
   wanted message (runs size text) is may = inl (answered message (runs size text) is tt)
   wanted message (calls size call) is may = inl (answered message (calls size call) is tt)
   wanted message (refuses response number) is may = inl (answered message (refuses response number) is tt)
-  wanted message (ends (end.BadRpc at kind)) is may = inr (at, kind, ends_at message (end.BadRpc at kind) (ap next_of is))
-  wanted message (ends end.Closed) is may = absurd may
-  wanted message (ends (end.Cut at)) is may = absurd may
-  wanted message (ends (end.BadHeader at)) is may = absurd may
-  wanted message (ends (end.TooLong at)) is may = absurd may
-  wanted message (ends (end.OutOfPlace at kind)) is may = absurd may
-  wanted message (ends (end.BadPrelogin fault)) is may = absurd may
-  wanted message (ends (end.LoginRefused number)) is may = absurd may
-  wanted message (ends (end.BadBatch fault)) is may = absurd may
-  wanted message (ends end.Spent) is may = absurd may
-  wanted message (ends end.ReadFault) is may = absurd may
-  wanted message (ends end.WriteFault) is may = absurd may
-  wanted message (ends end.Memory) is may = absurd may
+  wanted message (ends (why.BadRpc at kind)) is may = inr (at, kind, ends_at message (why.BadRpc at kind) (ap next_of is))
+  wanted message (ends why.Closed) is may = absurd may
+  wanted message (ends (why.Cut at)) is may = absurd may
+  wanted message (ends (why.BadHeader at)) is may = absurd may
+  wanted message (ends (why.TooLong at)) is may = absurd may
+  wanted message (ends (why.OutOfPlace at kind)) is may = absurd may
+  wanted message (ends (why.BadPrelogin fault)) is may = absurd may
+  wanted message (ends (why.LoginRefused number)) is may = absurd may
+  wanted message (ends (why.BadBatch fault)) is may = absurd may
+  wanted message (ends why.Spent) is may = absurd may
+  wanted message (ends why.ReadFault) is may = absurd may
+  wanted message (ends why.WriteFault) is may = absurd may
+  wanted message (ends why.Memory) is may = absurd may
 
   written_more : (new : Option (List ℕ)) (response : Response) → Appends sink new (response_bytes spid response) → Appends old new (Bytes spid (served.responses ++ response ∷ []))
   written_more new response written = subst (Appends old new) (sym (bytes_more spid served.responses response)) (Appends-trans old sink new (Bytes spid served.responses) (response_bytes spid response) served.written written)
