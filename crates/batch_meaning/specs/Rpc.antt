@@ -8,8 +8,7 @@ use Rattle.std.specs.Option.{option_map, option_and_then}
 use Rattle.value_types.specs.Units.{same_units}
 use Rattle.value_types.specs.declared.value.Value.{Value}
 use Rattle.value_types.specs.declared.value.Value.TheVariants.{Null, Text}
-use Rattle.tsql_tree.specs.declared.definition.Definition.{Definition}
-use Rattle.tsql_tree.specs.declared.definition.Definition.TheVariants.{Table, Procedure, Trigger}
+use Rattle.tsql_tree.specs.declared.definition.Definition.TheVariants.{Procedure}
 use Rattle.tsql_tree.specs.declared.definition.ProcedureTree.{ProcedureTree}
 use Rattle.tsql_tree.specs.declared.statement.Argument.{Argument}
 use Rattle.tsql_tree.specs.declared.statement.ArgumentValue.TheVariants as argument
@@ -32,14 +31,14 @@ use Rattle.batch_meaning.specs.declared.failure.Failure.{Failure}
 use Rattle.batch_meaning.specs.declared.form.ReadText.{ReadText}
 use Rattle.batch_meaning.specs.declared.form.ReadText.TheVariants as text
 use Rattle.batch_meaning.specs.declared.raised.Raised.{Raised}
-use Rattle.batch_meaning.specs.Failures.{plain, naming}
+use Rattle.batch_meaning.specs.Failures.{plain}
 use Rattle.batch_meaning.specs.Raised.{around_batch, action_in, error_token, in_body, raised_at}
 use Rattle.batch_meaning.specs.Statements.{ReadsAs}
 use Rattle.batch_meaning.specs.Tokens.{rpc_done}
 use Rattle.batch_meaning.specs.Progress.{SessionProgress, begins, counts, sends, size_of, statement_limit, tells_error, tells_rows, values_of}
 use Rattle.batch_meaning.specs.Doing.{Doing, over, reads, makes, ◌then◌}
 use Rattle.batch_meaning.specs.Selecting.{bound_over, result_full}
-use Rattle.batch_meaning.specs.Values.{Assigned, outside_limits}
+use Rattle.batch_meaning.specs.Values.{outside_limits}
 use Rattle.batch_meaning.specs.Asking.{◌>>=◌, assigns_all, comes_to, fails_naming, with_room}
 use Rattle.batch_meaning.specs.Calls.{Call, call_over, call_vars, finds_call, given_back, no_procedure, uneven}
 use Rattle.batch_meaning.specs.Meaning.{Meaning, ended_by, mean_of, rolls_back_doomed, runs_body, runs_text, tells_end, uneven_with}
