@@ -85,7 +85,8 @@ fn text_in(parameter: &RpcParameter) -> Option<&[u16]>
 fn sql_text(alloc: Global, declarations: &[u16], statement: &[u16]) -> Result<Units, Memory>
     ensures { IfOk result (λ text. text ≡ sql_text declarations.now statement.now) }
 {
-    let mut text = Units::of_ascii(alloc, b"CREATE PROCEDURE [sp_executesql] ")?.into_vec();
+    let mut text = Units::of_ascii(alloc, b"CREATE PROCEDURE ")?.into_vec();
+    text.extend_from_slice(Units::of_ascii(alloc, b"[sp_executesql] ")?.as_slice())?;
     text.extend_from_slice(declarations)?;
     text.extend_from_slice(Units::of_ascii(alloc, b" AS ")?.as_slice())?;
     text.extend_from_slice(statement)?;
