@@ -1,6 +1,7 @@
 //! A call by RPC, from its beginning to its end.
 
-ghost use Rattle.std.specs.Prelude.{◌≡◌, ◌<◌, ◌≤◌, ◌++◌, ◌∷◌, ℕ, List, [], All, IfOk, None, Some, false, length, map};
+ghost use Rattle.std.specs.Prelude.{◌≡◌, ◌+◌, ◌<◌, ◌≤◌, ◌++◌, ◌∷◌, ℕ, List, [], All, IfOk, None, Some, drop, false, length, map};
+ghost use Rattle.std.specs.List.{enumerate_from};
 ghost use Rattle.value_types.specs.declared.value.Value.{Value as Of};
 ghost use Rattle.session_state.specs.Sendable.{IsFit};
 ghost use Rattle.batch_meaning.specs.Doing.{Did};
@@ -8,7 +9,7 @@ ghost use Rattle.batch_meaning.specs.Meaning.{ended_by, mean_of, uneven_with};
 ghost use Rattle.batch_meaning.specs.Progress.{Ready, statement_limit};
 ghost use Rattle.batch_meaning.specs.Rpc.{bare_name, ending, ends_exec, error_or_full, execs, fails_call, finds_named, finds_read, gives_call_back, goes_on_with, is_sql, is_too_many, leaves_body, name_given, name_of, object_in, return_value, return_values, rpc, rpc_argument, rpc_arguments, rpc_statement, rpc_var, rpc_vars, runs_exec, runs_rpc, runs_sql, tells_returned};
 ghost use Rattle.rpc_requests.specs.Fit.{IsParameter};
-ghost use Rattle.batch_exec.specs.Running.{AreTyped, arguments_in};
+ghost use Rattle.batch_exec.specs.Running.{AreTyped, arguments_from, arguments_in, arguments_of_placed, values_told};
 
 use crate::batch::{end, refusal, refuse};
 use crate::calls::{Call, call_over, call_vars, find_call};
@@ -73,11 +74,20 @@ fn rpc_vars(alloc: Global, call: &RpcCall) -> Result<Vars, Memory>
     requires fits { All IsParameter call.now.parameters }
     ensures { IfOk result (λ vars. vars ≡ rpc_vars call.now) }
 {
-    let mut vars = Vars::new(alloc);
     if is_too_many(call) {
-        return Ok(vars);
+        return Ok(Vars::new(alloc));
     }
-    for parameter in call.parameters.as_slice() {
+    vars_for(alloc, call.parameters.as_slice())
+}
+
+/// The same of so few that there may be a variable for each.
+fn vars_for(alloc: Global, parameters: &[RpcParameter]) -> Result<Vars, Memory>
+    requires few { length parameters.now ≤ 10000 }
+    requires fits { All IsParameter parameters.now }
+    ensures { IfOk result (λ vars. vars ≡ map rpc_var (enumerate_from 0 parameters.now)) }
+{
+    let mut vars = Vars::new(alloc);
+    for parameter in parameters {
         declare(alloc, &mut vars, parameter)?;
     }
     Ok(vars)
@@ -108,19 +118,59 @@ fn variable_at(alloc: Global, place: u16) -> Result<Units, Memory>
     Ok(Units::from(vec![in alloc; place]?))
 }
 
-/// The arguments of the procedure: the variables of the parameters that are given, behind the first so many.
+/// The arguments of the procedure: the variables of the parameters that are given; of `sp_executesql` those behind its own
+/// two.
 fn rpc_arguments(alloc: Global, call: &RpcCall) -> Result<Items<Argument>, Memory>
     requires few { is_too_many call.now ≡ false }
     ensures { IfOk result (λ arguments. arguments ≡ rpc_arguments call.now) }
 {
-    let own = if is_sql(&call.target) { 2 } else { 0 };
+    let parameters = call.parameters.as_slice();
+    if is_sql(&call.target) {
+        arguments_from(alloc, 2, behind_two(parameters))
+    } else {
+        arguments_from(alloc, 0, parameters)
+    }
+}
+
+/// All behind the first two.
+fn behind_two(parameters: &[RpcParameter]) -> &[RpcParameter]
+    ensures { result.now ≡ drop 2 parameters.now }
+{
+    match parameters {
+        [_, _, others @ ..] => others,
+        _ => &[],
+    }
+}
+
+/// The arguments of parameters, of which the first stands at this place.
+fn arguments_from(
+    alloc: Global,
+    first: usize,
+    parameters: &[RpcParameter],
+) -> Result<Items<Argument>, Memory>
+    requires few { first + length parameters.now < 65536 }
+    ensures { IfOk result (λ arguments. arguments ≡ arguments_from first parameters.now) }
+{
     let mut arguments = Vec::new(alloc);
-    for (place, parameter) in call.parameters.as_slice().iter().enumerate() {
-        if own <= place && !parameter.missing {
-            arguments.push(rpc_argument(alloc, place as u16, parameter)?)?;
-        }
+    for (place, parameter) in parameters.iter().enumerate() {
+        add_argument(alloc, &mut arguments, (first + place) as u16, parameter)?;
     }
     Ok(Items::from_vec(arguments))
+}
+
+/// Adds the argument of a parameter, if it is given.
+fn add_argument(
+    alloc: Global,
+    arguments: &mut Vec<Argument>,
+    place: u16,
+    parameter: &RpcParameter,
+) -> Result<(), Memory>
+    ensures { IfOk result (λ _. arguments.new.items ≡ arguments.old.items ++ arguments_of_placed ((place, parameter.now) ∷ [])) }
+{
+    if !parameter.missing {
+        arguments.push(rpc_argument(alloc, place, parameter)?)?;
+    }
+    Ok(())
 }
 
 /// The variable of a parameter as an argument.
@@ -489,20 +539,50 @@ fn tell_returned<P: Port>(
     end_by(alloc, session, port, action)
 }
 
-/// RETURNVALUE of each OUTPUT parameter that is given.
+/// RETURNVALUE of each OUTPUT parameter.
 fn return_values(alloc: Global, vars: &Vars, call: &RpcCall) -> Result<Vec<Token>, Memory>
     requires fits { All IsParameter call.now.parameters }
     requires few { is_too_many call.now ≡ false }
     ensures told { IfOk result (λ tokens. tokens.items ≡ return_values call.now vars.now) }
     ensures fit { IfOk result (λ tokens. IsFit tokens.items) }
 {
+    values_told(alloc, vars, call.parameters.as_slice())
+}
+
+/// The same of parameters, of which the first stands at place 0.
+fn values_told(
+    alloc: Global,
+    vars: &Vars,
+    parameters: &[RpcParameter],
+) -> Result<Vec<Token>, Memory>
+    requires fits { All IsParameter parameters.now }
+    requires few { length parameters.now ≤ 10000 }
+    ensures told { IfOk result (λ tokens. tokens.items ≡ values_told vars.now (enumerate_from 0 parameters.now)) }
+    ensures fit { IfOk result (λ tokens. IsFit tokens.items) }
+{
     let mut tokens = Vec::new(alloc);
-    for (place, parameter) in call.parameters.as_slice().iter().enumerate() {
-        if parameter.output && !parameter.missing {
-            tokens.push(return_value(alloc, vars, place as u16, parameter)?)?;
-        }
+    for (place, parameter) in parameters.iter().enumerate() {
+        add_value(alloc, &mut tokens, vars, place as u16, parameter)?;
     }
     Ok(tokens)
+}
+
+/// Adds that of the parameter at a place, if it is OUTPUT.
+fn add_value(
+    alloc: Global,
+    tokens: &mut Vec<Token>,
+    vars: &Vars,
+    place: u16,
+    parameter: &RpcParameter,
+) -> Result<(), Memory>
+    requires fits { IsParameter parameter.now }
+    ensures told { IfOk result (λ _. tokens.new.items ≡ tokens.old.items ++ values_told vars.now ((place, parameter.now) ∷ [])) }
+    ensures fit { IfOk result (λ _. IsFit tokens.old.items → IsFit tokens.new.items) }
+{
+    if parameter.output {
+        tokens.push(return_value(alloc, vars, place, parameter)?)?;
+    }
+    Ok(())
 }
 
 /// RETURNVALUE of the parameter at a place. Its variable has its type; one of another would not be told: it is as if

@@ -175,12 +175,12 @@ goes_on_with go (Err failure) = fails_call failure
 
 -- ---- what it gives back
 
--- RETURNVALUE ([MS-TDS] 2.2.7.19): place, name and type of an OUTPUT parameter, and the value that its variable has
+-- RETURNVALUE ([MS-TDS] 2.2.7.19): place, name and type of an OUTPUT parameter, and the value that its variable has, which of one that isn't given is what was sent
 abbrev pub return_value : List Variable → Placed → Token
 return_value vars placed = ReturnValue placed.0 placed.1.name placed.1.kind (get_or (values_of vars) placed.0 Null)
 
 abbrev pub is_output : Placed → Bool
-is_output placed = placed.1.output && is_given placed
+is_output placed = placed.1.output
 
 abbrev pub return_values : RpcCall → List Variable → List Token
 return_values call vars = map (return_value vars) (filter is_output (placed_in call))
