@@ -7,7 +7,7 @@ use Rattle.tds_tokens.specs.declared.notice.Notice.{Notice}
 use Rattle.tds_tokens.specs.Numbers.{done_final, done_error, command_none, env_begin, env_collation, env_commit, env_rollback}
 use Rattle.tds_tokens.specs.declared.token.DoneKind.{DoneKind}
 use Rattle.tds_tokens.specs.declared.token.Token.{Token}
-use Rattle.tds_tokens.specs.declared.token.Token.TheVariants.{EnvBytes, Finished}
+use Rattle.tds_tokens.specs.declared.token.Token.TheVariants.{EnvBytes, Finished, ReturnStatus}
 use Rattle.tds_tokens.specs.Fit.{FitsNotice, FitTokens}
 use Rattle.tds_tokens.specs.Spelling.{columns_after}
 use Rattle.tds_tokens.proofs.Lengths.{length-notice_bytes}
@@ -70,6 +70,16 @@ procedure_fits status = λ columns. (tt, (tt, tt))
 pub error_and_fits : (raised : Raised) (status : ℤ) → HasName raised → IsFit (error_token raised ∷ procedure_done status)
 unfolding FitTokens
 error_and_fits raised status named = λ columns. (notice_fits raised named, (tt, (tt, tt)))
+
+-- the status of a procedure, in front of what it has returned
+pub returned_fits : (status : ℤ) (behind : List Token) → IsFit behind → IsFit (ReturnStatus status ∷ behind)
+unfolding FitTokens
+returned_fits status behind fit = λ columns. (tt, fit columns)
+
+-- an error in front of tokens
+pub in_front_fits : (raised : Raised) (behind : List Token) → HasName raised → IsFit behind → IsFit (error_token raised ∷ behind)
+unfolding FitTokens
+in_front_fits raised behind named fit = λ columns. (notice_fits raised named, fit columns)
 
 -- a DONE alone
 pub done_fit : (kind : DoneKind) (status command rows : ℕ) → IsFit (Finished kind status command rows ∷ [])

@@ -1,0 +1,83 @@
+-- A call by RPC: how its text is taken, and how its procedure is left.
+use Rattle.std.proofs.Common.{◌≡◌, ℕ, ℤ, pos, Bool, true, false, if◌then◌else◌, List, [], ◌∷◌, Option, None, Some, Result, Ok, Err, refl, sym, ap, ◌∙◌, subst}
+use Rattle.value_types.specs.declared.memory.Memory.{Memory}
+use Rattle.tsql_tree.specs.declared.definition.Definition.{Definition}
+use Rattle.tsql_tree.specs.declared.definition.Definition.TheVariants.{Table, Procedure, Trigger}
+use Rattle.tsql_tree.specs.declared.definition.ProcedureTree.{ProcedureTree}
+use Rattle.tsql_tree.specs.declared.statement.Statement.{Statement}
+use Rattle.rpc_requests.specs.declared.call.RpcCall.{RpcCall}
+use Rattle.session_vars.specs.declared.Variable.{Variable}
+use Rattle.step_model.specs.Port.{PortPast}
+use Rattle.batch_meaning.specs.declared.exit.Exit.{Exit}
+use Rattle.batch_meaning.specs.declared.exit.Exit.TheVariants.{On, Leave, Again, Return, Raise, RaiseUp, End}
+use Rattle.batch_meaning.specs.declared.failure.Failure.{Failure}
+use Rattle.batch_meaning.specs.declared.form.ReadText.{ReadText}
+use Rattle.batch_meaning.specs.declared.form.ReadText.TheVariants as text
+use Rattle.batch_meaning.specs.Failures.{plain}
+use Rattle.batch_meaning.specs.Progress.{SessionProgress, made, tells_rows}
+use Rattle.batch_meaning.specs.Doing.{Did, Doing, makes, over, ◌then◌}
+use Rattle.batch_meaning.specs.Calls.{Call}
+use Rattle.batch_meaning.specs.Meaning.{Meaning}
+use Rattle.batch_meaning.specs.Rpc.{defined_in, execs, fails_call, finds_read, gives_call_back, goes_on_with, leaves_body, runs_exec, runs_sql}
+use Rattle.batch_meaning.proofs.Composed.{does_makes, does_over, does_then}
+use Rattle.batch_exec.specs.Running.{returned_with}
+
+-- ---- how its body was left
+
+module _ (call : RpcCall) (of : Call) (count : ℕ) (inner : List Variable) where
+  pub leaves_ok : {before after : PortPast} (exit : Exit) (number : ℤ) {p new : SessionProgress} {result : Result Exit Memory} → Ok number ≡ returned_with exit
+      → Did before after (gives_call_back call of count inner number) p result new → Did before after (leaves_body call of count inner exit) p result new
+  leaves_ok {before = before} {after = after} exit number {p = p} {new = new} {result = result} is did = by_exit exit is
+    where
+      given : (other : ℤ) → number ≡ other → Did before after (gives_call_back call of count inner other) p result new
+      given other same = subst (λ (n : ℤ). Did before after (gives_call_back call of count inner n) p result new) same did
+
+      by_exit : (e : Exit) → Ok number ≡ returned_with e → Did before after (leaves_body call of count inner e) p result new
+      by_exit On so = given (pos 0) (let same : number ≡ pos 0 = cc in same)
+      by_exit Leave so = given (pos 0) (let same : number ≡ pos 0 = cc in same)
+      by_exit Again so = given (pos 0) (let same : number ≡ pos 0 = cc in same)
+      by_exit (Return other) so = given other (let same : number ≡ other = cc in same)
+      by_exit (Raise raised) so = absurd cc
+      by_exit (RaiseUp raised) so = absurd cc
+      by_exit End so = absurd cc
+
+  pub leaves_err : {now : PortPast} (exit out : Exit) {p q : SessionProgress} → Err out ≡ returned_with exit → q ≡ made (tells_rows 0) p → Did now now (leaves_body call of count inner exit) p (Ok End) q
+  leaves_err {now = now} exit out {p = p} {q = q} is same = by_exit exit is
+    where
+      left : Did now now (makes (tells_rows 0) (over End)) p (Ok End) q
+      left = does_makes same (does_over refl)
+
+      by_exit : (e : Exit) → Err out ≡ returned_with e → Did now now (leaves_body call of count inner e) p (Ok End) q
+      by_exit On so = absurd cc
+      by_exit Leave so = absurd cc
+      by_exit Again so = absurd cc
+      by_exit (Return other) so = absurd cc
+      by_exit (Raise raised) so = left
+      by_exit (RaiseUp raised) so = left
+      by_exit End so = left
+
+-- ---- its text
+
+-- what was read for sp_executesql defines a procedure, or nothing that can be called
+module _ (one : Statement → Meaning) (call : RpcCall) {before after : PortPast} {p new : SessionProgress} {result : Result Exit Memory} where
+  pub does_defined_sql : (read : ReadText) (procedure : ProcedureTree) → defined_in read ≡ Some procedure → Did before after (execs one call (finds_read call (Some procedure))) p result new → Did before after (runs_sql one call read) p result new
+  does_defined_sql read procedure is did = by_read read is
+    where
+      onward : (found : Option ProcedureTree) → found ≡ Some procedure → Did before after (execs one call (finds_read call found)) p result new
+      onward found same = subst (λ (f : Option ProcedureTree). Did before after (execs one call (finds_read call f)) p result new) (sym same) did
+
+      by_read : (r : ReadText) → defined_in r ≡ Some procedure → Did before after (runs_sql one call r) p result new
+      by_read (text.Statements statements) so = absurd (let no : None ≡ Some procedure = so in cc)
+      by_read (text.Defines line definition units) so = onward (defined_in (text.Defines line definition units)) so
+      by_read (text.Refused line code near) so = absurd (let no : None ≡ Some procedure = so in cc)
+
+  unmatched : Did before after (fails_call (plain 49012)) p result new → Did before after (execs one call (finds_read call None)) p result new
+  unmatched did = does_then _ _ (does_over refl) did
+
+  pub does_undefined_sql : (read : ReadText) → ((line : ℤ) (code : ℕ) (near : List ℕ) → read ≡ text.Refused line code near → ⊥) → ((line : ℤ) (procedure : ProcedureTree) (units : List ℕ) → read ≡ text.Defines line (Procedure procedure) units → ⊥)
+      → Did before after (fails_call (plain 49012)) p result new → Did before after (runs_sql one call read) p result new
+  does_undefined_sql (text.Statements statements) refused defined did = unmatched did
+  does_undefined_sql (text.Defines line (Table table) units) refused defined did = unmatched did
+  does_undefined_sql (text.Defines line (Procedure procedure) units) refused defined did = absurd (defined line procedure units refl)
+  does_undefined_sql (text.Defines line (Trigger trigger) units) refused defined did = unmatched did
+  does_undefined_sql (text.Refused line code near) refused defined did = absurd (refused line code near refl)

@@ -1,0 +1,13 @@
+use Rattle.std.proofs.Common.{refl, sym}
+use Rattle.batch_meaning.proofs.Composed.{does_out, does_then}
+use Rattle.statement_exec.proofs.Parts.{does_naming}
+use Rattle.batch_exec.proofs.rpc.run_named.Goals as goal
+
+pub returns-in_default-clause-does : goal.returns-in_default-clause-does
+returns-in_default-clause-does g c = rw (sym c.object_in.ensures ∙ c.in_default.is) (does_then _ _ (does_naming _ _ _ (rw c.name_of.ensures at c.naming-failure.ensures)) c.fail_call.ensures.does)
+
+pub returns-in_err-statement-clause-does : goal.returns-in_err-statement-clause-does
+returns-in_err-statement-clause-does g c = does_out _ c.from_residual.ensures.0 refl
+
+pub returns-clause-does : goal.returns-clause-does
+returns-clause-does g c = rw (sym c.object_in.ensures ∙ c.in-Some.is) (does_then _ _ (rw (c.arguments_in-arguments.ensures, c.in_ok-statement.ensures, c.batch-around.ensures) at c.find_call-found.ensures.does) c.run_exec.ensures.does)
