@@ -5,5 +5,5 @@ use Rattle.session_state.proofs.tokens.error_in_front.Goals as goal
 
 pub new-requires : goal.new-requires
 new-requires c =
-    let is : c.in_ok-append.new.self.items ≡ error_token c.args.raised.now ∷ c.args.behind = search rules in
+    let is : c.append.new.self.items ≡ error_token c.args.raised.now ∷ c.args.behind = search rules in
     fits_as _ _ is (in_front_fits c.args.raised.now c.args.behind c.in_ok-notice_of.ensures.short c.into_vec-behind.ensures.fit)

@@ -5,5 +5,5 @@ use Rattle.session_state.proofs.tokens.returned_tokens.Goals as goal
 
 pub new-requires : goal.new-requires
 new-requires c =
-    let is : c.in_ok-append.new.self.items ≡ ReturnStatus c.args.status ∷ c.args.values.items = search rules in
+    let is : c.append.new.self.items ≡ ReturnStatus c.args.status ∷ c.args.values.items = search rules in
     fits_as _ _ is (returned_fits c.args.status c.args.values.items c.requires)
