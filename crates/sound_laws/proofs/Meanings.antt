@@ -45,7 +45,7 @@ use Rattle.batch_meaning.specs.Doing.{Doing, asks, makes, over, reads, room, ◌
 use Rattle.batch_meaning.specs.Failures.{naming, plain}
 use Rattle.batch_meaning.specs.Firing.{closes_own, has_mark, in_trigger, leaves_fired, relaxes_then, settles, trigger_end, undone_to}
 use Rattle.batch_meaning.specs.Meaning.{Meaning, batch, branch, calls, caught_as, concluded, concludes, counted, decides, defined, defines_object, does, doomed_write, each_of, effect_of, ended_by, ends, ends_call, ends_doomed, ends_even, ends_uneven, ends_uneven_as, fails_for, fires, gives_back, goes_on, handled, is_refused_doomed, leaves_rows, mean_by, mean_form, mean_of, raises, raises_again, raises_at, raises_or_tells, returns_from, rolls_back_open, rolls_back_told, runs_body, runs_call, runs_fired, runs_text, runs_trigger, runs_triggers, sends_some, set_by, sets_option, spends, strikes, succeeds, tells, tells_behind, told_as, told_unless_own, tries, turned, turns, turns_again, uneven_end, uneven_tokens, unless_stopped, where_it_fits, writes, writes_in, written, written_in, written_with}
-use Rattle.batch_meaning.specs.Rpc.{binds_call, ending, ends_exec, ends_rpc, ends_rpc_doomed, error_or_full, execs, fails_call, finds_named, finds_read, gives_call_back, goes_on_with, is_sql, is_too_many, leaves_body, name_of, object_in, returned, returns_uneven, rpc, rpc_arguments, rpc_statement, runs_exec, runs_rpc, runs_sql, tells_returned}
+use Rattle.batch_meaning.specs.Rpc.{binds_call, ending, ends_exec, ends_rpc, ends_rpc_doomed, error_or_full, execs, fails_call, finds_named, finds_read as finds_defined, gives_call_back, goes_on_with, is_sql, is_too_many, leaves_body, name_of, object_in, returned, returns_uneven, rpc, rpc_arguments, rpc_statement, runs_exec, runs_rpc, runs_sql, tells_returned}
 use Rattle.batch_meaning.specs.Progress as step
 use Rattle.batch_meaning.specs.Progress.{SessionProgress, size_of, statement_limit}
 use Rattle.batch_meaning.specs.Raised.{Around, Fired, action_in, around_batch, in_body, in_catch, in_try, is_caught_in, raised_at}
@@ -635,22 +635,22 @@ module _ (call : RpcCall) where
       (carries_still (finds_call around_batch (rpc_statement name (rpc_arguments call)) None name (rpc_arguments call)) (finds_call_still around_batch (rpc_statement name (rpc_arguments call)) None name (rpc_arguments call)))
       (call_yields around_batch (rpc_statement name (rpc_arguments call)) None name (rpc_arguments call))
 
-  binds_still : (procedure : ProcedureTree) → WritesNothing (finds_read call (Some procedure))
+  binds_still : (procedure : ProcedureTree) → WritesNothing (finds_defined call (Some procedure))
   unfolding binds_call
   binds_still procedure = only_room AnyStep IsStill _ (only_bind AnyStep IsStill (reads λ p. comes_to (bound_over [] p.vars (rpc_statement procedure.name (rpc_arguments call)))) _
       (λ p. only_comes AnyStep IsStill (bound_over [] p.vars (rpc_statement procedure.name (rpc_arguments call))))
       (λ of p. only_comes AnyStep IsStill (call_over around_batch None procedure.name (rpc_arguments call) p.vars (Some (Procedure procedure)))))
 
-  binds_yield : (procedure : ProcedureTree) → BodyReadsBack (Procedure procedure) → Yields (Well CallBack) (finds_read call (Some procedure))
+  binds_yield : (procedure : ProcedureTree) → BodyReadsBack (Procedure procedure) → Yields (Well CallBack) (finds_defined call (Some procedure))
   unfolding binds_call
   binds_yield procedure back = yields_room CallBack _ (yields_on CallBack (reads λ p. comes_to (bound_over [] p.vars (rpc_statement procedure.name (rpc_arguments call)))) _
       (λ of p. yields_room CallBack (over (call_over around_batch None procedure.name (rpc_arguments call) p.vars (Some (Procedure procedure)))) (call_back around_batch None procedure.name (rpc_arguments call) p.vars (Some (Procedure procedure)) back)))
 
   read_carry : (read : ReadText) → CallReadsBack read → Carries (runs_sql (λ inner at. mean_of statement_limit inner at) call read)
-  read_carry (text.Statements statements) back = execs_carry (finds_read call None) (over_carries (Err (record { number = no_match; name = None }))) tt
-  read_carry (text.Defines line (Table table) kept) back = execs_carry (finds_read call None) (over_carries (Err (record { number = no_match; name = None }))) tt
-  read_carry (text.Defines line (Procedure procedure) kept) back = execs_carry (finds_read call (Some procedure)) (carries_still (finds_read call (Some procedure)) (binds_still procedure)) (binds_yield procedure back)
-  read_carry (text.Defines line (Trigger trigger) kept) back = execs_carry (finds_read call None) (over_carries (Err (record { number = no_match; name = None }))) tt
+  read_carry (text.Statements statements) back = execs_carry (finds_defined call None) (over_carries (Err (record { number = no_match; name = None }))) tt
+  read_carry (text.Defines line (Table table) kept) back = execs_carry (finds_defined call None) (over_carries (Err (record { number = no_match; name = None }))) tt
+  read_carry (text.Defines line (Procedure procedure) kept) back = execs_carry (finds_defined call (Some procedure)) (carries_still (finds_defined call (Some procedure)) (binds_still procedure)) (binds_yield procedure back)
+  read_carry (text.Defines line (Trigger trigger) kept) back = execs_carry (finds_defined call None) (over_carries (Err (record { number = no_match; name = None }))) tt
   read_carry (text.Refused line code near) back = carries_still (runs_text (text.Refused line code near)) (tt, tt)
 
 rpc_ends_still : (exit : Exit) → WritesNothing (ends_rpc exit)

@@ -11,7 +11,7 @@ use Rattle.step_model.specs.Runs.{Asked, Run, mine_of, opening}
 use Rattle.step_model.specs.State.{Engine}
 use Rattle.rpc_requests.specs.declared.call.RpcCall.{RpcCall}
 use Rattle.batch_meaning.specs.declared.form.ReadText.{ReadText}
-use Rattle.batch_meaning.specs.Doing.{Held, Left}
+use Rattle.batch_meaning.specs.Doing.{Doing, Held, Left}
 use Rattle.batch_meaning.specs.Meaning.{batch, rolls_back_open}
 use Rattle.batch_meaning.specs.Progress.{SessionProgress}
 use Rattle.batch_meaning.specs.Rpc.{rpc}
