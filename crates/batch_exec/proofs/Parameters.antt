@@ -49,7 +49,6 @@ module _ {B : Type 0} (make : ℕ → List RpcParameter → List B) (one : ℕ �
 
 -- ---- its variables
 
-
 -- a parameter that is declared, as that of a procedure
 abbrev pub parameter_at : ℕ → RpcParameter → Parameter
 parameter_at place parameter = record { name = variable_at place; kind = parameter.kind; output = parameter.output }

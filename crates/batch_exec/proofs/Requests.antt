@@ -20,7 +20,7 @@ use Rattle.batch_meaning.specs.Calls.{Call}
 use Rattle.batch_meaning.specs.Meaning.{Meaning}
 use Rattle.batch_meaning.specs.Rpc.{defined_in, execs, fails_call, finds_read, gives_call_back, goes_on_with, leaves_body, runs_exec, runs_sql}
 use Rattle.batch_meaning.proofs.Composed.{does_makes, does_over, does_then}
-use Rattle.batch_exec.specs.Running.{returned_with}
+use Rattle.batch_exec.specs.Running.{procedure_in, returned_with}
 
 -- ---- how its body was left
 
@@ -58,26 +58,16 @@ module _ (call : RpcCall) (of : Call) (count : ℕ) (inner : List Variable) wher
 
 -- ---- its text
 
--- what was read for sp_executesql defines a procedure, or nothing that can be called
+-- what a text defines is a procedure, or nothing that can be called
+pub defines_in : (line : ℤ) (of : Definition) (units : List ℕ) → defined_in (text.Defines line of units) ≡ procedure_in (Some of)
+defines_in line (Table table) units = refl
+defines_in line (Procedure procedure) units = refl
+defines_in line (Trigger trigger) units = refl
+
 module _ (one : Statement → Meaning) (call : RpcCall) {before after : PortPast} {p new : SessionProgress} {result : Result Exit Memory} where
-  pub does_defined_sql : (read : ReadText) (procedure : ProcedureTree) → defined_in read ≡ Some procedure → Did before after (execs one call (finds_read call (Some procedure))) p result new → Did before after (runs_sql one call read) p result new
-  does_defined_sql read procedure is did = by_read read is
-    where
-      onward : (found : Option ProcedureTree) → found ≡ Some procedure → Did before after (execs one call (finds_read call found)) p result new
-      onward found same = subst (λ (f : Option ProcedureTree). Did before after (execs one call (finds_read call f)) p result new) (sym same) did
+  pub does_defined_sql : (line : ℤ) (of : Definition) (units : List ℕ) → Did before after (execs one call (finds_read call (procedure_in (Some of)))) p result new → Did before after (runs_sql one call (text.Defines line of units)) p result new
+  does_defined_sql line of units did = subst (λ (found : Option ProcedureTree). Did before after (execs one call (finds_read call found)) p result new) (sym (defines_in line of units)) did
 
-      by_read : (r : ReadText) → defined_in r ≡ Some procedure → Did before after (runs_sql one call r) p result new
-      by_read (text.Statements statements) so = absurd (let no : None ≡ Some procedure = so in cc)
-      by_read (text.Defines line definition units) so = onward (defined_in (text.Defines line definition units)) so
-      by_read (text.Refused line code near) so = absurd (let no : None ≡ Some procedure = so in cc)
-
-  unmatched : Did before after (fails_call (plain 49012)) p result new → Did before after (execs one call (finds_read call None)) p result new
-  unmatched did = does_then _ _ (does_over refl) did
-
-  pub does_undefined_sql : (read : ReadText) → ((line : ℤ) (code : ℕ) (near : List ℕ) → read ≡ text.Refused line code near → ⊥) → ((line : ℤ) (procedure : ProcedureTree) (units : List ℕ) → read ≡ text.Defines line (Procedure procedure) units → ⊥)
-      → Did before after (fails_call (plain 49012)) p result new → Did before after (runs_sql one call read) p result new
-  does_undefined_sql (text.Statements statements) refused defined did = unmatched did
-  does_undefined_sql (text.Defines line (Table table) units) refused defined did = unmatched did
-  does_undefined_sql (text.Defines line (Procedure procedure) units) refused defined did = absurd (defined line procedure units refl)
-  does_undefined_sql (text.Defines line (Trigger trigger) units) refused defined did = unmatched did
-  does_undefined_sql (text.Refused line code near) refused defined did = absurd (refused line code near refl)
+  -- there is none
+  pub does_unmatched : Did before after (fails_call (plain 49012)) p result new → Did before after (execs one call (finds_read call None)) p result new
+  does_unmatched did = does_then _ _ (does_over refl) did

@@ -146,7 +146,7 @@ fn takes_standing(takes: Option<&Units>, vars: &Vars) -> bool
 }
 
 /// What was found under a name, if it is a procedure.
-fn procedure_in(found: Option<Definition>) -> Option<ProcedureTree>
+pub(crate) fn procedure_in(found: Option<Definition>) -> Option<ProcedureTree>
     ensures { result ≡ procedure_in found }
 {
     match found {

@@ -2,6 +2,7 @@
 
 ghost use Rattle.std.specs.Prelude.{◌≡◌, ◌+◌, ◌<◌, ◌≤◌, ◌++◌, ◌∷◌, ℕ, List, [], All, IfOk, None, Some, drop, false, length, map};
 ghost use Rattle.std.specs.List.{enumerate_from};
+ghost use Rattle.std.specs.Option.{option_and_then};
 ghost use Rattle.value_types.specs.declared.value.Value.{Value as Of};
 ghost use Rattle.session_state.specs.Sendable.{IsFit};
 ghost use Rattle.batch_meaning.specs.Doing.{Did};
@@ -9,10 +10,10 @@ ghost use Rattle.batch_meaning.specs.Meaning.{ended_by, mean_of, uneven_with};
 ghost use Rattle.batch_meaning.specs.Progress.{Ready, statement_limit};
 ghost use Rattle.batch_meaning.specs.Rpc.{bare_name, ending, ends_exec, error_or_full, execs, fails_call, finds_named, finds_read, gives_call_back, goes_on_with, is_sql, is_too_many, leaves_body, name_given, name_of, object_in, return_value, return_values, rpc, rpc_argument, rpc_arguments, rpc_statement, rpc_var, rpc_vars, runs_exec, runs_rpc, runs_sql, tells_returned};
 ghost use Rattle.rpc_requests.specs.Fit.{IsParameter};
-ghost use Rattle.batch_exec.specs.Running.{AreTyped, arguments_from, arguments_in, arguments_of_placed, values_told};
+ghost use Rattle.batch_exec.specs.Running.{AreTyped, arguments_from, arguments_in, arguments_of_placed, procedure_in, values_told};
 
 use crate::batch::{end, refusal, refuse};
-use crate::calls::{Call, call_over, call_vars, find_call};
+use crate::calls::{Call, call_over, call_vars, find_call, procedure_in};
 use crate::errors::end_by;
 use crate::returning::{CallEnd, given_back, is_even, returned_with};
 use crate::running::run_body;
@@ -261,10 +262,29 @@ fn run_sql<P: Port>(
             let failure = refusal(alloc, code, &near)?;
             refuse(alloc, session, line, &failure)
         }
-        ReadText::Defines(_, Definition::Procedure(procedure), _) => {
-            run_read(alloc, session, port, call, procedure)
-        }
-        _ => fail_call(alloc, session, port, &Failure::plain(NO_MATCH)),
+        ReadText::Defines(_, of, _) => run_defined(alloc, session, port, call, of),
+        ReadText::Statements(_) => { fail_call(alloc, session, port, &Failure::plain(NO_MATCH)) }
+    }
+}
+
+/// What was read for it: a procedure, or nothing that can be called.
+fn run_defined<P: Port>(
+    alloc: Global,
+    session: &mut SessionState,
+    port: &mut P,
+    call: &RpcCall,
+    of: Definition,
+) -> Result<Exit, Memory>
+    requires ready { Ready session.old (P.past port.old) }
+    requires left { session.old.statements_left ≤ statement_limit }
+    requires fits { All IsParameter call.now.parameters }
+    requires few { is_too_many call.now ≡ false }
+    ensures does { Did (P.past port.old) (P.past port.new) (execs (λ inner at. mean_of statement_limit inner at) call.now (finds_read call.now (procedure_in (Some of)))) session.old result session.new }
+    ensures ready { Ready session.new (P.past port.new) }
+{
+    match procedure_in(Some(of)) {
+        Some(procedure) => run_read(alloc, session, port, call, procedure),
+        None => fail_call(alloc, session, port, &Failure::plain(NO_MATCH)),
     }
 }
 
@@ -328,8 +348,18 @@ fn object_in(read: ReadText) -> Option<Units>
     ensures { result ≡ object_in read }
 {
     match read {
-        ReadText::Defines(_, Definition::Procedure(procedure), _) => bare_name(procedure),
+        ReadText::Defines(_, of, _) => bare_in(of),
         _ => None,
+    }
+}
+
+/// That of a definition.
+fn bare_in(of: Definition) -> Option<Units>
+    ensures { result ≡ option_and_then bare_name (procedure_in (Some of)) }
+{
+    match procedure_in(Some(of)) {
+        Some(procedure) => bare_name(procedure),
+        None => None,
     }
 }
 
@@ -410,8 +440,9 @@ fn run_found<P: Port>(
     let inside = around.in_body(&procedure.name, None);
     let body = procedure.body.as_slice();
     let (exit, inner) = run_body(alloc, session, port, vars, settings, body, &inside)?;
+    let takes = None;
     let end = CallEnd {
-        takes: None,
+        takes,
         arguments,
         procedure: &procedure,
         inner: &inner,
