@@ -498,7 +498,7 @@ module _ (error : LockError) where
   clean_ends_exec call count status = λ p q. clean_if error (LeavesOther error) (q.txn.count == count) (tells_returned (pos 0) (returned call p.vars status) (over On)) (returns_uneven (returned call p.vars status) raised (action_in around_batch q.settings.xact_abort raised))
       (clean_tells_returned (pos 0) (returned call p.vars status) (over On) (tt, values_none p.vars (placed_in call)) tt)
       (clean_tells_returned raised.number _ (ended_by (action_in around_batch q.settings.xact_abort raised))
-        (uneven_none (action_in around_batch q.settings.xact_abort raised) (returned call p.vars status) raised (tt, values_none p.vars (placed_in call)) (usual_other error (pos 266) refl)) (clean_ends (action_in around_batch q.settings.xact_abort raised)))
+      (uneven_none (action_in around_batch q.settings.xact_abort raised) (returned call p.vars status) raised (tt, values_none p.vars (placed_in call)) (usual_other error (pos 266) refl)) (clean_ends (action_in around_batch q.settings.xact_abort raised)))
     where
       raised : Raised
       raised = raised_at (pos 1) (plain uneven)
@@ -550,7 +550,7 @@ module _ (error : LockError) where
   unfolding runs_rpc
   clean_rpc call read usual = clean_if error (LeavesOther error) (is_too_many call) (fails_call (plain outside_limits)) _ (clean_fails_call (plain outside_limits) (usual_other error (pos 49007) refl))
       (clean_if error (LeavesOther error) (is_sql call.target) (runs_sql (λ inner at. mean_of statement_limit inner at) call read) (execs (λ inner at. mean_of statement_limit inner at) call (finds_named call (object_in read)))
-        (clean_sql call read usual) (clean_execs call (finds_named call (object_in read)) (clean_named call (object_in read))))
+      (clean_sql call read usual) (clean_execs call (finds_named call (object_in read)) (clean_named call (object_in read))))
 
   clean_rpc_end : (exit : Exit) → Plainly error (ends_rpc exit)
   unfolding ends_rpc ends_rpc_doomed
