@@ -18,7 +18,9 @@ use Rattle.batch_meaning.specs.Progress.{SessionProgress, made, tells_rows}
 use Rattle.batch_meaning.specs.Doing.{Did, Doing, makes, over, ◌then◌}
 use Rattle.batch_meaning.specs.Calls.{Call}
 use Rattle.batch_meaning.specs.Meaning.{Meaning}
-use Rattle.batch_meaning.specs.Rpc.{defined_in, execs, fails_call, finds_read, gives_call_back, goes_on_with, leaves_body, runs_exec, runs_sql}
+use Rattle.batch_meaning.specs.Rpc.{binds_call, defined_in, execs, fails_call, finds_read, gives_call_back, goes_on_with, leaves_body, rpc_arguments, rpc_statement, runs_exec, runs_sql}
+use Rattle.batch_meaning.specs.Values.{outside_limits}
+use Rattle.batch_meaning.specs.Writes.{is_odd_procedure}
 use Rattle.batch_meaning.proofs.Composed.{does_makes, does_over, does_then}
 use Rattle.batch_exec.specs.Running.{procedure_in, returned_with}
 
@@ -71,3 +73,13 @@ module _ (one : Statement → Meaning) (call : RpcCall) {before after : PortPast
   -- there is none
   pub does_unmatched : Did before after (fails_call (plain 49012)) p result new → Did before after (execs one call (finds_read call None)) p result new
   does_unmatched did = does_then _ _ (does_over refl) did
+
+  -- it is outside the limits of a procedure
+  pub does_outside : (procedure : ProcedureTree) → is_odd_procedure procedure ≡ true → Did before after (fails_call (plain 49007)) p result new → Did before after (execs one call (finds_read call (Some procedure))) p result new
+  does_outside procedure is did = subst (λ (odd : Bool). Did before after (execs one call (if odd then over (Err (plain outside_limits)) else binds_call (rpc_statement procedure.name (rpc_arguments call)) (rpc_arguments call) procedure)) p result new) (sym is)
+      (does_then _ _ (does_over refl) did)
+
+  -- it is within
+  pub does_within : (procedure : ProcedureTree) → is_odd_procedure procedure ≡ false → Did before after (execs one call (binds_call (rpc_statement procedure.name (rpc_arguments call)) (rpc_arguments call) procedure)) p result new
+      → Did before after (execs one call (finds_read call (Some procedure))) p result new
+  does_within procedure is did = subst (λ (odd : Bool). Did before after (execs one call (if odd then over (Err (plain outside_limits)) else binds_call (rpc_statement procedure.name (rpc_arguments call)) (rpc_arguments call) procedure)) p result new) (sym is) did

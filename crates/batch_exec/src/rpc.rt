@@ -8,7 +8,7 @@ ghost use Rattle.session_state.specs.Sendable.{IsFit};
 ghost use Rattle.batch_meaning.specs.Doing.{Did};
 ghost use Rattle.batch_meaning.specs.Meaning.{ended_by, mean_of, uneven_with};
 ghost use Rattle.batch_meaning.specs.Progress.{Ready, statement_limit};
-ghost use Rattle.batch_meaning.specs.Rpc.{bare_name, ending, ends_exec, error_or_full, execs, fails_call, finds_named, finds_read, gives_call_back, goes_on_with, is_sql, is_too_many, leaves_body, name_given, name_of, object_in, return_value, return_values, rpc, rpc_argument, rpc_arguments, rpc_statement, rpc_var, rpc_vars, runs_exec, runs_rpc, runs_sql, tells_returned};
+ghost use Rattle.batch_meaning.specs.Rpc.{bare_name, binds_call, ending, ends_exec, error_or_full, execs, fails_call, finds_named, finds_read, gives_call_back, goes_on_with, is_sql, is_too_many, leaves_body, name_given, name_of, object_in, return_value, return_values, rpc, rpc_argument, rpc_arguments, rpc_statement, rpc_var, rpc_vars, runs_exec, runs_rpc, runs_sql, tells_returned};
 ghost use Rattle.rpc_requests.specs.Fit.{IsParameter};
 ghost use Rattle.batch_exec.specs.Running.{AreTyped, arguments_from, arguments_in, arguments_of_placed, procedure_in, values_told};
 
@@ -27,6 +27,7 @@ use session_state::{
 };
 use session_vars::Vars;
 use sqlite_items::{Boxed, Items};
+use statement_exec::is_odd_procedure;
 use std::alloc::Global;
 use step_model::Port;
 use tds_tokens::{DoneKind, Token};
@@ -288,7 +289,7 @@ fn run_defined<P: Port>(
     }
 }
 
-/// A procedure that was read.
+/// A procedure that was read, which is held to the limits of one that is created.
 fn run_read<P: Port>(
     alloc: Global,
     session: &mut SessionState,
@@ -301,6 +302,28 @@ fn run_read<P: Port>(
     requires fits { All IsParameter call.now.parameters }
     requires few { is_too_many call.now ≡ false }
     ensures does { Did (P.past port.old) (P.past port.new) (execs (λ inner at. mean_of statement_limit inner at) call.now (finds_read call.now (Some procedure))) session.old result session.new }
+    ensures ready { Ready session.new (P.past port.new) }
+{
+    if is_odd_procedure(&procedure) {
+        let failure = Failure::plain(OUTSIDE_LIMITS);
+        return fail_call(alloc, session, port, &failure);
+    }
+    run_within(alloc, session, port, call, procedure)
+}
+
+/// One within the limits.
+fn run_within<P: Port>(
+    alloc: Global,
+    session: &mut SessionState,
+    port: &mut P,
+    call: &RpcCall,
+    procedure: ProcedureTree,
+) -> Result<Exit, Memory>
+    requires ready { Ready session.old (P.past port.old) }
+    requires left { session.old.statements_left ≤ statement_limit }
+    requires fits { All IsParameter call.now.parameters }
+    requires few { is_too_many call.now ≡ false }
+    ensures does { Did (P.past port.old) (P.past port.new) (execs (λ inner at. mean_of statement_limit inner at) call.now (binds_call (rpc_statement procedure.name (rpc_arguments call.now)) (rpc_arguments call.now) procedure)) session.old result session.new }
     ensures ready { Ready session.new (P.past port.new) }
 {
     let name = procedure.name.copy(alloc)?;

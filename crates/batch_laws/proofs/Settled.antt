@@ -66,7 +66,7 @@ use Rattle.batch_meaning.specs.Tokens.{batch_done, command_of, done_kind, proced
 use Rattle.batch_meaning.specs.Transactions.{begins_transaction, bound_first, commits_transaction, rolls_back_transaction, saves_transaction}
 use Rattle.batch_meaning.specs.Values.{Assigned, is_message, outside_limits}
 use Rattle.batch_meaning.specs.Working.{asks_any, binds, closes, composes, composes_bound, known_by, leaves, own, prepares, relaxes, status_bound, statuses, tests, tests_bound, within, works, works_bound}
-use Rattle.batch_meaning.specs.Writes.{Written, change_bound, creates, creates_definition, creates_table, drops, is_odd_list, unless_objects}
+use Rattle.batch_meaning.specs.Writes.{Written, change_bound, creates, creates_definition, creates_table, drops, is_odd_list, is_odd_procedure, unless_objects}
 use Rattle.statement_paths.specs.Paths.{IsEntered, IsFired, changes_of, is_write}
 use Rattle.statement_paths.proofs.Only.{AnyOp, Only, held_keeps, only_bind, only_comes, only_if, only_mono, only_naming}
 use Rattle.statement_paths.proofs.Apart.{held_apart}
@@ -934,9 +934,9 @@ module _ (p0 : SessionProgress) (call : RpcCall) where
   read_settles : (procedure : Option ProcedureTree) → Settles (finds_read call procedure)
   unfolding binds_call
   read_settles None = over_settles (Err (record { number = no_match; name = None }))
-  read_settles (Some procedure) = room_settles _ (bind_settles (reads λ p. comes_to (bound_over [] p.vars (rpc_statement procedure.name (rpc_arguments call)))) _
+  read_settles (Some procedure) = if_settles (is_odd_procedure procedure) (over (Err (plain outside_limits))) _ (over_settles (Err (plain outside_limits))) (room_settles _ (bind_settles (reads λ p. comes_to (bound_over [] p.vars (rpc_statement procedure.name (rpc_arguments call)))) _
       (calm_settles (reads λ p. comes_to (bound_over [] p.vars (rpc_statement procedure.name (rpc_arguments call)))) (λ p. only_comes IsSteadyStep IsInside (bound_over [] p.vars (rpc_statement procedure.name (rpc_arguments call)))))
-      (λ of. calm_settles (reads λ p. comes_to (call_over around_batch None procedure.name (rpc_arguments call) p.vars (Some (Procedure procedure)))) (λ p. only_comes IsSteadyStep IsInside (call_over around_batch None procedure.name (rpc_arguments call) p.vars (Some (Procedure procedure))))))
+      (λ of. calm_settles (reads λ p. comes_to (call_over around_batch None procedure.name (rpc_arguments call) p.vars (Some (Procedure procedure)))) (λ p. only_comes IsSteadyStep IsInside (call_over around_batch None procedure.name (rpc_arguments call) p.vars (Some (Procedure procedure)))))))
 
   sql_settles : (read : ReadText) → Settles (runs_sql (λ inner at. mean_of statement_limit inner at) call read)
   sql_settles (text.Statements statements) = execs_settle (finds_read call None) (read_settles None)

@@ -39,6 +39,7 @@ use Rattle.batch_meaning.specs.Progress.{SessionProgress, begins, counts, sends,
 use Rattle.batch_meaning.specs.Doing.{Doing, over, reads, makes, ◌then◌}
 use Rattle.batch_meaning.specs.Selecting.{bound_over, result_full}
 use Rattle.batch_meaning.specs.Values.{outside_limits}
+use Rattle.batch_meaning.specs.Writes.{is_odd_procedure}
 use Rattle.batch_meaning.specs.Asking.{◌>>=◌, assigns_all, comes_to, fails_naming, with_room}
 use Rattle.batch_meaning.specs.Calls.{Call, call_over, call_vars, finds_call, given_back, no_procedure, uneven}
 use Rattle.batch_meaning.specs.Meaning.{Meaning, ended_by, mean_of, rolls_back_doomed, runs_body, runs_text, tells_end, uneven_with}
@@ -237,6 +238,10 @@ binds_call statement arguments procedure = with_room (do
   of ← (reads λ p. comes_to (bound_over [] p.vars statement))
   reads λ p. comes_to (call_over around_batch None procedure.name arguments p.vars (Some (Procedure procedure))))
 
+-- and is held to the limits of one that is created
+abbrev pub binds_within : Statement → List Argument → ProcedureTree → Doing (Result Call Failure)
+binds_within statement arguments procedure = if is_odd_procedure procedure then over (Err (plain outside_limits)) else binds_call statement arguments procedure
+
 -- the procedure of a name is looked up and bound as by an EXEC
 abbrev pub finds_named : RpcCall → Option (List ℕ) → Doing (Result Call Failure)
 finds_named call None = fails_naming no_procedure (name_of call.target)
@@ -245,7 +250,7 @@ finds_named call (Some name) = finds_call around_batch (rpc_statement name (rpc_
 -- that of sp_executesql is what was read
 abbrev pub finds_read : RpcCall → Option ProcedureTree → Doing (Result Call Failure)
 finds_read call None = over (Err (record { number = no_match; name = None }))
-finds_read call (Some procedure) = binds_call (rpc_statement procedure.name (rpc_arguments call)) (rpc_arguments call) procedure
+finds_read call (Some procedure) = binds_within (rpc_statement procedure.name (rpc_arguments call)) (rpc_arguments call) procedure
 
 -- by the meaning of the statements of its procedure
 module _ (one : Statement → Meaning) where

@@ -52,7 +52,7 @@ use Rattle.batch_meaning.specs.Tokens.{batch_done, command_of, done_kind, proced
 use Rattle.batch_meaning.specs.Transactions.{begins_transaction, commits_transaction, rolls_back_transaction, saves_transaction}
 use Rattle.batch_meaning.specs.Values.{Assigned, is_message, outside_limits}
 use Rattle.batch_meaning.specs.Working.{asks_any, binds, composes, enters, known_by, leaves, relaxes, statuses, tests, works}
-use Rattle.batch_meaning.specs.Writes.{Written, change_bound, creates_definition, creates_table, drops}
+use Rattle.batch_meaning.specs.Writes.{Written, change_bound, creates_definition, creates_table, drops, is_odd_procedure}
 use Rattle.cause_laws.specs.Causes.{BatchCauses, CallCauses, CaughtOther, LockError, IsOther, LeavesOther, StatementCauses, TellsNone}
 use Rattle.cause_laws.proofs.UsualValues.{Anything, RefusedUsual, UsualOr, assigned_usual, call_usual, option_usual, read_usual}
 use Rattle.cause_laws.proofs.Clean.{Clean, OtherOr, clean_bind, clean_comes, clean_done, clean_ended, clean_if, clean_naming, clean_room, clean_then, held_clean, usual_other}
@@ -538,8 +538,8 @@ module _ (error : LockError) where
   clean_read : (call : RpcCall) (procedure : Option ProcedureTree) → Clean error (OtherOr error {A = Call} Anything) (finds_read call procedure)
   unfolding binds_call
   clean_read call None = usual_other error (pos 49012) refl
-  clean_read call (Some procedure) = clean_room error {A = Call} Anything _ (clean_bind error {A = Bound} {B = Call} Anything Anything (reads λ p. comes_to (bound_over [] p.vars (rpc_statement procedure.name (rpc_arguments call)))) _ (clean_bound error [] (rpc_statement procedure.name (rpc_arguments call)))
-      (λ of some p. clean_comes error {A = Call} Anything (call_over around_batch None procedure.name (rpc_arguments call) p.vars (Some (Procedure procedure))) (call_usual around_batch None procedure.name (rpc_arguments call) p.vars (Some (Procedure procedure)))))
+  clean_read call (Some procedure) = clean_if error (OtherOr error {A = Call} Anything) (is_odd_procedure procedure) (over (Err (plain outside_limits))) _ (usual_other error (pos 49007) refl) (clean_room error {A = Call} Anything _ (clean_bind error {A = Bound} {B = Call} Anything Anything (reads λ p. comes_to (bound_over [] p.vars (rpc_statement procedure.name (rpc_arguments call)))) _ (clean_bound error [] (rpc_statement procedure.name (rpc_arguments call)))
+      (λ of some p. clean_comes error {A = Call} Anything (call_over around_batch None procedure.name (rpc_arguments call) p.vars (Some (Procedure procedure))) (call_usual around_batch None procedure.name (rpc_arguments call) p.vars (Some (Procedure procedure))))))
 
   clean_sql : (call : RpcCall) (read : ReadText) → RefusedUsual read → Exits (runs_sql (λ inner at. mean_of statement_limit inner at) call read)
   clean_sql call (text.Statements statements) usual = clean_execs call (finds_read call None) (clean_read call None)

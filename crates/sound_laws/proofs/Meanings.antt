@@ -56,7 +56,7 @@ use Rattle.batch_meaning.specs.Tokens.{done_kind, procedure_done, transaction_be
 use Rattle.batch_meaning.specs.Transactions.{begins_outermost, begins_over, begins_transaction, commits_by, commits_transaction, goes_back, next_serial, nothing_open, rolls_back_to, rolls_back_transaction, rolls_back_whole, saves_transaction, saves_unless, unless_own}
 use Rattle.batch_meaning.specs.Values.{is_message, outside_limits}
 use Rattle.batch_meaning.specs.Working.{asks_any, binds, composes, enters, known_by, leaves, own, relaxes, statuses, tests, works}
-use Rattle.batch_meaning.specs.Writes.{Written, change_bound, creates_definition, creates_table, drops}
+use Rattle.batch_meaning.specs.Writes.{Written, change_bound, creates_definition, creates_table, drops, is_odd_procedure}
 use Rattle.statement_paths.proofs.Looking.{finds_read}
 use Rattle.statement_paths.proofs.Only.{AnyStep, only_bind, only_comes, only_if, only_naming, only_room, only_then}
 use Rattle.sound_laws.specs.Laws.{BatchSound, CallSound, RollbackSound, StatementSound}
@@ -637,14 +637,21 @@ module _ (call : RpcCall) where
 
   binds_still : (procedure : ProcedureTree) → WritesNothing (finds_defined call (Some procedure))
   unfolding binds_call
-  binds_still procedure = only_room AnyStep IsStill _ (only_bind AnyStep IsStill (reads λ p. comes_to (bound_over [] p.vars (rpc_statement procedure.name (rpc_arguments call)))) _
+  binds_still procedure = only_if AnyStep IsStill (is_odd_procedure procedure) (over (Err (plain outside_limits))) _ tt (only_room AnyStep IsStill _ (only_bind AnyStep IsStill (reads λ p. comes_to (bound_over [] p.vars (rpc_statement procedure.name (rpc_arguments call)))) _
       (λ p. only_comes AnyStep IsStill (bound_over [] p.vars (rpc_statement procedure.name (rpc_arguments call))))
-      (λ of p. only_comes AnyStep IsStill (call_over around_batch None procedure.name (rpc_arguments call) p.vars (Some (Procedure procedure)))))
+      (λ of p. only_comes AnyStep IsStill (call_over around_batch None procedure.name (rpc_arguments call) p.vars (Some (Procedure procedure))))))
 
   binds_yield : (procedure : ProcedureTree) → BodyReadsBack (Procedure procedure) → Yields (Well CallBack) (finds_defined call (Some procedure))
   unfolding binds_call
-  binds_yield procedure back = yields_room CallBack _ (yields_on CallBack (reads λ p. comes_to (bound_over [] p.vars (rpc_statement procedure.name (rpc_arguments call)))) _
-      (λ of p. yields_room CallBack (over (call_over around_batch None procedure.name (rpc_arguments call) p.vars (Some (Procedure procedure)))) (call_back around_batch None procedure.name (rpc_arguments call) p.vars (Some (Procedure procedure)) back)))
+  binds_yield procedure back = by_limits (is_odd_procedure procedure)
+    where
+      within : Yields (Well CallBack) (binds_call (rpc_statement procedure.name (rpc_arguments call)) (rpc_arguments call) procedure)
+      within = yields_room CallBack _ (yields_on CallBack (reads λ p. comes_to (bound_over [] p.vars (rpc_statement procedure.name (rpc_arguments call)))) _
+          (λ of p. yields_room CallBack (over (call_over around_batch None procedure.name (rpc_arguments call) p.vars (Some (Procedure procedure)))) (call_back around_batch None procedure.name (rpc_arguments call) p.vars (Some (Procedure procedure)) back)))
+
+      by_limits : (odd : Bool) → Yields (Well CallBack) (if odd then over (Err (plain outside_limits)) else binds_call (rpc_statement procedure.name (rpc_arguments call)) (rpc_arguments call) procedure)
+      by_limits true = tt
+      by_limits false = within
 
   read_carry : (read : ReadText) → CallReadsBack read → Carries (runs_sql (λ inner at. mean_of statement_limit inner at) call read)
   read_carry (text.Statements statements) back = execs_carry (finds_defined call None) (over_carries (Err (record { number = no_match; name = None }))) tt

@@ -1,15 +1,9 @@
-use Rattle.std.proofs.Common.{refl}
-use Rattle.batch_meaning.specs.Rpc.{binds_call}
-use Rattle.batch_meaning.proofs.Composed.{does_out, does_room, does_then}
-use Rattle.batch_exec.proofs.Called.{does_bound_call}
+use Rattle.std.proofs.Common.{sym}
+use Rattle.batch_exec.proofs.Requests.{does_outside, does_within}
 use Rattle.batch_exec.proofs.rpc.run_read.Goals as goal
 
-pub returns-in_err-name-clause-does : goal.returns-in_err-name-clause-does
-returns-in_err-name-clause-does g c = does_out _ c.from_residual.ensures.0 refl
+pub returns-then-is_odd_procedure-clause-does : goal.returns-then-is_odd_procedure-clause-does
+returns-then-is_odd_procedure-clause-does g c = does_outside _ _ _ (sym c.if-is_odd_procedure.ensures) (rw c.plain-failure.ensures at c.fail_call.ensures.does)
 
-pub returns-in_err-statement-clause-does : goal.returns-in_err-statement-clause-does
-returns-in_err-statement-clause-does g c = does_out _ c.from_residual-in_err-statement.ensures.0 refl
-
-pub returns-clause-does : goal.returns-clause-does
-unfolding binds_call
-returns-clause-does g c = does_then _ _ (does_room true (does_bound_call _ _ _ _ _ _ _ (rw (c.arguments_in-arguments.ensures, c.in_ok-statement.ensures, c.in_ok-name.ensures, c.batch-around.ensures) at c.call_over-bound.ensures.came))) c.run_exec.ensures.does
+pub returns-else-is_odd_procedure-clause-does : goal.returns-else-is_odd_procedure-clause-does
+returns-else-is_odd_procedure-clause-does g c = does_within _ _ _ (sym c.if-is_odd_procedure.ensures) c.run_within.ensures.does

@@ -1,0 +1,15 @@
+use Rattle.std.proofs.Common.{refl}
+use Rattle.batch_meaning.specs.Rpc.{binds_call}
+use Rattle.batch_meaning.proofs.Composed.{does_out, does_room, does_then}
+use Rattle.batch_exec.proofs.Called.{does_bound_call}
+use Rattle.batch_exec.proofs.rpc.run_within.Goals as goal
+
+pub returns-in_err-name-clause-does : goal.returns-in_err-name-clause-does
+returns-in_err-name-clause-does g c = does_out _ c.from_residual.ensures.0 refl
+
+pub returns-in_err-statement-clause-does : goal.returns-in_err-statement-clause-does
+returns-in_err-statement-clause-does g c = does_out _ c.from_residual-in_err-statement.ensures.0 refl
+
+pub returns-clause-does : goal.returns-clause-does
+unfolding binds_call
+returns-clause-does g c = does_then _ _ (does_room true (does_bound_call _ _ _ _ _ _ _ (rw (c.arguments_in-arguments.ensures, c.in_ok-statement.ensures, c.in_ok-name.ensures, c.batch-around.ensures) at c.call_over-bound.ensures.came))) c.run_exec.ensures.does
