@@ -8,7 +8,7 @@ ghost use Rattle.session_state.specs.Sendable.{IsFit};
 ghost use Rattle.batch_meaning.specs.Doing.{Did};
 ghost use Rattle.batch_meaning.specs.Meaning.{ended_by, mean_of, uneven_with};
 ghost use Rattle.batch_meaning.specs.Progress.{Ready, statement_limit};
-ghost use Rattle.batch_meaning.specs.Rpc.{bare_name, binds_call, ending, ends_exec, error_or_full, execs, fails_call, finds_named, finds_read, gives_call_back, goes_on_with, is_sql, is_too_many, leaves_body, name_given, name_of, object_in, return_value, return_values, rpc, rpc_argument, rpc_arguments, rpc_statement, rpc_var, rpc_vars, runs_exec, runs_rpc, runs_sql, tells_returned};
+ghost use Rattle.batch_meaning.specs.Rpc.{bare_name, binds_call, ending, ends_exec, error_or_full, execs, fails_call, finds_named, finds_read, gives_call_back, goes_on_with, is_sql, is_too_many, leaves_body, name_given, name_of, object_in, return_value, return_values, rpc, rpc_argument, rpc_arguments, rpc_statement, rpc_var, rpc_vars, runs_exec, runs_rpc, runs_sql, skips, skips_place, tells_returned};
 ghost use Rattle.rpc_requests.specs.Fit.{IsParameter};
 ghost use Rattle.batch_exec.specs.Running.{AreTyped, arguments_from, arguments_in, arguments_of_placed, procedure_in, values_told};
 
@@ -144,6 +144,33 @@ fn behind_two(parameters: &[RpcParameter]) -> &[RpcParameter]
     }
 }
 
+/// Whether a parameter without a name is given behind one that is not: no EXEC has it at its place.
+fn skips_place(call: &RpcCall) -> bool
+    ensures { result ≡ skips_place call.now }
+{
+    let parameters = call.parameters.as_slice();
+    if is_sql(&call.target) {
+        skips(behind_two(parameters))
+    } else {
+        skips(parameters)
+    }
+}
+
+/// The same of the procedure's own parameters.
+fn skips(parameters: &[RpcParameter]) -> bool
+    ensures { result ≡ skips false parameters.now }
+{
+    let mut behind = false;
+    for parameter in parameters {
+        if parameter.missing {
+            behind = true;
+        } else if behind && parameter.name.is_empty() {
+            return true;
+        }
+    }
+    false
+}
+
 /// The arguments of parameters, of which the first stands at this place.
 fn arguments_from(
     alloc: Global,
@@ -234,6 +261,10 @@ fn run_rpc<P: Port>(
 {
     if is_too_many(call) {
         let failure = Failure::plain(OUTSIDE_LIMITS);
+        return fail_call(alloc, session, port, &failure);
+    }
+    if skips_place(call) {
+        let failure = Failure::plain(NO_MATCH);
         return fail_call(alloc, session, port, &failure);
     }
     if is_sql(&call.target) {

@@ -146,6 +146,18 @@ passed_in call = if is_sql call.target then drop 2 (placed_in call) else placed_
 abbrev pub rpc_arguments : RpcCall → List Argument
 rpc_arguments call = map rpc_argument (filter is_given (passed_in call))
 
+-- the parameters of its procedure
+abbrev pub own_parameters : RpcCall → List RpcParameter
+own_parameters call = if is_sql call.target then drop 2 call.parameters else call.parameters
+
+-- one without a name is given behind one that is not: no EXEC has it at its place
+abbrev pub skips : Bool → List RpcParameter → Bool
+skips behind [] = false
+skips behind (parameter ∷ rest) = if parameter.missing then skips true rest else if behind && length parameter.name == 0 then true else skips behind rest
+
+abbrev pub skips_place : RpcCall → Bool
+skips_place call = skips false (own_parameters call)
+
 -- the EXEC of a procedure with these, at line 1
 abbrev pub rpc_statement : List ℕ → List Argument → Statement
 rpc_statement name arguments = roll-Statement (record { line = 1; form = roll-Form (Form-F.Execute None name arguments) })
@@ -269,6 +281,7 @@ module _ (one : Statement → Meaning) where
 
   unfoldable pub runs_rpc : RpcCall → ReadText → Doing Exit
   runs_rpc call read = if is_too_many call then fails_call (plain outside_limits)
+      else if skips_place call then fails_call (plain no_match)
       else if is_sql call.target then runs_sql call read
       else execs call (finds_named call (object_in read))
 
