@@ -1,5 +1,5 @@
--- Own: the laws of connections. A connection asks what its messages mean; here it is said that these are batches, and what
--- follows of it for the log of commits.
+-- Own: the laws of connections. A connection asks what its messages mean; here it is said that these are batches and calls by
+-- RPC, and what follows of it for the log of commits.
 use Rattle.std.specs.Prelude.{◌≡◌, ℕ, List, [], take}
 use Rattle.std.specs.List.{AllByRecursion, flat_map}
 use Rattle.tds_login.specs.declared.config.Config.{Config}

@@ -80,7 +80,7 @@ pub record IsOfBatch (log : List Logged) (place : ℕ) : Type 0 where
   pub ended : exchange.reply ≡ Ended place
   pub one : length (committed_by exchange.op exchange.reply (progress_of (before ++ front))) ≡ 1
 
--- Where each commit from here on is one of a batch, each database is intact if the first is.
+-- Where each commit from here on is one that a connection has asked, each database is intact if the first is.
 abbrev pub LogSound : Type 0
 LogSound = (log : List Logged) (first : ℕ) → Intact (State (take first log)) → ((place : ℕ) → first ≤ place → place < length log → IsOfBatch log place)
     → (place : ℕ) → first ≤ place → place ≤ length log → Intact (State (take place log))
