@@ -164,6 +164,10 @@ rpc_statement name arguments = roll-Statement (record { line = 1; form = roll-Fo
 
 -- ---- its errors
 
+-- the arguments are not those of the procedure
+abbrev pub mismatch : Failure
+mismatch = record { number = no_match; name = None }
+
 -- what an error of the EXEC ends: the call, and the transaction where it ends that
 abbrev pub ending : Action → Action
 ending action.BatchAndTransaction = action.BatchAndTransaction
@@ -261,7 +265,7 @@ finds_named call (Some name) = finds_call around_batch (rpc_statement name (rpc_
 
 -- that of sp_executesql is what was read
 abbrev pub finds_read : RpcCall → Option ProcedureTree → Doing (Result Call Failure)
-finds_read call None = over (Err (record { number = no_match; name = None }))
+finds_read call None = over (Err mismatch)
 finds_read call (Some procedure) = binds_within (rpc_statement procedure.name (rpc_arguments call)) (rpc_arguments call) procedure
 
 -- by the meaning of the statements of its procedure
@@ -281,7 +285,7 @@ module _ (one : Statement → Meaning) where
 
   unfoldable pub runs_rpc : RpcCall → ReadText → Doing Exit
   runs_rpc call read = if is_too_many call then fails_call (plain outside_limits)
-      else if skips_place call then fails_call (plain no_match)
+      else if skips_place call then fails_call mismatch
       else if is_sql call.target then runs_sql call read
       else execs call (finds_named call (object_in read))
 

@@ -2,7 +2,6 @@
 use Rattle.std.proofs.Common.{refl, sym, subst, ℕ, zero, suc, ℤ, pos, List, [], ◌∷◌, Option, Some, None, Bool, true, false, Result, Ok, Err, cond, filter, is_ok, if◌then◌else◌, map, ◌==◌}
 use Rattle.std.specs.Prelude.{◌&&◌, nat_le, nat_lt}
 use Rattle.rpc_requests.specs.declared.call.RpcCall.{RpcCall}
-use Rattle.call_rules.specs.Arguments.{no_match}
 use Rattle.tsql_tree.specs.declared.definition.Definition.{Definition}
 use Rattle.tsql_tree.specs.declared.definition.Definition.TheVariants.{Procedure}
 use Rattle.tsql_tree.specs.declared.definition.ProcedureTree.{ProcedureTree}
@@ -43,7 +42,7 @@ use Rattle.batch_meaning.specs.Doing.{Doing, asks, makes, over, reads, ◌then�
 use Rattle.batch_meaning.specs.Failures.{plain}
 use Rattle.batch_meaning.specs.Firing.{closes_own, ended_in_trigger, doomed_in_trigger, has_mark, in_trigger, leaves_fired, relaxes_then, settles, trigger_end, undone_to}
 use Rattle.batch_meaning.specs.Meaning.{Meaning, batch, branch, calls, caught_as, concluded, concludes, counted, decides, defined, defines_object, does, doomed_write, each_of, effect_of, ended_by, ends, ends_call, ends_doomed, ends_even, ends_uneven, ends_uneven_as, fails_for, fires, gives_back, goes_on, handled, has_failed, is_refused_doomed, leaves_rows, line_of, mean_by, mean_form, mean_of, or_full, raises, raises_again, raises_at, raises_or_tells, returns_from, rolls_back_told, runs_body, runs_call, runs_fired, runs_text, runs_trigger, runs_triggers, sends_some, set_by, sets_option, spends, strikes, succeeds, tells, told_as, told_tokens, told_unless_own, tries, turned, turns, turns_again, uneven_end, uneven_tokens, uneven_with, unless_stopped, vars_in_text, way_of, where_it_fits, writes, writes_in, written, written_in, written_with}
-use Rattle.batch_meaning.specs.Rpc.{Placed, ReadsFor, binds_call, defined_in, ending, ends_exec, ends_rpc, ends_rpc_doomed, error_or_full, execs, fails_call, finds_named, finds_read, gives_call_back, goes_on_with, is_output, is_sql, is_too_many, leaves_body, name_of, object_in, placed_in, return_value, returned, returns_uneven, rpc, rpc_arguments, rpc_statement, rpc_text, rpc_vars, runs_exec, runs_rpc, runs_sql, skips_place, strikes_call, tells_returned}
+use Rattle.batch_meaning.specs.Rpc.{Placed, ReadsFor, binds_call, defined_in, ending, ends_exec, ends_rpc, ends_rpc_doomed, error_or_full, execs, fails_call, finds_named, finds_read, gives_call_back, goes_on_with, is_output, is_sql, is_too_many, leaves_body, name_of, object_in, placed_in, return_value, returned, returns_uneven, rpc, rpc_arguments, rpc_statement, rpc_text, rpc_vars, runs_exec, runs_rpc, runs_sql, skips_place, strikes_call, tells_returned, mismatch}
 use Rattle.batch_meaning.specs.Progress.{SessionProgress, begins, counts, fired_from, fires_from, made, sends, size_of, statement_limit, tells_error, tells_rows}
 use Rattle.batch_meaning.specs.Raised.{Around, again, action_in, around_batch, error_token, in_body, in_catch, in_try, is_caught_in, raised_at, raised_in}
 use Rattle.batch_meaning.specs.Selecting.{Effect, bound_over, messages, no_effect, result_full, sending}
@@ -550,7 +549,7 @@ module _ (error : LockError) where
   clean_rpc : (call : RpcCall) (read : ReadText) → RefusedUsual read → Exits (runs_rpc (λ inner at. mean_of statement_limit inner at) call read)
   unfolding runs_rpc
   clean_rpc call read usual = clean_if error (LeavesOther error) (is_too_many call) (fails_call (plain outside_limits)) _ (clean_fails_call (plain outside_limits) (usual_other error (pos 49007) refl))
-      (clean_if error (LeavesOther error) (skips_place call) (fails_call (plain no_match)) _ (clean_fails_call (plain no_match) (usual_other error (pos 49012) refl))
+      (clean_if error (LeavesOther error) (skips_place call) (fails_call mismatch) _ (clean_fails_call mismatch (usual_other error (pos 49012) refl))
       (clean_if error (LeavesOther error) (is_sql call.target) (runs_sql (λ inner at. mean_of statement_limit inner at) call read) (execs (λ inner at. mean_of statement_limit inner at) call (finds_named call (object_in read)))
       (clean_sql call read usual) (clean_execs call (finds_named call (object_in read)) (clean_named call (object_in read)))))
 

@@ -45,7 +45,7 @@ use Rattle.batch_meaning.specs.Doing.{Doing, asks, makes, over, reads, room, ◌
 use Rattle.batch_meaning.specs.Failures.{naming, plain}
 use Rattle.batch_meaning.specs.Firing.{closes_own, has_mark, in_trigger, leaves_fired, relaxes_then, settles, trigger_end, undone_to}
 use Rattle.batch_meaning.specs.Meaning.{Meaning, batch, branch, calls, caught_as, concluded, concludes, counted, decides, defined, defines_object, does, doomed_write, each_of, effect_of, ended_by, ends, ends_call, ends_doomed, ends_even, ends_uneven, ends_uneven_as, fails_for, fires, gives_back, goes_on, handled, is_refused_doomed, leaves_rows, mean_by, mean_form, mean_of, raises, raises_again, raises_at, raises_or_tells, returns_from, rolls_back_open, rolls_back_told, runs_body, runs_call, runs_fired, runs_text, runs_trigger, runs_triggers, sends_some, set_by, sets_option, spends, strikes, succeeds, tells, tells_behind, told_as, told_unless_own, tries, turned, turns, turns_again, uneven_end, uneven_tokens, unless_stopped, where_it_fits, writes, writes_in, written, written_in, written_with}
-use Rattle.batch_meaning.specs.Rpc.{binds_call, ending, ends_exec, ends_rpc, ends_rpc_doomed, error_or_full, execs, fails_call, finds_named, finds_read as finds_defined, gives_call_back, goes_on_with, is_sql, is_too_many, leaves_body, name_of, object_in, returned, returns_uneven, rpc, rpc_arguments, rpc_statement, runs_exec, runs_rpc, runs_sql, skips_place, tells_returned}
+use Rattle.batch_meaning.specs.Rpc.{binds_call, ending, ends_exec, ends_rpc, ends_rpc_doomed, error_or_full, execs, fails_call, finds_named, finds_read as finds_defined, gives_call_back, goes_on_with, is_sql, is_too_many, leaves_body, name_of, object_in, returned, returns_uneven, rpc, rpc_arguments, rpc_statement, runs_exec, runs_rpc, runs_sql, skips_place, tells_returned, mismatch}
 use Rattle.batch_meaning.specs.Progress as step
 use Rattle.batch_meaning.specs.Progress.{SessionProgress, size_of, statement_limit}
 use Rattle.batch_meaning.specs.Raised.{Around, Fired, action_in, around_batch, in_body, in_catch, in_try, is_caught_in, raised_at}
@@ -670,7 +670,7 @@ pub call_carry : (call : RpcCall) (read : ReadText) → CallReadsBack read → C
 unfolding rpc runs_rpc
 call_carry call read back = carries_makes (step.begins _) _ (carries_makes step.counts _ (carries_then (runs_rpc (λ inner at. mean_of statement_limit inner at) call read) ends_rpc
     (carries_if (is_too_many call) (fails_call (plain outside_limits)) _ (carries_still (fails_call (plain outside_limits)) (fails_call_still (plain outside_limits)))
-    (carries_if (skips_place call) (fails_call (plain no_match)) _ (carries_still (fails_call (plain no_match)) (fails_call_still (plain no_match)))
+    (carries_if (skips_place call) (fails_call mismatch) _ (carries_still (fails_call mismatch) (fails_call_still mismatch))
     (carries_if (is_sql call.target) (runs_sql (λ inner at. mean_of statement_limit inner at) call read) (execs (λ inner at. mean_of statement_limit inner at) call (finds_named call (object_in read))) (read_carry call read back) (named_carry call (object_in read)))))
     (λ exit. carries_still (ends_rpc exit) (rpc_ends_still exit))))
 
