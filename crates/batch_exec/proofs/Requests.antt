@@ -1,28 +1,35 @@
 -- A call by RPC: how its text is taken, and how its procedure is left.
-use Rattle.std.proofs.Common.{◌≡◌, ℕ, ℤ, pos, Bool, true, false, if◌then◌else◌, List, [], ◌∷◌, Option, None, Some, Result, Ok, Err, refl, sym, ap, ◌∙◌, subst}
+use Rattle.std.proofs.Common.{◌≡◌, ℕ, ℤ, pos, Bool, true, false, nat_lt, if◌then◌else◌, List, [], ◌∷◌, Option, None, Some, Result, Ok, Err, refl, sym, ap, ◌∙◌, subst}
+use Rattle.std.specs.Prelude.{IfOk}
 use Rattle.value_types.specs.declared.memory.Memory.{Memory}
 use Rattle.tsql_tree.specs.declared.definition.Definition.{Definition}
 use Rattle.tsql_tree.specs.declared.definition.Definition.TheVariants.{Table, Procedure, Trigger}
 use Rattle.tsql_tree.specs.declared.definition.ProcedureTree.{ProcedureTree}
-use Rattle.tsql_tree.specs.declared.statement.Statement.{Statement}
+use Rattle.tsql_tree.specs.declared.statement.Argument.{Argument}
+use Rattle.tsql_tree.specs.declared.statement.Form.{Form-F, out-Form, out-roll-Form, roll-Form}
+use Rattle.tsql_tree.specs.declared.statement.Statement.{Statement, out-roll-Statement}
 use Rattle.rpc_requests.specs.declared.call.RpcCall.{RpcCall}
 use Rattle.session_vars.specs.declared.Variable.{Variable}
+use Rattle.tds_tokens.specs.declared.token.Token.{Token}
 use Rattle.step_model.specs.Port.{PortPast}
 use Rattle.batch_meaning.specs.declared.exit.Exit.{Exit}
 use Rattle.batch_meaning.specs.declared.exit.Exit.TheVariants.{On, Leave, Again, Return, Raise, RaiseUp, End}
 use Rattle.batch_meaning.specs.declared.failure.Failure.{Failure}
 use Rattle.batch_meaning.specs.declared.form.ReadText.{ReadText}
 use Rattle.batch_meaning.specs.declared.form.ReadText.TheVariants as text
+use Rattle.batch_meaning.specs.declared.raised.Raised.{Raised}
 use Rattle.batch_meaning.specs.Failures.{plain}
-use Rattle.batch_meaning.specs.Progress.{SessionProgress, made, tells_rows}
+use Rattle.batch_meaning.specs.Raised.{error_token, raised_at}
+use Rattle.batch_meaning.specs.Selecting.{result_full}
+use Rattle.batch_meaning.specs.Progress.{SessionProgress, made, size_of, tells_rows}
 use Rattle.batch_meaning.specs.Doing.{Did, Doing, makes, over, ◌then◌}
 use Rattle.batch_meaning.specs.Calls.{Call}
 use Rattle.batch_meaning.specs.Meaning.{Meaning}
-use Rattle.batch_meaning.specs.Rpc.{binds_call, defined_in, execs, fails_call, finds_read, gives_call_back, goes_on_with, leaves_body, rpc_arguments, rpc_statement, runs_exec, runs_sql}
+use Rattle.batch_meaning.specs.Rpc.{binds_call, defined_in, error_or_full, execs, fails_call, finds_read, gives_call_back, goes_on_with, leaves_body, rpc_arguments, rpc_statement, runs_exec, runs_sql}
 use Rattle.batch_meaning.specs.Values.{outside_limits}
 use Rattle.batch_meaning.specs.Writes.{is_odd_procedure}
 use Rattle.batch_meaning.proofs.Composed.{does_makes, does_over, does_then}
-use Rattle.batch_exec.specs.Running.{procedure_in, returned_with}
+use Rattle.batch_exec.specs.Running.{arguments_in, arguments_of, procedure_in, returned_with}
 
 -- ---- how its body was left
 
@@ -57,6 +64,27 @@ module _ (call : RpcCall) (of : Call) (count : ℕ) (inner : List Variable) wher
       by_exit (Raise raised) so = left
       by_exit (RaiseUp raised) so = left
       by_exit End so = left
+
+-- ---- its errors
+
+-- one that fits is told, and of one that doesn't fit that it doesn't
+module _ (p : SessionProgress) (raised : Raised) (tokens : List Token) (are : tokens ≡ error_token raised ∷ []) where
+  by_room : (full : Bool) → full ≡ nat_lt p.bytes_left (size_of tokens) → (if full then raised_at (pos 1) (plain result_full) else raised) ≡ error_or_full p raised
+  by_room full is = ap (λ (b : Bool). if b then raised_at (pos 1) (plain result_full) else raised) (is ∙ ap (λ (ts : List Token). nat_lt p.bytes_left (size_of ts)) are)
+
+  pub is_full : (told : Result Raised Memory) → true ≡ nat_lt p.bytes_left (size_of tokens) → IfOk told (λ other. other ≡ raised_at (pos 1) (plain result_full)) → IfOk told (λ other. other ≡ error_or_full p raised)
+  is_full told full is = subst (λ (r : Raised). IfOk told (λ other. other ≡ r)) (by_room true full) is
+
+  pub has_room : false ≡ nat_lt p.bytes_left (size_of tokens) → raised ≡ error_or_full p raised
+  has_room room = by_room false room
+
+-- ---- its statement
+
+-- its arguments are those that it was made with
+pub called_with : (name : List ℕ) (arguments passed : List Argument) (statement : Statement) → passed ≡ arguments_in statement → statement ≡ rpc_statement name arguments → passed ≡ arguments
+called_with name arguments passed statement are is =
+    are ∙ ap arguments_in is ∙ ap (λ z. arguments_of (out-Form z.form)) (out-roll-Statement (record { line = 1; form = roll-Form (Form-F.Execute None name arguments) }))
+    ∙ ap arguments_of (out-roll-Form (Form-F.Execute None name arguments))
 
 -- ---- its text
 

@@ -1,13 +1,15 @@
 //! A call by RPC, from its beginning to its end.
 
-ghost use Rattle.std.specs.Prelude.{◌≡◌, ◌+◌, ◌<◌, ◌≤◌, ◌++◌, ◌∷◌, ℕ, List, [], All, IfOk, None, Some, drop, false, length, map};
+ghost use Rattle.std.specs.Prelude.{◌≡◌, ◌+◌, ◌<◌, ◌≤◌, ◌++◌, ◌∷◌, ◌==◌, ◌&&◌, ℕ, List, [], All, IfOk, IsTrue, None, Some, drop, false, get_or, length, map, not};
 ghost use Rattle.std.specs.List.{enumerate_from};
 ghost use Rattle.std.specs.Option.{option_and_then};
 ghost use Rattle.value_types.specs.declared.value.Value.{Value as Of};
+ghost use Rattle.value_types.specs.declared.value.Value.TheVariants.{Null};
+ghost use Rattle.convert_rules.specs.Types.{IsOf};
 ghost use Rattle.session_state.specs.Sendable.{IsFit};
 ghost use Rattle.batch_meaning.specs.Doing.{Did};
 ghost use Rattle.batch_meaning.specs.Meaning.{ended_by, mean_of, uneven_with};
-ghost use Rattle.batch_meaning.specs.Progress.{Ready, statement_limit};
+ghost use Rattle.batch_meaning.specs.Progress.{Ready, statement_limit, values_of};
 ghost use Rattle.batch_meaning.specs.Rpc.{bare_name, binds_call, ending, ends_exec, error_or_full, execs, fails_call, finds_named, finds_read, gives_call_back, goes_on_with, is_sql, is_too_many, leaves_body, name_given, name_of, object_in, return_value, return_values, rpc, rpc_argument, rpc_arguments, rpc_statement, rpc_var, rpc_vars, runs_exec, runs_rpc, runs_sql, skips, skips_place, tells_returned};
 ghost use Rattle.rpc_requests.specs.Fit.{IsParameter};
 ghost use Rattle.batch_exec.specs.Running.{AreTyped, arguments_from, arguments_in, arguments_of_placed, procedure_in, values_told};
@@ -32,7 +34,7 @@ use std::alloc::Global;
 use step_model::Port;
 use tds_tokens::{DoneKind, Token};
 use tsql_tree::{Argument, ArgumentValue, Definition, Form, ProcedureTree, Statement};
-use value_types::{Memory, Units};
+use value_types::{Memory, SqlType, Units, Value};
 
 /// How many parameters a call may have: as many as a batch may name variables.
 const MAX_PARAMETERS: usize = 10_000;
@@ -162,13 +164,19 @@ fn skips(parameters: &[RpcParameter]) -> bool
 {
     let mut behind = false;
     for parameter in parameters {
-        if parameter.missing {
-            behind = true;
-        } else if behind && parameter.name.is_empty() {
+        if is_displaced(behind, parameter) {
             return true;
         }
+        behind |= parameter.missing;
     }
     false
+}
+
+/// Whether it is given and stands by its place, behind one that is not given.
+fn is_displaced(behind: bool, parameter: &RpcParameter) -> bool
+    ensures { result ≡ (behind && (not parameter.now.missing && length parameter.now.name == 0)) }
+{
+    behind && !parameter.missing && parameter.name.is_empty()
 }
 
 /// The arguments of parameters, of which the first stands at this place.
@@ -664,14 +672,15 @@ fn add_value(
     ensures told { IfOk result (λ _. tokens.new.items ≡ tokens.old.items ++ values_told vars.now ((place, parameter.now) ∷ [])) }
     ensures fit { IfOk result (λ _. IsFit tokens.old.items → IsFit tokens.new.items) }
 {
-    if parameter.output {
-        tokens.push(return_value(alloc, vars, place, parameter)?)?;
+    if !parameter.output {
+        return Ok(());
     }
+    let token = return_value(alloc, vars, place, parameter)?;
+    tokens.push(token)?;
     Ok(())
 }
 
-/// RETURNVALUE of the parameter at a place. Its variable has its type; one of another would not be told: it is as if
-/// memory were wanting.
+/// RETURNVALUE of the parameter at a place.
 fn return_value(
     alloc: Global,
     vars: &Vars,
@@ -682,15 +691,37 @@ fn return_value(
     ensures told { IfOk result (λ token. token ≡ return_value vars.now (place, parameter.now)) }
     ensures fit { IfOk result (λ token. IsFit (token ∷ [])) }
 {
-    if vars.count() <= place || vars.kind(place) != parameter.kind {
-        return Err(Memory);
-    }
+    let name = parameter.name.copy(alloc)?;
+    let value = value_at(alloc, vars, place, parameter.kind)?;
     Ok(Token::ReturnValue {
         ordinal: place,
-        name: parameter.name.copy(alloc)?,
+        name,
         kind: parameter.kind,
-        value: vars.get(place).copy(alloc)?,
+        value,
     })
+}
+
+/// The value of the variable at a place, which has this type. One of another would not be told: it is as if memory were
+/// wanting.
+fn value_at(alloc: Global, vars: &Vars, place: u16, kind: SqlType) -> Result<Value, Memory>
+    ensures there { IfOk result (λ value. value ≡ get_or (values_of vars.now) place Null) }
+    ensures typed { IfOk result (λ value. IsOf kind value) }
+{
+    if vars.count() <= place {
+        return Err(Memory);
+    }
+    if !is_same(vars.kind(place), kind) {
+        return Err(Memory);
+    }
+    vars.law_typed();
+    vars.get(place).copy(alloc)
+}
+
+/// Whether a type is the same as another.
+fn is_same(kind: SqlType, other: SqlType) -> bool
+    ensures { IsTrue result → kind ≡ other }
+{
+    kind == other
 }
 
 // ---- its errors
