@@ -881,8 +881,8 @@ call_fails : (failure : Failure) → Settles (fails_call failure)
 unfolding fails_call
 call_fails failure = makes_settles (tells_rows 0) _ tt (reads_settles _ (λ p. makes_settles (tells_error _) _ tt (makes_settles (sends _) _ tt (ended_settles (ending (action_in around_batch p.settings.xact_abort (error_or_full p (raised_at (pos 1) failure))))))))
 
-goes_settles : {A : Type 0} (go : A → Doing Exit) (work : Doing (Result A Failure)) → Settles work → ((a : A) → Settles (go a)) → Settles (work then λ came. goes_on_with go came)
-goes_settles {A = A} go work first more = then_settles work (λ came. goes_on_with go came) first by_came
+with_settles : {A : Type 0} (go : A → Doing Exit) (work : Doing (Result A Failure)) → Settles work → ((a : A) → Settles (go a)) → Settles (work then λ came. goes_on_with go came)
+with_settles {A = A} go work first more = then_settles work (λ came. goes_on_with go came) first by_came
   where
     by_came : (came : Result A Failure) → Settles (goes_on_with go came)
     by_came (Ok a) = more a
@@ -904,7 +904,7 @@ exec_ends call count status = reads_settles _ (λ p. reads_settles _ (λ q.
 
 gives_call_settles : (call : RpcCall) (of : Call) (count : ℕ) (inner : List Variable) (status : ℤ) → Settles (gives_call_back call of count inner status)
 unfolding gives_call_back
-gives_call_settles call of count inner status = goes_settles {A = List Assigned} (λ sets. assigns_all sets (ends_exec call count status)) (reads λ p. comes_to (given_back p.vars None (rpc_arguments call) of status inner))
+gives_call_settles call of count inner status = with_settles {A = List Assigned} (λ sets. assigns_all sets (ends_exec call count status)) (reads λ p. comes_to (given_back p.vars None (rpc_arguments call) of status inner))
     (calm_settles (reads λ p. comes_to (given_back p.vars None (rpc_arguments call) of status inner)) (λ p. only_comes IsSteadyStep IsInside (given_back p.vars None (rpc_arguments call) of status inner)))
     (λ assigned. sets_settles assigned (ends_exec call count status) (exec_ends call count status))
 
@@ -925,7 +925,7 @@ module _ (p0 : SessionProgress) (call : RpcCall) where
       (λ came. leaves_settle call of p.txn.count came.1 came.0))
 
   execs_settle : (finds : Doing (Result Call Failure)) → Settles finds → Settles (execs (λ inner at. mean_of statement_limit inner at) call finds)
-  execs_settle finds settles = goes_settles {A = Call} (runs_exec (λ inner at. mean_of statement_limit inner at) call) finds settles exec_settles
+  execs_settle finds settles = with_settles {A = Call} (runs_exec (λ inner at. mean_of statement_limit inner at) call) finds settles exec_settles
 
   named_settles : (name : Option (List ℕ)) → Settles (finds_named call name)
   named_settles None = calm_settles (fails_naming {A = Call} no_procedure (name_of call.target)) (only_naming IsSteadyStep IsInside Call no_procedure (name_of call.target))
@@ -933,7 +933,7 @@ module _ (p0 : SessionProgress) (call : RpcCall) where
 
   read_settles : (procedure : Option ProcedureTree) → Settles (finds_read call procedure)
   unfolding binds_call
-  read_settles None = over_settles (Err (record { number = no_match; name = None }))
+  read_settles None = over_settles {A = Result Call Failure} (Err (record { number = no_match; name = None }))
   read_settles (Some procedure) = if_settles (is_odd_procedure procedure) (over (Err (plain outside_limits))) _ (over_settles (Err (plain outside_limits))) (room_settles _ (bind_settles (reads λ p. comes_to (bound_over [] p.vars (rpc_statement procedure.name (rpc_arguments call)))) _
       (calm_settles (reads λ p. comes_to (bound_over [] p.vars (rpc_statement procedure.name (rpc_arguments call)))) (λ p. only_comes IsSteadyStep IsInside (bound_over [] p.vars (rpc_statement procedure.name (rpc_arguments call)))))
       (λ of. calm_settles (reads λ p. comes_to (call_over around_batch None procedure.name (rpc_arguments call) p.vars (Some (Procedure procedure)))) (λ p. only_comes IsSteadyStep IsInside (call_over around_batch None procedure.name (rpc_arguments call) p.vars (Some (Procedure procedure)))))))
