@@ -612,11 +612,8 @@ module _ (call : RpcCall) where
   exec_carry : (of : Call) → CallBack of → Carries (runs_exec (λ inner at. mean_of statement_limit inner at) call of)
   unfolding runs_exec
   exec_carry of back = carries_reads _ (λ p. carries_then (runs_body (λ inner at. mean_of statement_limit inner at) (call_vars of) (λ settings. settings) of.procedure.body (in_body of.procedure.name None around_batch)) _
-      (body_carry (λ inner at. mean_of statement_limit inner at) around_batch rpc_placeholder (mean_carry statement_limit) (call_vars of) (λ settings. settings) of.procedure.body (in_body of.procedure.name None around_batch) back)
+      (body_carry (λ inner at. mean_of statement_limit inner at) around_batch (rpc_statement of.procedure.name (rpc_arguments call)) (mean_carry statement_limit) (call_vars of) (λ settings. settings) of.procedure.body (in_body of.procedure.name None around_batch) back)
       (λ came. carries_still (leaves_body call of p.txn.count came.1 came.0) (leaves_still_call call of p.txn.count came.1 came.0)))
-    where
-      rpc_placeholder : Statement
-      rpc_placeholder = rpc_statement of.procedure.name (rpc_arguments call)
 
   execs_carry : (finds : Doing (Result Call Failure)) → Carries finds → Yields (Well CallBack) finds → Carries (execs (λ inner at. mean_of statement_limit inner at) call finds)
   execs_carry finds carries yields = carries_given (Well CallBack) finds _ carries yields by_came
@@ -653,11 +650,15 @@ module _ (call : RpcCall) where
       by_limits true = tt
       by_limits false = within
 
+  -- where no procedure was read
+  unread_carry : Carries (execs (λ inner at. mean_of statement_limit inner at) call (finds_defined call None))
+  unread_carry = execs_carry (finds_defined call None) (over_carries {A = Result Call Failure} (Err (record { number = no_match; name = None }))) tt
+
   read_carry : (read : ReadText) → CallReadsBack read → Carries (runs_sql (λ inner at. mean_of statement_limit inner at) call read)
-  read_carry (text.Statements statements) back = execs_carry (finds_defined call None) (over_carries (Err (record { number = no_match; name = None }))) tt
-  read_carry (text.Defines line (Table table) kept) back = execs_carry (finds_defined call None) (over_carries (Err (record { number = no_match; name = None }))) tt
+  read_carry (text.Statements statements) back = unread_carry
+  read_carry (text.Defines line (Table table) kept) back = unread_carry
   read_carry (text.Defines line (Procedure procedure) kept) back = execs_carry (finds_defined call (Some procedure)) (carries_still (finds_defined call (Some procedure)) (binds_still procedure)) (binds_yield procedure back)
-  read_carry (text.Defines line (Trigger trigger) kept) back = execs_carry (finds_defined call None) (over_carries (Err (record { number = no_match; name = None }))) tt
+  read_carry (text.Defines line (Trigger trigger) kept) back = unread_carry
   read_carry (text.Refused line code near) back = carries_still (runs_text (text.Refused line code near)) (tt, tt)
 
 rpc_ends_still : (exit : Exit) → WritesNothing (ends_rpc exit)
