@@ -3,7 +3,6 @@ use Rattle.std.proofs.Common.{◌≡◌, ◌⊎◌, inl, inr, ℕ, zero, suc, �
 use Rattle.std.specs.Prelude.{◌&&◌, ◌||◌, min, nat_le, nat_lt}
 use Rattle.std.proofs.lemmas.Bool.{eqb-false, ne_eqb}
 use Rattle.rpc_requests.specs.declared.call.RpcCall.{RpcCall}
-use Rattle.call_rules.specs.Arguments.{no_match}
 use Rattle.tsql_tree.specs.declared.definition.ProcedureTree.{ProcedureTree}
 use Rattle.tsql_tree.specs.declared.definition.Definition.{Definition}
 use Rattle.tsql_tree.specs.declared.definition.Definition.TheVariants.{Table, Procedure, Trigger}
@@ -56,7 +55,7 @@ use Rattle.batch_meaning.specs.Doing.{Doing, asks, makes, over, reads, ◌then�
 use Rattle.batch_meaning.specs.Failures.{plain}
 use Rattle.batch_meaning.specs.Firing.{closes_own, has_mark, in_trigger, leaves_fired, relaxes_then, settles, trigger_end, undone_to}
 use Rattle.batch_meaning.specs.Meaning.{Meaning, batch, branch, calls, caught_as, concluded, concludes, counted, decides, defined, defines_object, does, doomed_write, each_of, effect_of, ended_by, ends, ends_call, ends_doomed, ends_even, ends_uneven, ends_uneven_as, fails_for, fires, gives_back, goes_on, handled, has_failed, is_refused_doomed, leaves_rows, line_of, mean_by, mean_form, mean_of, or_full, raises, raises_again, raises_at, raises_or_tells, returns_from, rolls_back_doomed, rolls_back_told, runs_body, runs_call, runs_fired, runs_text, runs_trigger, runs_triggers, sends_some, set_by, sets_option, spends, strikes, succeeds, tells, tells_behind, tells_end, told_as, told_unless_own, tries, turned, turns, turns_again, uneven_end, uneven_tokens, unless_stopped, way_of, where_it_fits, writes, written}
-use Rattle.batch_meaning.specs.Rpc.{binds_call, defined_in, ending, ends_exec, ends_rpc, ends_rpc_doomed, error_or_full, execs, fails_call, finds_named, finds_read, gives_call_back, goes_on_with, is_sql, is_too_many, leaves_body, name_of, object_in, returned, returns_uneven, rpc, rpc_arguments, rpc_statement, runs_exec, runs_rpc, runs_sql, skips_place, tells_returned, mismatch}
+use Rattle.batch_meaning.specs.Rpc.{binds_call, defined_in, ending, ends_exec, ends_rpc, ends_rpc_doomed, error_or_full, execs, fails_call, finds_named, finds_read, gives_call_back, goes_on_with, is_sql, is_too_many, leaves_body, mismatch, name_of, object_in, returned, returns_uneven, rpc, rpc_arguments, rpc_statement, runs_exec, runs_rpc, runs_sql, skips_place, tells_returned}
 use Rattle.batch_meaning.specs.Progress.{SessionProgress, SessionStep, after_doom, asked, assigns, begins, closes_one, counts, declares, dooms, fetches, fills, fired_from, fires_from, made, opens, removes, saves, sends, sets, shuts, size_of, stands_with, statement_limit, tells_error, tells_fetch, tells_rows, touches}
 use Rattle.batch_meaning.specs.Raised.{Around, action_in, around_batch, in_body, in_catch, in_try, is_caught_in, raised_at, raised_in}
 use Rattle.batch_meaning.specs.Selecting.{Effect, bound_over, no_effect, not_bound_so, result_full, sending}
@@ -933,7 +932,7 @@ module _ (p0 : SessionProgress) (call : RpcCall) where
 
   read_settles : (procedure : Option ProcedureTree) → Settles (finds_read call procedure)
   unfolding binds_call
-  read_settles None = over_settles {A = Result Call Failure} (Err (record { number = no_match; name = None }))
+  read_settles None = over_settles {A = Result Call Failure} (Err mismatch)
   read_settles (Some procedure) = if_settles (is_odd_procedure procedure) (over (Err (plain outside_limits))) _ (over_settles (Err (plain outside_limits))) (room_settles _ (bind_settles (reads λ p. comes_to (bound_over [] p.vars (rpc_statement procedure.name (rpc_arguments call)))) _
       (calm_settles (reads λ p. comes_to (bound_over [] p.vars (rpc_statement procedure.name (rpc_arguments call)))) (λ p. only_comes IsSteadyStep IsInside (bound_over [] p.vars (rpc_statement procedure.name (rpc_arguments call)))))
       (λ of. calm_settles (reads λ p. comes_to (call_over around_batch None procedure.name (rpc_arguments call) p.vars (Some (Procedure procedure)))) (λ p. only_comes IsSteadyStep IsInside (call_over around_batch None procedure.name (rpc_arguments call) p.vars (Some (Procedure procedure)))))))

@@ -42,7 +42,7 @@ use Rattle.batch_meaning.specs.Doing.{Doing, asks, makes, over, reads, â—Œthenâ—
 use Rattle.batch_meaning.specs.Failures.{plain}
 use Rattle.batch_meaning.specs.Firing.{closes_own, ended_in_trigger, doomed_in_trigger, has_mark, in_trigger, leaves_fired, relaxes_then, settles, trigger_end, undone_to}
 use Rattle.batch_meaning.specs.Meaning.{Meaning, batch, branch, calls, caught_as, concluded, concludes, counted, decides, defined, defines_object, does, doomed_write, each_of, effect_of, ended_by, ends, ends_call, ends_doomed, ends_even, ends_uneven, ends_uneven_as, fails_for, fires, gives_back, goes_on, handled, has_failed, is_refused_doomed, leaves_rows, line_of, mean_by, mean_form, mean_of, or_full, raises, raises_again, raises_at, raises_or_tells, returns_from, rolls_back_told, runs_body, runs_call, runs_fired, runs_text, runs_trigger, runs_triggers, sends_some, set_by, sets_option, spends, strikes, succeeds, tells, told_as, told_tokens, told_unless_own, tries, turned, turns, turns_again, uneven_end, uneven_tokens, uneven_with, unless_stopped, vars_in_text, way_of, where_it_fits, writes, writes_in, written, written_in, written_with}
-use Rattle.batch_meaning.specs.Rpc.{Placed, ReadsFor, binds_call, defined_in, ending, ends_exec, ends_rpc, ends_rpc_doomed, error_or_full, execs, fails_call, finds_named, finds_read, gives_call_back, goes_on_with, is_output, is_sql, is_too_many, leaves_body, name_of, object_in, placed_in, return_value, returned, returns_uneven, rpc, rpc_arguments, rpc_statement, rpc_text, rpc_vars, runs_exec, runs_rpc, runs_sql, skips_place, strikes_call, tells_returned, mismatch}
+use Rattle.batch_meaning.specs.Rpc.{Placed, ReadsFor, binds_call, defined_in, ending, ends_exec, ends_rpc, ends_rpc_doomed, error_or_full, execs, fails_call, finds_named, finds_read, gives_call_back, goes_on_with, is_output, is_sql, is_too_many, leaves_body, mismatch, name_of, object_in, placed_in, return_value, returned, returns_uneven, rpc, rpc_arguments, rpc_statement, rpc_text, rpc_vars, runs_exec, runs_rpc, runs_sql, skips_place, strikes_call, tells_returned}
 use Rattle.batch_meaning.specs.Progress.{SessionProgress, begins, counts, fired_from, fires_from, made, sends, size_of, statement_limit, tells_error, tells_rows}
 use Rattle.batch_meaning.specs.Raised.{Around, again, action_in, around_batch, error_token, in_body, in_catch, in_try, is_caught_in, raised_at, raised_in}
 use Rattle.batch_meaning.specs.Selecting.{Effect, bound_over, messages, no_effect, result_full, sending}

@@ -4,7 +4,6 @@ use Rattle.std.specs.Prelude.{◌&&◌, nat_le, nat_lt, pos}
 use Rattle.std.specs.List.{AllByRecursion}
 use Rattle.std.specs.Option.{ForSome}
 use Rattle.rpc_requests.specs.declared.call.RpcCall.{RpcCall}
-use Rattle.call_rules.specs.Arguments.{no_match}
 use Rattle.tsql_tree.specs.declared.definition.Definition.{Definition}
 use Rattle.tsql_tree.specs.declared.definition.Definition.TheVariants.{Table, Procedure, Trigger}
 use Rattle.tsql_tree.specs.declared.definition.ProcedureTree.{ProcedureTree}
@@ -45,7 +44,7 @@ use Rattle.batch_meaning.specs.Doing.{Doing, asks, makes, over, reads, room, ◌
 use Rattle.batch_meaning.specs.Failures.{naming, plain}
 use Rattle.batch_meaning.specs.Firing.{closes_own, has_mark, in_trigger, leaves_fired, relaxes_then, settles, trigger_end, undone_to}
 use Rattle.batch_meaning.specs.Meaning.{Meaning, batch, branch, calls, caught_as, concluded, concludes, counted, decides, defined, defines_object, does, doomed_write, each_of, effect_of, ended_by, ends, ends_call, ends_doomed, ends_even, ends_uneven, ends_uneven_as, fails_for, fires, gives_back, goes_on, handled, is_refused_doomed, leaves_rows, mean_by, mean_form, mean_of, raises, raises_again, raises_at, raises_or_tells, returns_from, rolls_back_open, rolls_back_told, runs_body, runs_call, runs_fired, runs_text, runs_trigger, runs_triggers, sends_some, set_by, sets_option, spends, strikes, succeeds, tells, tells_behind, told_as, told_unless_own, tries, turned, turns, turns_again, uneven_end, uneven_tokens, unless_stopped, where_it_fits, writes, writes_in, written, written_in, written_with}
-use Rattle.batch_meaning.specs.Rpc.{binds_call, ending, ends_exec, ends_rpc, ends_rpc_doomed, error_or_full, execs, fails_call, finds_named, finds_read as finds_defined, gives_call_back, goes_on_with, is_sql, is_too_many, leaves_body, name_of, object_in, returned, returns_uneven, rpc, rpc_arguments, rpc_statement, runs_exec, runs_rpc, runs_sql, skips_place, tells_returned, mismatch}
+use Rattle.batch_meaning.specs.Rpc.{binds_call, ending, ends_exec, ends_rpc, ends_rpc_doomed, error_or_full, execs, fails_call, finds_named, finds_read as finds_defined, gives_call_back, goes_on_with, is_sql, is_too_many, leaves_body, mismatch, name_of, object_in, returned, returns_uneven, rpc, rpc_arguments, rpc_statement, runs_exec, runs_rpc, runs_sql, skips_place, tells_returned}
 use Rattle.batch_meaning.specs.Progress as step
 use Rattle.batch_meaning.specs.Progress.{SessionProgress, size_of, statement_limit}
 use Rattle.batch_meaning.specs.Raised.{Around, Fired, action_in, around_batch, in_body, in_catch, in_try, is_caught_in, raised_at}
@@ -652,7 +651,7 @@ module _ (call : RpcCall) where
 
   -- where no procedure was read
   unread_carry : Carries (execs (λ inner at. mean_of statement_limit inner at) call (finds_defined call None))
-  unread_carry = execs_carry (finds_defined call None) (over_carries {A = Result Call Failure} (Err (record { number = no_match; name = None }))) tt
+  unread_carry = execs_carry (finds_defined call None) (over_carries {A = Result Call Failure} (Err mismatch)) tt
 
   read_carry : (read : ReadText) → CallReadsBack read → Carries (runs_sql (λ inner at. mean_of statement_limit inner at) call read)
   read_carry (text.Statements statements) back = unread_carry
