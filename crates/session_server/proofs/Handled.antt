@@ -1,5 +1,5 @@
 -- How one message is handled, from what its parts do.
-use Rattle.std.proofs.Common.{◌≡◌, ◌⊎◌, ℕ, true, false, List, [], length, Result, Ok, Err, inl, inr, refl, sym, subst, ap, ◌∙◌}
+use Rattle.std.proofs.Common.{◌≡◌, ℕ, true, false, List, [], length, Result, Ok, Err, inl, inr, refl, sym, subst, ap, ◌∙◌}
 use Rattle.value_types.specs.declared.memory.Memory.{Memory}
 use Rattle.step_model.specs.Port.{PortPast}
 use Rattle.step_model.proofs.Pasts.{goes_nowhere}
@@ -26,9 +26,7 @@ use Rattle.batch_meaning.specs.declared.form.ReadText.TheVariants.{Statements}
 use Rattle.batch_meaning.specs.Doing.{Did}
 use Rattle.session_server.specs.Talk.{Handling, responds, runs, calls, refuses, ends, IsReadAs, handle, handle_prelogin, handle_login, handle_rpc, handle_attention, response_to}
 use Rattle.rpc_requests.specs.declared.call.RpcCall.{RpcCall}
-use Rattle.rpc_requests.specs.declared.fault.Refusal.{Refusal}
 use Rattle.rpc_requests.specs.declared.fault.RpcFault.{RpcFault}
-use Rattle.rpc_requests.specs.declared.fault.RpcFault.TheVariants as rpc_fault
 use Rattle.rpc_requests.specs.Reading.{placed, rpc_of, whole_call}
 use Rattle.batch_meaning.proofs.Composed.{does_over}
 
@@ -90,17 +88,12 @@ pub left_handled : {before after : PortPast} (spid : ℕ) (handling : Handling) 
 left_handled spid handling may read_as (Ok made) err read does = absurd (let no : false ≡ true = err in cc)
 left_handled spid handling may read_as (Err wanting) err read does = (may, record { exchanges = does.exchanges; past = does.past; left = inr (read_as, read, does.came) })
 
+-- A call is read, or refused, whatever a refusal is: that type is the reader's own.
+by_read : {R : Type 0} (told : Result RpcCall R → Result RpcCall RpcFault) (P : Result RpcCall RpcFault → Type 0) → ((call : RpcCall) → P (told (Ok call))) → ((refusal : R) → P (told (Err refusal))) → (read : Result RpcCall R) → P (told read)
+by_read told P called refused (Ok call) = called call
+by_read told P called refused (Err refusal) = refused refusal
+
 -- while a call is read, memory may be wanting whatever it is
-rpc_wants : (size : ℕ) (read : Result RpcCall RpcFault) → MayWant (handle_rpc size read) ⊎ (read ≡ Err rpc_fault.Memory)
-rpc_wants size (Ok call) = inl tt
-rpc_wants size (Err (rpc_fault.Bad place kind)) = inl tt
-rpc_wants size (Err rpc_fault.Memory) = inr refl
-
--- and reading by the bytes alone wants none
-placed_told : (size : ℕ) (read : Result RpcCall Refusal) → placed size read ≡ Err rpc_fault.Memory → ⊥
-placed_told size (Ok call) is = absurd cc
-placed_told size (Err refusal) is = absurd cc
-
 pub may_want_rpc : (size : ℕ) (payload : List ℕ) → MayWant (handle_rpc size (rpc_of payload))
 unfolding rpc_of
-may_want_rpc size payload = elim (rpc_wants size (placed (length payload) (whole_call payload))) [ inl may ↦ may | inr none ↦ absurd (placed_told (length payload) (whole_call payload) none) ]
+may_want_rpc size payload = by_read (placed (length payload)) (λ (read : Result RpcCall RpcFault). MayWant (handle_rpc size read)) (λ call. tt) (λ refusal. tt) (whole_call payload)
