@@ -17,7 +17,7 @@ use Rattle.seat_server.specs.Served.{Course, Follow, ServedConnection}
 module _ {L : Type 0} (left given : L → Option (List ℕ)) (read_faults : L → ℕ) (written : L → Option (List ℕ)) (write_faults : L → ℕ) where
   -- a line, as a door was given it back, was served in this course
   pub record IsServedIn (config : Config) (course : Course) (line : L) : Type 0 where
-    -- as the door gave it: nothing had gone through it, and neither side had a fault
+    -- it began as some line through which nothing had gone, and neither side of which had a fault
     pub first : L
     pub untouched : (given first ≡ Some []) × IsUntouched (written first)
     pub faultless : (read_faults first ≡ 0) × (write_faults first ≡ 0)
