@@ -11,7 +11,6 @@ and must be answered; and where the field is whole, it is sent with what would f
 Many are sent on one connection, until one is refused. Most call `sp_executesql` with a statement of nothing; its other parameters take
 their default, so that OUTPUT ones come back as they were sent. It prints how often each kind came, and ends with 1 at one that differs."""
 import argparse
-import os
 import re
 import struct
 import sys
@@ -115,7 +114,11 @@ def reply_to(name, parameters):
     """The payload of the reply to a call, where it is known."""
     if len(parameters) > MOST_PARAMETERS:
         return error(49007, "Definition or statement is outside the limits.")
+    missing = [place for place, (_, status, *_) in enumerate(parameters) if status & 2]
+    unmatched = error(49012, "Arguments do not match the procedure.")
     if name != SQL:
+        if any(not named and not status & 2 for named, status, *_ in parameters[(*missing, MOST_PARAMETERS)[0] :]):
+            return unmatched
         found = re.fullmatch(rb"(?:[\w@$#]\0)*", name)
         return error(2812, f"Could not find stored procedure '{found[0].decode('utf-16-le')}'.") if found else ANY
     texts = [None if status & 2 else text for _, status, _, _, text in parameters[:2]] or [None]
@@ -123,7 +126,7 @@ def reply_to(name, parameters):
     if None not in texts and (statement.strip(" ;") or declared.strip(" ")):
         return ANY
     if None in texts or not all(status & 2 for _, status, *_ in parameters[2:]):
-        return error(49012, "Arguments do not match the procedure.")
+        return unmatched
     returned = b"\x79" + bytes(4)
     for place, (name, status, kind, value, _) in enumerate(parameters):
         if status & 1:
@@ -163,9 +166,8 @@ class Maker(Random):
         fields[place : place + 1] = self.choice(([other], [other], [other], [more], [fewer], [], [field, field]))
 
     def fields(self):
-        headers, other = self.randbytes(self.choice((0, 1, 40))), self.units(65534 if self.random() < 0.02 else 140)
-        headers = self.choice((ALL_HEADERS, ALL_HEADERS, struct.pack("<I", 4 + len(headers)) + headers))
-        named = [[struct.pack("<H", len(name) // 2), name] for name in (SQL, other)]
+        headers = self.choice((ALL_HEADERS, ALL_HEADERS, b"\4\0\0\0", b"\x2c\0\0\0" + self.randbytes(40)))
+        named = [[struct.pack("<H", len(name) // 2), name] for name in (SQL, self.units(65534 if self.random() < 0.02 else 140))]
         fields = [headers, *self.choice(([NULL, TEN[:2]], [NULL, TEN[:2]], *named)), self.choice((FLAGS, FLAGS, NULL))]
         for text in self.choice(((), ("",), ("", ""), ("", ""), (";", " "), ("SELECT @a", "@a INT"), ("x",))):
             data = text.encode("utf-16-le")
@@ -235,8 +237,6 @@ def main():
     words.add_argument("--number", type=int, default=20000, help="how many payloads")
     words.add_argument("--seed", type=int, default=1)
     said, seen = words.parse_args(), Counter()
-    if not os.path.exists(said.bin):
-        sys.exit(f"{said.bin} is not there: ./tsqld builds it")
     with ThreadPoolExecutor(AT_ONCE) as pool:
         for fault in pool.map(lambda run: fault_of(said.bin, run), runs_of(said, seen)):
             if fault:
