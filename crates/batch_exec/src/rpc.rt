@@ -502,9 +502,7 @@ fn run_found<P: Port>(
     let inside = around.in_body(&procedure.name, None);
     let body = procedure.body.as_slice();
     let (exit, inner) = run_body(alloc, session, port, vars, settings, body, &inside)?;
-    let takes = None;
     let end = CallEnd {
-        takes,
         arguments,
         procedure: &procedure,
         inner: &inner,
@@ -528,7 +526,6 @@ fn leave_body<P: Port>(
     requires fits { All IsParameter call.now.parameters }
     requires few { is_too_many call.now ≡ false }
     requires given { end.now.arguments.now ≡ rpc_arguments call.now }
-    requires none { end.now.takes ≡ None }
     ensures does { (values : List Of) → Did (P.past port.old) (P.past port.new) (leaves_body call.now (record { procedure = end.now.procedure.now; values = values }) end.now.count end.now.inner.now exit) session.old result session.new }
     ensures ready { Ready session.new (P.past port.new) }
 {
@@ -554,11 +551,10 @@ fn give_call_back<P: Port>(
     requires fits { All IsParameter call.now.parameters }
     requires few { is_too_many call.now ≡ false }
     requires given { end.now.arguments.now ≡ rpc_arguments call.now }
-    requires none { end.now.takes ≡ None }
     ensures does { (values : List Of) → Did (P.past port.old) (P.past port.new) (gives_call_back call.now (record { procedure = end.now.procedure.now; values = values }) end.now.count end.now.inner.now status) session.old result session.new }
     ensures ready { Ready session.new (P.past port.new) }
 {
-    match given_back(alloc, session.vars(), status, end) {
+    match given_back(alloc, session.vars(), None, status, end) {
         Ok(sets) => {
             session.assign_all(sets);
             end_exec(alloc, session, port, call, end.count, status)
