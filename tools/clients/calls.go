@@ -43,6 +43,6 @@ func main() {
 	}
 	must(rows.Err())
 	var found int
-	must(db.QueryRow("SELECT COUNT(*) FROM parts WHERE name = @name", sql.Named("name", "nut")).Scan(&found))
-	fmt.Println("named", found)
+	must(db.QueryRow("SELECT COUNT(*) FROM parts WHERE name = ?", "nut").Scan(&found))
+	fmt.Println("found", found)
 }

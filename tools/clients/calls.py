@@ -1,7 +1,9 @@
-# Calls a procedure with an OUTPUT parameter by pymssql.
+# Calls a procedure with an OUTPUT parameter by pymssql; its arguments are host and port.
+import sys
+
 import pymssql
 
-db = pymssql.connect(server="tsqld", user="sa", password="A", autocommit=True, conn_properties="")
+db = pymssql.connect(server=sys.argv[1], port=sys.argv[2], user="sa", password="A", autocommit=True, conn_properties="")
 run = db.cursor()
 run.execute("CREATE TABLE parts (id INT NOT NULL PRIMARY KEY, name NVARCHAR(20))")
 run.execute(

@@ -35,7 +35,8 @@ sql() {
 client() {
     case $1 in
         go) timeout 120 "$work/$2" "$host" "$port" $3 ;;
-        pyodbc | pymssql) timeout 120 /usr/bin/python3 "$2.py" $3 ;;
+        pyodbc) timeout 120 /usr/bin/python3 "$2.py" $3 ;;
+        pymssql) timeout 120 /usr/bin/python3 "$2.py" "$host" "$port" ;;
         pdo) timeout 120 php "$2.php" $3 ;;
         perl) timeout 120 perl "$2.pl" $3 ;;
         odbc) timeout 120 perl "${2}_odbc.pl" ;;
