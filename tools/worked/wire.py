@@ -20,7 +20,7 @@ def packet(kind, status, data):
 
 def message(kind, data):
     """A message with this payload, in as few packets as there can be."""
-    parts = [data[at : at + MOST_DATA] for at in range(0, len(data), MOST_DATA)]
+    parts = [data[at : at + MOST_DATA] for at in range(0, max(1, len(data)), MOST_DATA)]
     return b"".join(packet(kind, part is parts[-1], part) for part in parts)
 
 
