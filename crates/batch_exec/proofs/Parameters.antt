@@ -1,5 +1,5 @@
 -- The parameters of a call by RPC, one after another: its variables, its arguments and what it gives back.
-use Rattle.std.proofs.Common.{◌≡◌, ℕ, zero, suc, ℤ, pos, negsuc, ◌+◌, ◌-◌, ◌*◌, ◌^◌, ◌<◌, ◌≤◌, ◌==◌, Bool, true, false, cond, if◌then◌else◌, not, T, nat_le, nat_lt, ◌&&◌, ◌||◌, ltb-false, List, [], ◌∷◌, ◌++◌, append_assoc, append-nil, arith, drop, filter, get_or, length, length-append, length-drop, map, Option, None, Some, Result, Ok, Err, refl, sym, ap, ◌∙◌, subst, le-leb, leb-true}
+use Rattle.std.proofs.Common.{◌≡◌, ℕ, zero, suc, ℤ, pos, negsuc, ◌+◌, ◌-◌, ◌*◌, ◌^◌, ◌<◌, ◌≤◌, ◌==◌, Bool, true, false, cond, if◌then◌else◌, not, T, nat_le, nat_lt, ◌&&◌, ◌||◌, ltb-false, List, [], ◌∷◌, ◌++◌, append_assoc, append-nil, arith, drop, filter, get_or, length, length-append, length-drop, map, Option, None, Some, Result, Ok, Err, refl, sym, ap, ◌∙◌, subst, le-leb, eqb-true}
 use Rattle.std.specs.Prelude.{All, IfOk, slice_set}
 use Rattle.std.specs.Int.{w16, w32, w64}
 use Rattle.std.specs.List.{enumerate_from}
@@ -165,7 +165,7 @@ module _ (parameters : List RpcParameter) (at : ℕ) (behind : Bool) (goes : ski
 -- the name of one
 pub none_given : (name : List ℕ) → (length name == 0) ≡ true → None ≡ name_given name
 none_given [] is = refl
-none_given (unit ∷ units) is = absurd (let never : false ≡ true = is in cc)
+none_given (unit ∷ units) is = let none : length (unit ∷ units) ≡ 0 = eqb-true (length (unit ∷ units)) 0 is in absurd (omega (arith, none))
 
 pub some_given : (name copy : List ℕ) → (length name == 0) ≡ false → copy ≡ name → Some copy ≡ name_given name
 some_given [] copy is same = absurd (let never : true ≡ false = is in cc)

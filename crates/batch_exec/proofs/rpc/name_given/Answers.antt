@@ -5,5 +5,5 @@ use Rattle.batch_exec.proofs.rpc.name_given.Goals as goal
 pub returns-then-is_empty : goal.returns-then-is_empty
 returns-then-is_empty c = none_given c.args.name.now (sym c.if-is_empty.ensures)
 
-pub returns-else-is_empty : goal.returns-else-is_empty
-returns-else-is_empty c = some_given c.args.name.now _ (sym c.if-is_empty.ensures) c.in_ok-copy.ensures
+pub returns-in_ok-copy : goal.returns-in_ok-copy
+returns-in_ok-copy c = some_given c.args.name.now _ (sym c.if-is_empty.ensures) c.in_ok-copy.ensures
