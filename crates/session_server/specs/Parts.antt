@@ -44,7 +44,7 @@ HasResponse handling = Unit {0}
 
 -- memory may be wanting: for a response, or while a call is read, also one that can't be
 abbrev pub MayWant : Handling → Type 0
-MayWant (ends (BadRpc at kind)) = Unit {0}
+MayWant (ends (BadRpc _ _)) = Unit {0}
 MayWant handling = HasResponse handling
 
 -- its response was made, with what its text is read as

@@ -17,7 +17,7 @@ returns-in-Ok-clause-handled g c =
 pub returns-in-Err-Bad-clause-handled : goal.returns-in-Err-Bad-clause-handled
 returns-in-Err-Bad-clause-handled g c =
     let refused : rpc_of c.args.payload.now ≡ Err (Bad c.in-Err-Bad.at c.in-Err-Bad.kind) = rw c.in-Err-Bad.field-0-is at c.in-Err-Bad.ensures.exact in
-    rw refused (refl, goes_nowhere _, refl)
+    rw refused (rw c.in-Err-Bad.field-0-is refl, goes_nowhere _, refl)
 
 pub returns-in-Err-Memory-clause-handled : goal.returns-in-Err-Memory-clause-handled
 returns-in-Err-Memory-clause-handled g c = (may_want_rpc c.args.channel.packet_size c.args.payload.now, record { exchanges = []; past = goes_nowhere _; left = inl (refl, refl) })
