@@ -172,8 +172,8 @@ class Maker(Random):
         for text in self.choice(((), ("",), ("", ""), ("", ""), (";", " "), ("SELECT @a", "@a INT"), ("x",))):
             data = text.encode("utf-16-le")
             fields += [b"\0", b"", b"\1" if self.random() < 0.3 else b"\0", b"\xe7\x40\x1f" + COLLATION, struct.pack("<H", len(data)), data]
-        if self.random() < 0.001:
-            return fields + [b"\0\2\x26\1\0"] * self.choice((9999, 10000, 10001))
+        if self.random() < 0.002:
+            return fields + [b"\0\2\x26\1\0"] * self.choice((9998, 9999, 10000, 10001))
         for _ in range(self.choice((0, 1, 1, 2, 3, 8))):
             name, status = self.units(MOST_NAME), self.choice((2, 3, 3, 3, 3, 0xFF, 0xFE, 0, 1))
             fields += [bytes([len(name) // 2]), name, bytes([status]), *self.typed()]
@@ -186,7 +186,7 @@ class Maker(Random):
             size = 1 if tag == BIT else self.choice((1, 2, 4, 8))
             data = self.choice((b"", bytes(size), self.randbytes(size)))
             return [bytes([tag, size]), bytes([len(data)]), data]
-        most = self.choice((1, 2, 20, 2001, MOST_UNITS))
+        most = self.choice((1, 2, 20, 2001, MOST_UNITS) if self.random() < 0.95 else (0, MOST_UNITS + 1))
         data = self.units(most)
         if tag == NARROW:
             data = bytes(byte if self.random() < 0.01 else byte % 128 for byte in data[::2])
