@@ -119,7 +119,7 @@ def reply_to(name, parameters):
     if name != SQL:
         if any(not named and not status & 2 for named, status, *_ in parameters[(*missing, MOST_PARAMETERS)[0] :]):
             return unmatched
-        found = re.fullmatch(rb"(?:[\w@$#]\0)*", name)
+        found = re.fullmatch(rb"(?:[\w@$#]\0){0,128}", name)
         return error(2812, f"Could not find stored procedure '{found[0].decode('utf-16-le')}'.") if found else ANY
     texts = [None if status & 2 else text for _, status, _, _, text in parameters[:2]] or [None]
     statement, declared = ((text or b"").decode("utf-16-le", "replace") for text in (*texts, b"")[:2])
