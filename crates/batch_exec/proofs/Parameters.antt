@@ -1,7 +1,6 @@
 -- The parameters of a call by RPC, one after another: its variables, its arguments and what it gives back.
-use Rattle.std.proofs.Common.{◌≡◌, ℕ, zero, suc, ℤ, pos, negsuc, ◌+◌, ◌-◌, ◌*◌, ◌^◌, ◌<◌, ◌≤◌, ◌==◌, Bool, true, false, cond, if◌then◌else◌, not, T, nat_le, nat_lt, ◌&&◌, ◌||◌, ltb-false, List, [], ◌∷◌, ◌++◌, append_assoc, append-nil, arith, drop, filter, get_or, length, length-append, length-drop, map, Option, None, Some, Result, Ok, Err, refl, sym, ap, ◌∙◌, subst, le-leb, eqb-true}
+use Rattle.std.proofs.Common.{◌≡◌, ℕ, zero, suc, pos, negsuc, ◌+◌, ◌-◌, ◌<◌, ◌≤◌, ◌==◌, Bool, true, false, cond, if◌then◌else◌, not, T, nat_le, nat_lt, ◌&&◌, ◌||◌, ltb-false, List, [], ◌∷◌, ◌++◌, append_assoc, append-nil, arith, drop, filter, get_or, length, length-append, length-drop, map, None, Some, Result, Ok, Err, refl, sym, ap, ◌∙◌, subst, le-leb, eqb-true}
 use Rattle.std.specs.Prelude.{All, IfOk, slice_set}
-use Rattle.std.specs.Int.{w16, w32, w64}
 use Rattle.std.specs.List.{enumerate_from}
 use Rattle.std.proofs.lemmas.List.{drop_all, drop_more}
 use Rattle.value_types.specs.declared.memory.Memory.{Memory}

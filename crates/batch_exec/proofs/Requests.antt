@@ -14,34 +14,32 @@ use Rattle.tds_tokens.specs.declared.token.Token.{Token}
 use Rattle.step_model.specs.Port.{PortPast}
 use Rattle.batch_meaning.specs.declared.exit.Exit.{Exit}
 use Rattle.batch_meaning.specs.declared.exit.Exit.TheVariants.{On, Leave, Again, Return, Raise, RaiseUp, End}
-use Rattle.batch_meaning.specs.declared.failure.Failure.{Failure}
-use Rattle.batch_meaning.specs.declared.form.ReadText.{ReadText}
 use Rattle.batch_meaning.specs.declared.form.ReadText.TheVariants as text
 use Rattle.batch_meaning.specs.declared.raised.Raised.{Raised}
 use Rattle.batch_meaning.specs.Failures.{plain}
 use Rattle.batch_meaning.specs.Raised.{error_token, raised_at}
 use Rattle.batch_meaning.specs.Selecting.{result_full}
 use Rattle.batch_meaning.specs.Progress.{SessionProgress, made, size_of, tells_rows}
-use Rattle.batch_meaning.specs.Doing.{Did, Doing, makes, over, ◌then◌}
+use Rattle.batch_meaning.specs.Doing.{Did, makes, over, ◌then◌}
 use Rattle.batch_meaning.specs.Calls.{Call}
 use Rattle.batch_meaning.specs.Meaning.{Meaning}
-use Rattle.batch_meaning.specs.Rpc.{binds_call, defined_in, error_or_full, execs, fails_call, finds_read, gives_call_back, goes_on_with, leaves_body, rpc_arguments, rpc_statement, runs_exec, runs_sql}
+use Rattle.batch_meaning.specs.Rpc.{binds_call, defined_in, error_or_full, execs, fails_call, finds_read, gives_call_back, leaves_body, rpc_arguments, rpc_statement, runs_sql}
 use Rattle.batch_meaning.specs.Values.{outside_limits}
 use Rattle.batch_meaning.specs.Writes.{is_odd_procedure}
 use Rattle.batch_meaning.proofs.Composed.{does_makes, does_over, does_then}
-use Rattle.batch_exec.specs.Running.{arguments_in, arguments_of, procedure_in, returned_with}
+use Rattle.batch_exec.specs.Running.{arguments_in, arguments_of, procedure_in, status_of}
 
 -- ---- how its body was left
 
 module _ (call : RpcCall) (of : Call) (count : ℕ) (inner : List Variable) where
-  pub leaves_ok : {before after : PortPast} (exit : Exit) (number : ℤ) {p new : SessionProgress} {result : Result Exit Memory} → Ok number ≡ returned_with exit
+  pub leaves_returned : {before after : PortPast} (exit : Exit) (number : ℤ) {p new : SessionProgress} {result : Result Exit Memory} → Some number ≡ status_of exit
       → Did before after (gives_call_back call of count inner number) p result new → Did before after (leaves_body call of count inner exit) p result new
-  leaves_ok {before = before} {after = after} exit number {p = p} {new = new} {result = result} is did = by_exit exit is
+  leaves_returned {before = before} {after = after} exit number {p = p} {new = new} {result = result} is did = by_exit exit is
     where
       given : (other : ℤ) → number ≡ other → Did before after (gives_call_back call of count inner other) p result new
       given other same = subst (λ (n : ℤ). Did before after (gives_call_back call of count inner n) p result new) same did
 
-      by_exit : (e : Exit) → Ok number ≡ returned_with e → Did before after (leaves_body call of count inner e) p result new
+      by_exit : (e : Exit) → Some number ≡ status_of e → Did before after (leaves_body call of count inner e) p result new
       by_exit On so = given (pos 0) (let same : number ≡ pos 0 = cc in same)
       by_exit Leave so = given (pos 0) (let same : number ≡ pos 0 = cc in same)
       by_exit Again so = given (pos 0) (let same : number ≡ pos 0 = cc in same)
@@ -50,13 +48,13 @@ module _ (call : RpcCall) (of : Call) (count : ℕ) (inner : List Variable) wher
       by_exit (RaiseUp raised) so = absurd cc
       by_exit End so = absurd cc
 
-  pub leaves_err : {now : PortPast} (exit out : Exit) {p q : SessionProgress} → Err out ≡ returned_with exit → q ≡ made (tells_rows 0) p → Did now now (leaves_body call of count inner exit) p (Ok End) q
-  leaves_err {now = now} exit out {p = p} {q = q} is same = by_exit exit is
+  pub leaves_ended : {now : PortPast} (exit : Exit) {p q : SessionProgress} → None ≡ status_of exit → q ≡ made (tells_rows 0) p → Did now now (leaves_body call of count inner exit) p (Ok End) q
+  leaves_ended {now = now} exit {p = p} {q = q} is same = by_exit exit is
     where
       left : Did now now (makes (tells_rows 0) (over End)) p (Ok End) q
       left = does_makes same (does_over refl)
 
-      by_exit : (e : Exit) → Err out ≡ returned_with e → Did now now (leaves_body call of count inner e) p (Ok End) q
+      by_exit : (e : Exit) → None ≡ status_of e → Did now now (leaves_body call of count inner e) p (Ok End) q
       by_exit On so = absurd cc
       by_exit Leave so = absurd cc
       by_exit Again so = absurd cc

@@ -147,6 +147,14 @@ Loops before after tree s body around old (Err memory) new = Did before after tr
 
 -- ---- calls by RPC
 
+-- the status with which a procedure returned, if it did
+abbrev pub status_of : Exit → Option ℤ
+status_of (Raise raised) = None
+status_of (RaiseUp raised) = None
+status_of End = None
+status_of (Return status) = Some status
+status_of exit = Some (pos 0)
+
 -- the arguments of an EXEC
 abbrev pub arguments_of : Layer → List Argument
 arguments_of (Form-F.Execute status name arguments) = arguments

@@ -67,7 +67,7 @@ pub(crate) fn return_from<P: Port>(
 }
 
 /// The status with which a procedure returned, or how its call is left: an error is on its way, or has ended the batch.
-pub(crate) fn returned_with(exit: Exit) -> Result<i32, Exit>
+fn returned_with(exit: Exit) -> Result<i32, Exit>
     ensures { result ≡ returned_with exit }
 {
     match exit {

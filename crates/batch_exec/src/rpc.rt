@@ -12,12 +12,12 @@ ghost use Rattle.batch_meaning.specs.Meaning.{ended_by, mean_of, uneven_with};
 ghost use Rattle.batch_meaning.specs.Progress.{Ready, statement_limit, values_of};
 ghost use Rattle.batch_meaning.specs.Rpc.{bare_name, binds_call, ending, ends_exec, error_or_full, execs, fails_call, finds_named, finds_read, gives_call_back, goes_on_with, is_sql, is_too_many, leaves_body, name_given, name_of, object_in, return_value, return_values, rpc, rpc_argument, rpc_arguments, rpc_statement, rpc_var, rpc_vars, runs_exec, runs_rpc, runs_sql, skips, skips_place, tells_returned};
 ghost use Rattle.rpc_requests.specs.Fit.{IsParameter};
-ghost use Rattle.batch_exec.specs.Running.{AreTyped, arguments_from, arguments_in, arguments_of_placed, procedure_in, values_told};
+ghost use Rattle.batch_exec.specs.Running.{AreTyped, arguments_from, arguments_in, arguments_of_placed, procedure_in, status_of, values_told};
 
 use crate::batch::{end, refusal, refuse};
 use crate::calls::{Call, call_over, call_vars, find_call, procedure_in};
 use crate::errors::end_by;
-use crate::returning::{CallEnd, given_back, is_even, returned_with};
+use crate::returning::{CallEnd, given_back, is_even};
 use crate::running::run_body;
 use batch_forms::is_sql;
 use batch_meaning::{Exit, Failure, Raised, ReadText};
@@ -508,7 +508,7 @@ fn run_found<P: Port>(
         inner: &inner,
         count,
     };
-    leave_body(alloc, session, port, call, exit, &end)
+    leave_body(alloc, session, port, call, &exit, &end)
 }
 
 // ---- what it gives back
@@ -519,22 +519,35 @@ fn leave_body<P: Port>(
     session: &mut SessionState,
     port: &mut P,
     call: &RpcCall,
-    exit: Exit,
+    exit: &Exit,
     end: &CallEnd<'_>,
 ) -> Result<Exit, Memory>
     requires ready { Ready session.old (P.past port.old) }
     requires fits { All IsParameter call.now.parameters }
     requires few { is_too_many call.now ≡ false }
     requires given { end.now.arguments.now ≡ rpc_arguments call.now }
-    ensures does { (values : List Of) → Did (P.past port.old) (P.past port.new) (leaves_body call.now (record { procedure = end.now.procedure.now; values = values }) end.now.count end.now.inner.now exit) session.old result session.new }
+    ensures does { (values : List Of) → Did (P.past port.old) (P.past port.new) (leaves_body call.now (record { procedure = end.now.procedure.now; values = values }) end.now.count end.now.inner.now exit.now) session.old result session.new }
     ensures ready { Ready session.new (P.past port.new) }
 {
-    match returned_with(exit) {
-        Ok(status) => give_call_back(alloc, session, port, call, status, end),
-        Err(_) => {
+    match status_of(exit) {
+        Some(status) => give_call_back(alloc, session, port, call, status, end),
+        None => {
             session.tell_rows(0);
             Ok(Exit::End)
         }
+    }
+}
+
+/// The status with which a procedure returned, if it did: an error may be on its way, or has ended the call.
+fn status_of(exit: &Exit) -> Option<i32>
+    ensures { result ≡ status_of exit.now }
+{
+    match exit {
+        Exit::Raise(_) => None,
+        Exit::RaiseUp(_) => None,
+        Exit::End => None,
+        Exit::Return(status) => Some(*status),
+        _ => Some(0),
     }
 }
 

@@ -1,5 +1,5 @@
 use Rattle.std.proofs.Common.{sym}
-use Rattle.batch_exec.proofs.Parameters.{arguments_named, arguments_sql, few_behind, few_of, made_is}
+use Rattle.batch_exec.proofs.Parameters.{arguments_named, arguments_sql, few_behind, made_is}
 use Rattle.batch_exec.proofs.rpc.rpc_arguments.Goals as goal
 
 pub arguments_from-requires : goal.arguments_from-requires

@@ -1,6 +1,10 @@
+use Rattle.std.proofs.Common.{refl}
 use Rattle.batch_meaning.specs.Rpc.{ends_rpc, ends_rpc_doomed, rpc}
-use Rattle.batch_meaning.proofs.Composed.{does_leave, does_makes, does_then}
+use Rattle.batch_meaning.proofs.Composed.{does_leave, does_makes, does_out, does_then}
 use Rattle.batch_exec.proofs.rpc.run_call.Goals as goal
+
+pub returns-in_err-vars-clause-does : goal.returns-in_err-vars-clause-does
+returns-in_err-vars-clause-does g c = does_out _ c.from_residual.ensures.0 refl
 
 pub returns-in_err-exit-clause-does : goal.returns-in_err-exit-clause-does
 unfolding rpc

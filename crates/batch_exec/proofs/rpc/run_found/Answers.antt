@@ -19,4 +19,4 @@ returns-clause-does g c = rw (← c.of.view_is) (does_reads (does_then _ _
     (rw c.count-count.ensures.count at c.leave_body.ensures.does _)))
 
 pub call_vars-requires : goal.call_vars-requires
-call_vars-requires c = record { typed = rw (← c.of.view_is) at c.requires.typed }
+call_vars-requires g c = record { typed = rw (← c.of.view_is) at c.requires.typed }

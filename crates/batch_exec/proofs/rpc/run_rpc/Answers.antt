@@ -9,7 +9,7 @@ returns-then-is_too_many-clause-does g c = does_yes _ _ _ (sym c.if-is_too_many.
 
 pub returns-then-skips_place-clause-does : goal.returns-then-skips_place-clause-does
 unfolding runs_rpc
-returns-then-skips_place-clause-does g c = does_no _ _ _ (sym c.if-is_too_many.ensures) (does_yes _ _ _ (sym c.if-skips_place.ensures) (rw c.plain-failure.ensures at c.fail_call.ensures.does))
+returns-then-skips_place-clause-does g c = does_no _ _ _ (sym c.if-is_too_many.ensures) (does_yes _ _ _ (sym c.if-skips_place.ensures) (rw c.plain-failure-then-skips_place.ensures at c.fail_call-then-skips_place.ensures.does))
 
 pub returns-then-is_sql-clause-does : goal.returns-then-is_sql-clause-does
 unfolding runs_rpc

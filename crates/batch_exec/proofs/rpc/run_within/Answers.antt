@@ -1,4 +1,4 @@
-use Rattle.std.proofs.Common.{◌≡◌, refl}
+use Rattle.std.proofs.Common.{◌≡◌, refl, true}
 use Rattle.batch_meaning.specs.Rpc.{binds_call, rpc_arguments}
 use Rattle.batch_meaning.proofs.Composed.{does_out, does_room, does_then}
 use Rattle.batch_exec.proofs.Called.{does_bound_call}
