@@ -79,7 +79,7 @@ module _ (error : LockError) where
 
   rpc_other : (size : ℕ) (read : Result RpcCall RpcFault) → HandlesOther (handle_rpc size read)
   rpc_other size (Ok call) = tt
-  rpc_other size (Err (rpc_fault.Bad at kind)) = tt
+  rpc_other size (Err (rpc_fault.Bad _ _)) = tt
   rpc_other size (Err rpc_fault.Memory) = tt
 
   -- by where the connection stands

@@ -91,7 +91,7 @@ module _ (walk : Walk) where
     where
       by_read : (read : Result RpcCall RpcFault) → rpc_of payload ≡ read → Goes (handle_rpc size read)
       by_read (Ok call) is = (call_short payload call limit is, inr (inr (inl (size, refl))))
-      by_read (Err (rpc_fault.Bad at kind)) is = (tt, inr (inr (inr (_, refl))))
+      by_read (Err (rpc_fault.Bad _ _)) is = (tt, inr (inr (inr (_, refl))))
       by_read (Err rpc_fault.Memory) is = (tt, inr (inr (inr (_, refl))))
 
 -- the payload of a message is within its limit
