@@ -4,7 +4,7 @@
  * connection, and prints nothing.
  *
  *   serve_client PORT run FILE
- *   serve_client PORT one|point|transfer CONNECTIONS SECONDS
+ *   serve_client PORT one|point|call|transfer CONNECTIONS SECONDS
  */
 #include <arpa/inet.h>
 #include <netinet/tcp.h>
@@ -87,17 +87,51 @@ static int receive_reply(int socket)
     return error;
 }
 
+/* ALL_HEADERS, with which a batch and a call begin. */
+static const uint8_t headers[22] = {22, 0, 0, 0, 18, 0, 0, 0, 2, 0, 0, 0, 0, 0, 0, 0, 0, 0, 1, 0, 0, 0};
+
+static size_t put(uint8_t *into, size_t at, const uint8_t *bytes, size_t length)
+{
+    memcpy(into + at, bytes, length);
+    return at + length;
+}
+
+/* A text in UTF-16. */
+static size_t put_text(uint8_t *into, size_t at, const char *text)
+{
+    for (; *text; text++) {
+        into[at++] = (uint8_t)*text;
+        into[at++] = 0;
+    }
+    return at;
+}
+
 static int send_batch(int socket, const char *text)
 {
     static __thread uint8_t payload[ROOM];
-    static const uint8_t headers[22] = {22, 0, 0, 0, 18, 0, 0, 0, 2, 0, 0, 0, 0, 0, 0, 0, 0, 0, 1, 0, 0, 0};
-    size_t length = sizeof headers;
-    memcpy(payload, headers, length);
-    for (; *text; text++) {
-        payload[length++] = (uint8_t)*text;
-        payload[length++] = 0;
-    }
+    size_t length = put_text(payload, put(payload, 0, headers, sizeof headers), text);
     send_message(socket, 0x01, payload, length);
+    return receive_reply(socket);
+}
+
+/* An NVARCHAR parameter without a name: its size and its length in bytes, and a collation of zeros. */
+static size_t put_parameter(uint8_t *into, size_t at, const char *text)
+{
+    uint8_t low = (uint8_t)(2 * strlen(text)), high = (uint8_t)(2 * strlen(text) >> 8);
+    at = put(into, at, (uint8_t[]){0, 0, 0xE7, low, high, 0, 0, 0, 0, 0, low, high}, 12);
+    return put_text(into, at, text);
+}
+
+/* A call of sp_executesql, by its number, whose statement has one INT: @k. */
+static int send_call(int socket, const char *statement, int k)
+{
+    static __thread uint8_t payload[ROOM];
+    size_t length = put(payload, 0, headers, sizeof headers);
+    length = put(payload, length, (uint8_t[]){0xFF, 0xFF, 10, 0, 0, 0}, 6);
+    length = put_parameter(payload, length, statement);
+    length = put_parameter(payload, length, "@k INT");
+    length = put(payload, length, (uint8_t[]){2, '@', 0, 'k', 0, 0, 0x26, 4, 4, k, k >> 8, k >> 16, k >> 24}, 13);
+    send_message(socket, 0x03, payload, length);
     return receive_reply(socket);
 }
 
@@ -141,6 +175,11 @@ static void *work(void *given)
     double end = now() + w->seconds;
     while (now() < end) {
         int a = 1 + rand_r(&seed) % ACCOUNTS, b = 1 + (a + rand_r(&seed) % (ACCOUNTS - 1)) % ACCOUNTS;
+        w->replies++;
+        if (w->mode == 'c') {
+            w->errors += (uint64_t)send_call(socket, "SELECT amount FROM accounts WHERE id = @k", a);
+            continue;
+        }
         if (w->mode == 'o')
             strcpy(text, "SELECT 1");
         else if (w->mode == 'p')
@@ -148,7 +187,6 @@ static void *work(void *given)
         else
             sprintf(text, "UPDATE accounts SET amount = amount + CASE WHEN id = %d THEN -1 ELSE 1 END WHERE id = %d OR id = %d", a, a, b);
         w->errors += (uint64_t)send_batch(socket, text);
-        w->replies++;
     }
     close(socket);
     return 0;
@@ -179,7 +217,7 @@ int main(int count, char **words)
         run_file(port, words[3]);
         return 0;
     }
-    if (count != 5 || !strchr("opt", words[2][0]))
+    if (count != 5 || !strchr("opct", words[2][0]))
         return 2;
     int many = atoi(words[3]);
     Worker workers[64];

@@ -1,12 +1,13 @@
 #!/bin/sh
-# Runs five clients against a `tsqld listen` of the password A, and looks at what comes of it:
+# Runs real clients against a `tsqld listen` of the password A, and looks at what comes of it:
 #
 #     tools/clients/run.sh PORT [HOST]
 #
 # orders: each client runs the batches of orders.sql, and tells what orders.out has. transfers: four of a kind, and then one of
 # each, at once; no money is lost. locks: two of a kind, of which each meets the other's lock with LOCK_TIMEOUT 0, and one falls
-# in a deadlock. Prints a line for each part, and ends with 1 where one is wrong, or at once with 2 where no server is reached.
-# The tables orders, items, account and seat are dropped, before and behind. The server needs two workers at least.
+# in a deadlock. calls: four clients send parameters by calls by RPC, and tell what calls.out has, or that of their kind. Prints
+# a line for each part, and ends with 1 where one is wrong, or at once with 2 where no server is reached. The tables orders,
+# items, account, seat and parts are dropped, before and behind. The server needs two workers at least.
 cd "$(dirname "$0")" || exit 2
 port=${1:?the port is missing}
 host=${2:-127.0.0.1}
@@ -19,7 +20,7 @@ trap 'rm -r "$work"' EXIT
 trap 'exit 2' INT TERM
 export FREETDSCONF="$work/freetds.conf"
 printf '[tsqld]\n    host = %s\n    port = %s\n    tds version = 7.4\n    encryption = off\n' "$host" "$port" > "$FREETDSCONF"
-for script in orders transfers locks; do
+for script in orders transfers locks calls; do
     GO111MODULE=off GOPATH=/usr/share/gocode go build -o "$work/$script" "$script.go" || exit 2
 done
 kinds="go pyodbc pdo perl tsql"
@@ -35,15 +36,17 @@ client() {
     case $1 in
         go) timeout 120 "$work/$2" "$host" "$port" $3 ;;
         pyodbc) timeout 120 /usr/bin/python3 "$2.py" $3 ;;
+        pymssql) timeout 120 /usr/bin/python3 "$2.py" "$host" "$port" ;;
         pdo) timeout 120 php "$2.php" $3 ;;
         perl) timeout 120 perl "$2.pl" $3 ;;
+        odbc) timeout 120 perl "${2}_odbc.pl" ;;
         tsql) { [ -z "$3" ] || echo "DECLARE @me INT = $3"; cat "$2.sql"; } | sql ;;
     esac > "$work/told.$1.$3" 2>&1
 }
 
 # What clients told, without what each of them puts round a message.
 plain() {
-    perl -ne 'if (my @told = /((?:The statement conflicted|The transaction was chosen|Lock request)[^.]*\.)/g) {
+    perl -ne 'if (my @told = /((?:The statement conflicted|The transaction was chosen|Lock request|Violation of constraint)[^.]*\.)/g) {
                   print "$_\n" for @told;
               } elsif (!/^Msg /) {
                   tr/\t/ /;
@@ -106,5 +109,13 @@ Lock request time out period exceeded.
 The transaction was chosen as the deadlock victim.
 committed"
 done
-printf 'DROP PROCEDURE add_item\nDROP TABLE items\nDROP TABLE orders\nDROP TABLE account\nDROP TABLE seat\ngo\n' | sql > "$work/dropped"
+
+for kind in go pymssql perl odbc; do
+    printf 'DROP PROCEDURE add_part\ngo\nDROP TABLE parts\ngo\n' | sql > "$work/dropped"
+    client "$kind" calls
+    expected=calls.$kind.out
+    [ -e "$expected" ] || expected=calls.out
+    part "calls, $kind" "$(plain "$work"/told.*)" "$(cat "$expected")"
+done
+printf 'DROP PROCEDURE add_item\nDROP TABLE items\nDROP TABLE orders\nDROP TABLE account\nDROP TABLE seat\nDROP PROCEDURE add_part\nDROP TABLE parts\ngo\n' | sql > "$work/dropped"
 exit $failed

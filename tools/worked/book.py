@@ -2,6 +2,7 @@
 import re
 import sys
 
+from worked.calls import call
 from worked.wire import WORD, Unread, batch, bytes_of, unescape
 
 SETTINGS = {"login", "session", "packets", "pieces", "cuts", "again"}
@@ -19,16 +20,18 @@ class Step:
     """What a client sends, and what is wanted for it, with the lines that say so; where it is late, the reply to the batch
     that waits."""
 
-    def __init__(self, number, text=None, data=b"", is_second=False, is_late=False):
+    def __init__(self, number, text=None, data=b"", is_second=False, is_late=False, is_call=False):
         self.number, self.text, self.data, self.wanted, self.lines = number, text, data, [], []
-        self.is_second, self.is_late = is_second, is_late
+        self.is_second, self.is_late, self.is_call = is_second, is_late, is_call
 
     def want(self, number, wanted):
         self.wanted.append(wanted)
         self.lines.append(number)
 
     def sent(self):
-        return self.data if self.text is None else batch(self.text)
+        if self.text is None:
+            return self.data
+        return call(self.text) if self.is_call else batch(self.text)
 
     def has_reply(self):
         return self.text is not None or bool(self.wanted)
@@ -96,6 +99,8 @@ class Book:
             self.set(rest)
         elif mark in (">", "2>", "<", "2<"):
             self.send(Step(number, text=rest, is_second=mark[0] == "2", is_late=mark[-1] == "<"))
+        elif mark in ("rpc", "2rpc"):
+            self.send(Step(number, text=rest, is_second=mark[0] == "2", is_call=True))
         elif mark == ">>":
             self.send(Step(number, data=bytes_of(self.names, rest)))
         elif mark == "?":

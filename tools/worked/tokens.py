@@ -122,9 +122,17 @@ class Tokens:
             return "ROW(" + ", ".join(self.value(kind) for _, kind in self.columns) + ")"
         if tag == 0x79:
             return f"RETURNSTATUS {self.number('<i')}"
+        if tag == 0xAC:
+            return self.returned()
         if tag == 0xAD:
             return self.within(self.greeting)
         raise Unread(f"no token {tag:#x} at {self.at - 1}")
+
+    def returned(self):
+        ordinal, name = self.number("<H"), text_line(self.units())
+        self.want(bytes.fromhex("01000000000100"))
+        kind = self.kind()
+        return f"RETURNVALUE({ordinal}, {name}, {kind}, {self.value(kind)})"
 
     def within(self, read):
         """A token that begins with its length."""

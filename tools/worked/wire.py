@@ -18,11 +18,15 @@ def packet(kind, status, data):
     return struct.pack(">BBHHBB", kind, status, len(data) + 8, 0, 1, 0) + data
 
 
+def message(kind, data):
+    """A message with this payload, in as few packets as there can be."""
+    parts = [data[at : at + MOST_DATA] for at in range(0, max(1, len(data)), MOST_DATA)]
+    return b"".join(packet(kind, part is parts[-1], part) for part in parts)
+
+
 def batch(text):
-    """A SQL batch with this text, in as few packets as there can be."""
-    data = ALL_HEADERS + text.encode("utf-16-le", "surrogatepass")
-    parts = [data[at : at + MOST_DATA] for at in range(0, len(data), MOST_DATA)]
-    return b"".join(packet(1, part is parts[-1], part) for part in parts)
+    """A SQL batch with this text."""
+    return message(1, ALL_HEADERS + text.encode("utf-16-le", "surrogatepass"))
 
 
 def login(user, password):

@@ -2,7 +2,9 @@ pub mod Affording
 pub mod Bodies
 pub mod Called
 pub mod Fired
+pub mod Parameters
 pub mod Raises
+pub mod Requests
 pub mod Runs
 pub mod TxnSteps
 pub mod Worked

@@ -1,9 +1,12 @@
 -- Own: what private contracts say of statements on transactions, of forms, and of loops.
-use Rattle.std.specs.Prelude.{◌≡◌, ◌⊎◌, ◌≤◌, ℕ, ℤ, pos, Bool, nat_lt, List, [], ◌∷◌, Option, None, Some, Result, Ok, Err, if◌then◌else◌}
+use Rattle.std.specs.Prelude.{◌≡◌, ◌⊎◌, ◌≤◌, ℕ, ℤ, pos, Bool, nat_lt, List, [], ◌∷◌, Option, None, Some, Result, Ok, Err, filter, if◌then◌else◌, map}
+use Rattle.std.specs.List.{enumerate_from}
 use Rattle.value_types.specs.declared.memory.Memory.{Memory}
 use Rattle.value_types.specs.declared.value.Value.{Value}
 use Rattle.session_vars.specs.Variables.{HasItsType}
+use Rattle.session_vars.specs.declared.Variable.{Variable}
 use Rattle.tds_tokens.specs.declared.token.Token.{Token}
+use Rattle.rpc_requests.specs.declared.call.RpcParameter.{RpcParameter}
 use Rattle.tsql_tree.specs.declared.definition.Definition.{Definition}
 use Rattle.tsql_tree.specs.declared.definition.Definition.TheVariants.{Table, Procedure, Trigger}
 use Rattle.tsql_tree.specs.declared.definition.Parameter.{Parameter}
@@ -13,7 +16,7 @@ use Rattle.tsql_tree.specs.declared.statement.Statement.{Statement}
 use Rattle.tsql_tree.specs.declared.statement.Form.{Form-F}
 use Rattle.bound_tree.specs.declared.write.Bound.{Bound}
 use Rattle.error_table.specs.declared.action.Action.{Action}
-use Rattle.binder.specs.Names.{Layer}
+use Rattle.binder.specs.Names.{Layer, form_of}
 use Rattle.step_model.specs.Port.{PortPast}
 use Rattle.step_model.specs.Ranges.{no_memory}
 use Rattle.batch_meaning.specs.declared.exit.Exit.{Exit}
@@ -32,6 +35,7 @@ use Rattle.batch_meaning.specs.Calls.{Call, call_over, parameter_var}
 use Rattle.batch_meaning.specs.Cursors.{closes_cursor, declares_cursor, fetches_cursor, opens_cursor, removes_cursor}
 use Rattle.batch_meaning.specs.Transactions.{begins_transaction, commits_transaction, rolls_back_transaction, saves_transaction}
 use Rattle.batch_meaning.specs.Meaning.{decides, mean_of, turns, uneven_end}
+use Rattle.batch_meaning.specs.Rpc.{Placed, is_given, is_output, return_value, rpc_argument}
 
 -- ---- transactions
 
@@ -140,3 +144,33 @@ abbrev pub Loops : PortPast → PortPast → Doing Exit → Statement → Statem
 Loops before after tree s body around old (Ok (Some exit)) new = Did before after tree old (Ok exit) new
 Loops before after tree s body around old (Ok None) new = (levels : ℕ) × (new.statements_left ≤ levels) × Leads before after tree old (turning levels s body around) new
 Loops before after tree s body around old (Err memory) new = Did before after tree old (Err memory) new
+
+-- ---- calls by RPC
+
+-- the status with which a procedure returned, if it did
+abbrev pub status_of : Exit → Option ℤ
+status_of (Raise raised) = None
+status_of (RaiseUp raised) = None
+status_of End = None
+status_of (Return status) = Some status
+status_of exit = Some (pos 0)
+
+-- the arguments of an EXEC
+abbrev pub arguments_of : Layer → List Argument
+arguments_of (Form-F.Execute status name arguments) = arguments
+arguments_of form = []
+
+abbrev pub arguments_in : Statement → List Argument
+arguments_in statement = arguments_of (form_of statement)
+
+-- of parameters beside their places
+abbrev pub arguments_of_placed : List Placed → List Argument
+arguments_of_placed placed = map rpc_argument (filter is_given placed)
+
+-- of which the first stands at this place
+abbrev pub arguments_from : ℕ → List RpcParameter → List Argument
+arguments_from first parameters = arguments_of_placed (enumerate_from first parameters)
+
+-- what is told of OUTPUT parameters
+abbrev pub values_told : List Variable → List Placed → List Token
+values_told vars placed = map (return_value vars) (filter is_output placed)

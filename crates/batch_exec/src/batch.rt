@@ -1,24 +1,25 @@
 //! A batch, from its beginning to its end.
 
-ghost use Rattle.std.specs.Prelude.{◌≡◌, ◌≤◌, ◌∷◌, [], Err, IfOk, IfErr};
+ghost use Rattle.std.specs.Prelude.{◌≡◌, ◌≤◌, ◌∷◌, [], Err, IfOk, IfErr, true};
 ghost use Rattle.batch_meaning.specs.declared.exit.Exit.TheVariants.{End};
 ghost use Rattle.batch_meaning.specs.Failures.{naming};
 ghost use Rattle.batch_meaning.specs.Raised.{error_token, raised_at};
 ghost use Rattle.batch_meaning.specs.Doing.{Did};
-ghost use Rattle.batch_meaning.specs.Meaning.{batch, defined, defines_object, ends, ends_doomed, has_failed, runs_text, vars_in_text};
+ghost use Rattle.batch_meaning.specs.Meaning.{batch, defined, defines_object, has_failed, rolls_back_doomed, runs_text, tells_end, vars_in_text};
+ghost use Rattle.batch_meaning.specs.Tokens.{last_done};
 ghost use Rattle.batch_meaning.specs.Progress.{Ready, made, sends, statement_limit};
 
 use crate::errors::{raise_at, roll_back_told};
 use crate::running::run_statements;
 use batch_meaning::{Exit, Failure, ReadText};
 use session_state::{
-    Around, DOOMED_AT_END, DOOMED_WRITE, SessionState, batch_end, error_tokens, raised_at,
+    Around, DOOMED_AT_END, DOOMED_WRITE, SessionState, error_tokens, last_tokens, raised_at,
 };
 use session_vars::Vars;
 use statement_exec::create_definition;
 use std::alloc::Global;
 use step_model::Port;
-use tds_tokens::COMMAND_NONE;
+use tds_tokens::{COMMAND_NONE, DoneKind};
 use tsql_tree::Definition;
 use value_types::{Memory, Units};
 
@@ -39,7 +40,7 @@ pub fn run_batch<P: Port>(
 {
     session.begin_batch(vars);
     let exit = run_text(alloc, session, port, read)?;
-    end(alloc, session, port, exit)
+    end(alloc, session, port, exit, DoneKind::Done)
 }
 
 /// Runs what a text is read as; one that is refused has begun nothing.
@@ -118,14 +119,14 @@ fn fail_at<P: Port>(
 }
 
 /// Why a text is refused.
-fn refusal(alloc: Global, code: u16, near: &Units) -> Result<Failure, Memory>
+pub(crate) fn refusal(alloc: Global, code: u16, near: &Units) -> Result<Failure, Memory>
     ensures { IfOk result (λ failure. failure ≡ naming code near.now) }
 {
     Ok(Failure::naming(code, near.copy(alloc)?))
 }
 
 /// Tells that a text is refused.
-fn refuse(
+pub(crate) fn refuse(
     alloc: Global,
     session: &mut SessionState,
     line: i32,
@@ -140,41 +141,44 @@ fn refuse(
     Ok(Exit::End)
 }
 
-/// However a batch ends, that is told; a transaction that is doomed is rolled back.
-fn end<P: Port>(
+/// However a batch or a call by RPC ends, that is told by a last token of this kind; a transaction that is doomed is
+/// rolled back.
+pub(crate) fn end<P: Port>(
     alloc: Global,
     session: &mut SessionState,
     port: &mut P,
     exit: Exit,
+    kind: DoneKind,
 ) -> Result<(), Memory>
     requires ready { Ready session.old (P.past port.old) }
-    ensures does { Did (P.past port.old) (P.past port.new) (ends exit) session.old result session.new }
+    ensures does { Did (P.past port.old) (P.past port.new) (tells_end (λ failed. last_done kind failed) (rolls_back_doomed (last_done kind true)) exit) session.old result session.new }
     ensures ready { Ready session.new (P.past port.new) }
 {
     if session.is_doomed() {
-        end_doomed(alloc, session, port)
+        end_doomed(alloc, session, port, kind)
     } else {
-        let end = batch_end(alloc, has_failed(&exit))?;
+        let end = last_tokens(alloc, kind, has_failed(&exit))?;
         session.send(end)?;
         Ok(())
     }
 }
 
-/// A transaction that is doomed at the end of its batch is rolled back.
+/// A transaction that is doomed at the end is rolled back.
 fn end_doomed<P: Port>(
     alloc: Global,
     session: &mut SessionState,
     port: &mut P,
+    kind: DoneKind,
 ) -> Result<(), Memory>
     requires ready { Ready session.old (P.past port.old) }
-    ensures does { Did (P.past port.old) (P.past port.new) ends_doomed session.old result session.new }
+    ensures does { Did (P.past port.old) (P.past port.new) (rolls_back_doomed (last_done kind true)) session.old result session.new }
     ensures ready { Ready session.new (P.past port.new) }
 {
     let raised = raised_at(alloc, 1, &Failure::plain(DOOMED_AT_END))?;
     let tokens = error_tokens(alloc, raised.get())?;
     session.send(tokens)?;
     roll_back_told(alloc, session, port)?;
-    let end = batch_end(alloc, true)?;
+    let end = last_tokens(alloc, kind, true)?;
     session.send(end)?;
     Ok(())
 }

@@ -104,7 +104,7 @@ fn call_in<P: Port>(
 }
 
 /// What was found under the name of a call, which is bound then.
-fn call_over(
+pub(crate) fn call_over(
     alloc: Global,
     session: &SessionState,
     statement: &Statement,
@@ -146,7 +146,7 @@ fn takes_standing(takes: Option<&Units>, vars: &Vars) -> bool
 }
 
 /// What was found under a name, if it is a procedure.
-fn procedure_in(found: Option<Definition>) -> Option<ProcedureTree>
+pub(crate) fn procedure_in(found: Option<Definition>) -> Option<ProcedureTree>
     ensures { result ≡ procedure_in found }
 {
     match found {

@@ -30,8 +30,6 @@ use value_types::{Memory, Units, Value};
 /// A call whose procedure has ended.
 #[derive(Drop)]
 pub(crate) struct CallEnd<'r> {
-    /// The variable that takes its status.
-    pub(crate) takes: Option<&'r Units>,
     /// Its arguments.
     pub(crate) arguments: &'r [Argument],
     /// What was run.
@@ -42,24 +40,25 @@ pub(crate) struct CallEnd<'r> {
     pub(crate) count: u32,
 }
 
-/// A procedure has ended so.
+/// A procedure has ended so, whose status the named variable takes, if there is one.
 #[inline(never)]
 pub(crate) fn return_from<P: Port>(
     alloc: Global,
     session: &mut SessionState,
     port: &mut P,
     statement: &Statement,
+    takes: Option<&Units>,
     exit: Exit,
     end: &CallEnd<'_>,
     around: &Around<'_, '_>,
 ) -> Result<Exit, Memory>
     requires ready { Ready session.old (P.past port.old) }
-    ensures does { (values : List Of) → Did (P.past port.old) (P.past port.new) (returns_from around.now statement.now (option_map (λ name. name.now) end.now.takes) end.now.arguments.now (record { procedure = end.now.procedure.now; values = values }) end.now.count end.now.inner.now exit) session.old result session.new }
+    ensures does { (values : List Of) → Did (P.past port.old) (P.past port.new) (returns_from around.now statement.now (option_map (λ name. name.now) takes.entry) end.now.arguments.now (record { procedure = end.now.procedure.now; values = values }) end.now.count end.now.inner.now exit) session.old result session.new }
     ensures ready { Ready session.new (P.past port.new) }
     ensures left { session.new.statements_left ≡ session.old.statements_left }
 {
     match returned_with(exit) {
-        Ok(status) => give_back(alloc, session, port, statement, status, end, around),
+        Ok(status) => give_back(alloc, session, port, statement, takes, status, end, around),
         Err(exit) => {
             session.tell_rows(0);
             Ok(exit)
@@ -86,16 +85,17 @@ fn give_back<P: Port>(
     session: &mut SessionState,
     port: &mut P,
     statement: &Statement,
+    takes: Option<&Units>,
     status: i32,
     end: &CallEnd<'_>,
     around: &Around<'_, '_>,
 ) -> Result<Exit, Memory>
     requires ready { Ready session.old (P.past port.old) }
-    ensures does { (values : List Of) → Did (P.past port.old) (P.past port.new) (gives_back around.now statement.now (option_map (λ name. name.now) end.now.takes) end.now.arguments.now (record { procedure = end.now.procedure.now; values = values }) end.now.count end.now.inner.now status) session.old result session.new }
+    ensures does { (values : List Of) → Did (P.past port.old) (P.past port.new) (gives_back around.now statement.now (option_map (λ name. name.now) takes.entry) end.now.arguments.now (record { procedure = end.now.procedure.now; values = values }) end.now.count end.now.inner.now status) session.old result session.new }
     ensures ready { Ready session.new (P.past port.new) }
     ensures left { session.new.statements_left ≡ session.old.statements_left }
 {
-    match given_back(alloc, session.vars(), status, end) {
+    match given_back(alloc, session.vars(), takes, status, end) {
         Ok(sets) => {
             session.assign_all(sets);
             end_call(alloc, session, port, statement, end.count, status, around)
@@ -105,16 +105,17 @@ fn give_back<P: Port>(
 }
 
 /// What it gives back: its status, and then its OUTPUT parameters in their order.
-fn given_back(
+pub(crate) fn given_back(
     alloc: Global,
     vars: &Vars,
+    takes: Option<&Units>,
     status: i32,
     end: &CallEnd<'_>,
 ) -> Result<Vec<(u16, Value)>, Failure>
-    ensures came { (values : List Of) → IsOrMemory (given_back vars.now (option_map (λ name. name.now) end.now.takes) end.now.arguments.now (record { procedure = end.now.procedure.now; values = values }) status end.now.inner.now) (seen result) }
+    ensures came { (values : List Of) → IsOrMemory (given_back vars.now (option_map (λ name. name.now) takes.entry) end.now.arguments.now (record { procedure = end.now.procedure.now; values = values }) status end.now.inner.now) (seen result) }
     ensures fits { IfOk result (λ sets. SetsFit vars.now sets.items) }
 {
-    match names_and_values(alloc, status, end) {
+    match names_and_values(alloc, takes, status, end) {
         Ok((names, values)) => sets_of(alloc, vars, names.as_slice(), values.as_slice()),
         Err(_) => Err(no_memory()),
     }
@@ -123,15 +124,16 @@ fn given_back(
 /// The names of the variables that take something, and what they take.
 fn names_and_values(
     alloc: Global,
+    takes: Option<&Units>,
     status: i32,
     end: &CallEnd<'_>,
 ) -> Result<(Items<Units>, Items<Value>), Memory>
-    ensures names { IfOk result (λ given. given.0 ≡ status_names (option_map (λ name. name.now) end.now.takes) ++ map (λ output. output.variable) (outputs_of end.now.procedure.now.parameters end.now.arguments.now)) }
-    ensures values { IfOk result (λ given. given.1 ≡ status_values (option_map (λ name. name.now) end.now.takes) status ++ map (output_value end.now.inner.now) (outputs_of end.now.procedure.now.parameters end.now.arguments.now)) }
+    ensures names { IfOk result (λ given. given.0 ≡ status_names (option_map (λ name. name.now) takes.entry) ++ map (λ output. output.variable) (outputs_of end.now.procedure.now.parameters end.now.arguments.now)) }
+    ensures values { IfOk result (λ given. given.1 ≡ status_values (option_map (λ name. name.now) takes.entry) status ++ map (output_value end.now.inner.now) (outputs_of end.now.procedure.now.parameters end.now.arguments.now)) }
 {
     let outputs = outputs_of(alloc, end.procedure.parameters.as_slice(), end.arguments)?;
-    let names = names_given(alloc, end.takes, outputs.as_slice())?;
-    let values = values_given(alloc, end.takes, status, outputs.as_slice(), end.inner)?;
+    let names = names_given(alloc, takes, outputs.as_slice())?;
+    let values = values_given(alloc, takes, status, outputs.as_slice(), end.inner)?;
     Ok((Items::from_vec(names), Items::from_vec(values)))
 }
 
@@ -276,7 +278,7 @@ fn end_call<P: Port>(
 }
 
 /// Whether so many transactions are open in one another.
-fn is_even(session: &SessionState, count: u32) -> bool
+pub(crate) fn is_even(session: &SessionState, count: u32) -> bool
     ensures { result ≡ (session.now.txn.count == count) }
 {
     session.count() == count

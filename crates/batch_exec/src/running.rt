@@ -261,7 +261,7 @@ fn run_try<P: Port>(
 /// end, and it gives its own.
 #[inline(never)]
 #[cycle(running)]
-fn run_body<P: Port>(
+pub(crate) fn run_body<P: Port>(
     alloc: Global,
     session: &mut SessionState,
     port: &mut P,
@@ -341,13 +341,12 @@ fn run_found<P: Port>(
     let body = procedure.body.as_slice();
     let (exit, inner) = run_body(alloc, session, port, vars, settings, body, &inside)?;
     let end = CallEnd {
-        takes,
         arguments,
         procedure: &procedure,
         inner: &inner,
         count,
     };
-    return_from(alloc, session, port, statement, exit, &end, around)
+    return_from(alloc, session, port, statement, takes, exit, &end, around)
 }
 
 /// INSERT, UPDATE and DELETE.

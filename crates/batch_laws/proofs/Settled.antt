@@ -2,6 +2,8 @@
 use Rattle.std.proofs.Common.{◌≡◌, ◌⊎◌, inl, inr, ℕ, zero, suc, ◌+◌, ◌-◌, ℤ, pos, ◌==◌, not, Bool, true, false, if◌then◌else◌, is_ok, List, [], ◌∷◌, Option, None, Some, Result, Ok, Err, refl, sym, ap, ◌∙◌, subst, arith}
 use Rattle.std.specs.Prelude.{◌&&◌, ◌||◌, min, nat_le, nat_lt}
 use Rattle.std.proofs.lemmas.Bool.{eqb-false, ne_eqb}
+use Rattle.rpc_requests.specs.declared.call.RpcCall.{RpcCall}
+use Rattle.tsql_tree.specs.declared.definition.ProcedureTree.{ProcedureTree}
 use Rattle.tsql_tree.specs.declared.definition.Definition.{Definition}
 use Rattle.tsql_tree.specs.declared.definition.Definition.TheVariants.{Table, Procedure, Trigger}
 use Rattle.tsql_tree.specs.declared.definition.TableTree.{TableTree}
@@ -46,23 +48,24 @@ use Rattle.batch_meaning.specs.declared.settings.Settings.{Settings}
 use Rattle.batch_meaning.specs.declared.stop.Stop.{Stop}
 use Rattle.batch_meaning.specs.declared.stop.Stop.TheVariants.{Failed, Left as LeftSo}
 use Rattle.batch_meaning.specs.Asking.{assigns_all, comes_to, fails, fails_naming, on_ok, where_done, where_ended, with_room, ◌>>=◌}
-use Rattle.batch_meaning.specs.Calls.{Call, call_vars, depth_limit, finds_call, given_back, too_deep, uneven}
+use Rattle.batch_meaning.specs.Calls.{Call, call_over, call_vars, depth_limit, finds_call, given_back, no_procedure, too_deep, uneven}
 use Rattle.batch_meaning.specs.Changing.{object_present}
 use Rattle.batch_meaning.specs.Cursors.{answered, fails_for_cursor, opens_bound, opens_cursor, opens_kept, select_statement, closes_cursor, declares_cursor, fetches_cursor, removes_cursor}
 use Rattle.batch_meaning.specs.Doing.{Doing, asks, makes, over, reads, ◌then◌, Held}
 use Rattle.batch_meaning.specs.Failures.{plain}
 use Rattle.batch_meaning.specs.Firing.{closes_own, has_mark, in_trigger, leaves_fired, relaxes_then, settles, trigger_end, undone_to}
-use Rattle.batch_meaning.specs.Meaning.{Meaning, batch, branch, calls, caught_as, concluded, concludes, counted, decides, defined, defines_object, does, doomed_write, each_of, effect_of, ended_by, ends, ends_call, ends_doomed, ends_even, ends_uneven, ends_uneven_as, fails_for, fires, gives_back, goes_on, handled, has_failed, is_refused_doomed, leaves_rows, line_of, mean_by, mean_form, mean_of, or_full, raises, raises_again, raises_at, raises_or_tells, returns_from, rolls_back_told, runs_body, runs_call, runs_fired, runs_text, runs_trigger, runs_triggers, sends_some, set_by, sets_option, spends, strikes, succeeds, tells, tells_behind, told_as, told_unless_own, tries, turned, turns, turns_again, uneven_end, uneven_tokens, unless_stopped, way_of, where_it_fits, writes, written}
+use Rattle.batch_meaning.specs.Meaning.{Meaning, batch, branch, calls, caught_as, concluded, concludes, counted, decides, defined, defines_object, does, doomed_write, each_of, effect_of, ended_by, ends, ends_call, ends_doomed, ends_even, ends_uneven, ends_uneven_as, fails_for, fires, gives_back, goes_on, handled, has_failed, is_refused_doomed, leaves_rows, line_of, mean_by, mean_form, mean_of, or_full, raises, raises_again, raises_at, raises_or_tells, returns_from, rolls_back_doomed, rolls_back_told, runs_body, runs_call, runs_fired, runs_text, runs_trigger, runs_triggers, sends_some, set_by, sets_option, spends, strikes, succeeds, tells, tells_behind, tells_end, told_as, told_unless_own, tries, turned, turns, turns_again, uneven_end, uneven_tokens, unless_stopped, way_of, where_it_fits, writes, written}
+use Rattle.batch_meaning.specs.Rpc.{binds_call, defined_in, ending, ends_exec, ends_rpc, ends_rpc_doomed, error_or_full, execs, fails_call, finds_named, finds_read, gives_call_back, goes_on_with, is_sql, is_too_many, leaves_body, mismatch, name_of, object_in, returned, returns_uneven, rpc, rpc_arguments, rpc_statement, runs_exec, runs_rpc, runs_sql, skips_place, tells_returned}
 use Rattle.batch_meaning.specs.Progress.{SessionProgress, SessionStep, after_doom, asked, assigns, begins, closes_one, counts, declares, dooms, fetches, fills, fired_from, fires_from, made, opens, removes, saves, sends, sets, shuts, size_of, stands_with, statement_limit, tells_error, tells_fetch, tells_rows, touches}
-use Rattle.batch_meaning.specs.Raised.{Around, action_in, around_batch, in_body, in_catch, in_try, is_caught_in, raised_in}
+use Rattle.batch_meaning.specs.Raised.{Around, action_in, around_batch, in_body, in_catch, in_try, is_caught_in, raised_at, raised_in}
 use Rattle.batch_meaning.specs.Selecting.{Effect, bound_over, no_effect, not_bound_so, result_full, sending}
 use Rattle.batch_meaning.specs.Settings.{outside_profile, set_option}
 use Rattle.batch_meaning.specs.Statements.{vars_of}
-use Rattle.batch_meaning.specs.Tokens.{batch_done, command_of, done_kind, procedure_done}
+use Rattle.batch_meaning.specs.Tokens.{batch_done, command_of, done_kind, procedure_done, rpc_done}
 use Rattle.batch_meaning.specs.Transactions.{begins_transaction, bound_first, commits_transaction, rolls_back_transaction, saves_transaction}
 use Rattle.batch_meaning.specs.Values.{Assigned, is_message, outside_limits}
 use Rattle.batch_meaning.specs.Working.{asks_any, binds, closes, composes, composes_bound, known_by, leaves, own, prepares, relaxes, status_bound, statuses, tests, tests_bound, within, works, works_bound}
-use Rattle.batch_meaning.specs.Writes.{Written, change_bound, creates, creates_definition, creates_table, drops, is_odd_list, unless_objects}
+use Rattle.batch_meaning.specs.Writes.{Written, change_bound, creates, creates_definition, creates_table, drops, is_odd_list, is_odd_procedure, unless_objects}
 use Rattle.statement_paths.specs.Paths.{IsEntered, IsFired, changes_of, is_write}
 use Rattle.statement_paths.proofs.Only.{AnyOp, Only, held_keeps, only_bind, only_comes, only_if, only_mono, only_naming}
 use Rattle.statement_paths.proofs.Apart.{held_apart}
@@ -71,7 +74,7 @@ use Rattle.statement_paths.proofs.Owned.{Owned, Refused, nothing_more, own_held}
 use Rattle.statement_paths.proofs.Statements.{NoOp}
 use Rattle.statement_paths.proofs.Working.{status_read}
 use Rattle.statement_paths.proofs.Works.{IsOwnStep, Owns, Works, binds_work, change_works, creates_works, prepares_reads, reads_work, unless_works, worked_works, works_own}
-use Rattle.batch_laws.specs.Settled.{BatchSettles, IsSteady, StatementSettles, SteadyIdle}
+use Rattle.batch_laws.specs.Settled.{BatchSettles, CallSettles, IsSteady, StatementSettles, SteadyIdle}
 use Rattle.batch_laws.specs.Transactions.{back_for, Begins, Closes, RollsBack, Saves}
 use Rattle.batch_laws.proofs.Idle.{IsShut, own_makes, shut_op}
 use Rattle.batch_laws.proofs.Opened.{IsInside, inside_keeps, own_inside, owns_inside, quiet_inside}
@@ -786,9 +789,9 @@ module _ (one : Statement → Meaning) (each : (inner : Statement) (at : Around)
     returns_settle variable arguments call count vars Leave = gives_settles variable arguments call count vars (pos 0)
     returns_settle variable arguments call count vars Again = gives_settles variable arguments call count vars (pos 0)
 
-    call_settles : (variable : Option (List ℕ)) (name : List ℕ) (arguments : List Argument) → Settles (calls one around statement variable name arguments)
+    exec_call_settles : (variable : Option (List ℕ)) (name : List ℕ) (arguments : List Argument) → Settles (calls one around statement variable name arguments)
     unfolding calls runs_call
-    call_settles variable name arguments = concludes_settles around statement (runs_call one around statement variable arguments) (finds_call around statement variable name arguments) (calls_settle around p0 statement variable name arguments)
+    exec_call_settles variable name arguments = concludes_settles around statement (runs_call one around statement variable arguments) (finds_call around statement variable name arguments) (calls_settle around p0 statement variable name arguments)
         (λ call. reads_settles _ (λ p. then_settles (runs_body one (call_vars call) (λ settings. settings) call.procedure.body (in_body call.procedure.name None around)) _ (body_settles (call_vars call) (λ settings. settings) call.procedure.body (in_body call.procedure.name None around))
         (λ came. returns_settle variable arguments call p.txn.count came.1 came.0)))
 
@@ -815,7 +818,7 @@ module _ (one : Statement → Meaning) (each : (inner : Statement) (at : Around)
     form_settles (Form-F.Insert table columns rows) is = writes_settle (ap is_write is)
     form_settles (Form-F.Update table assignments filter) is = writes_settle (ap is_write is)
     form_settles (Form-F.Delete table filter) is = writes_settle (ap is_write is)
-    form_settles (Form-F.Execute status name arguments) is = call_settles status name arguments
+    form_settles (Form-F.Execute status name arguments) is = exec_call_settles status name arguments
     form_settles (Form-F.DeclareCursor name select) is = does_settles around statement On (declares_cursor statement name select) (silent_settles (declares_cursor statement name select) (declares_silent statement name select))
     form_settles (Form-F.OpenCursor name) is = does_settles around statement On (opens_cursor around statement name) (opens_settles around p0 statement name)
     form_settles (Form-F.Fetch name variables) is = does_settles around statement On (fetches_cursor statement name variables) (silent_settles (fetches_cursor statement name variables) (fetches_silent statement name variables))
@@ -855,17 +858,100 @@ text_settles p0 (text.Statements statements) = all_settle (λ inner at. mean_of 
 text_settles p0 (text.Defines line of units) = object_settles line of units
 text_settles p0 (text.Refused line code near) = makes_settles (sends _) (over End) tt (over_settles End)
 
--- at its end none is doomed
-ends_sound : (exit : Exit) (p new : SessionProgress) (exchanges : List Exchange) (done : Unit {0}) → IsSteady p → Held (ends exit) p exchanges done new → IsSteady new × (new.txn.doomed ≡ false)
-unfolding ends ends_doomed Held
-ends_sound exit p new exchanges done steady held = by_doom p.txn.doomed refl held
+-- at an end, however it is told, none is doomed
+end_sound : (last : Bool → Token) (exit : Exit) (p new : SessionProgress) (exchanges : List Exchange) (done : Unit {0}) → IsSteady p → Held (tells_end last (rolls_back_doomed (last true)) exit) p exchanges done new → IsSteady new × (new.txn.doomed ≡ false)
+unfolding Held
+end_sound last exit p new exchanges done steady held = by_doom p.txn.doomed refl held
   where
-    by_doom : (doomed : Bool) → p.txn.doomed ≡ doomed → Held (if doomed then ends_doomed else makes (sends (batch_done (has_failed exit) ∷ [])) (over tt)) p exchanges done new → IsSteady new × (new.txn.doomed ≡ false)
+    by_doom : (doomed : Bool) → p.txn.doomed ≡ doomed → Held (if doomed then rolls_back_doomed (last true) else makes (sends (last (has_failed exit) ∷ [])) (over tt)) p exchanges done new → IsSteady new × (new.txn.doomed ≡ false)
     by_doom true is was =
         let on = held_apart rolls_back_told (λ done. makes (sends _) (over tt)) (made (sends _) p) new exchanges done was in
         let rolled = rolled_sound (made (sends _) p) on.mid on.front on.came steady on.held in
         (same_steady (made (sends _) on.mid) new on.rest.2 rolled.0, ap (λ (q : SessionProgress). q.txn.doomed) on.rest.2 ∙ rolled.1)
     by_doom false is was = (same_steady (made (sends _) p) new was.2 steady, ap (λ (q : SessionProgress). q.txn.doomed) was.2 ∙ is)
+
+ends_sound : (exit : Exit) (p new : SessionProgress) (exchanges : List Exchange) (done : Unit {0}) → IsSteady p → Held (ends exit) p exchanges done new → IsSteady new × (new.txn.doomed ≡ false)
+unfolding ends ends_doomed
+ends_sound exit p new exchanges done steady held = end_sound batch_done exit p new exchanges done steady held
+
+-- ---- calls by RPC
+
+call_fails : (failure : Failure) → Settles (fails_call failure)
+unfolding fails_call
+call_fails failure = makes_settles (tells_rows 0) _ tt (reads_settles _ (λ p. makes_settles (tells_error _) _ tt (makes_settles (sends _) _ tt (ended_settles (ending (action_in around_batch p.settings.xact_abort (error_or_full p (raised_at (pos 1) failure))))))))
+
+with_settles : {A : Type 0} (go : A → Doing Exit) (work : Doing (Result A Failure)) → Settles work → ((a : A) → Settles (go a)) → Settles (work then λ came. goes_on_with go came)
+with_settles {A = A} go work first more = then_settles work (λ came. goes_on_with go came) first by_came
+  where
+    by_came : (came : Result A Failure) → Settles (goes_on_with go came)
+    by_came (Ok a) = more a
+    by_came (Err failure) = call_fails failure
+
+returned_settles : (number : ℤ) (tokens : List Token) (next : Doing Exit) → Settles next → Settles (tells_returned number tokens next)
+returned_settles number tokens next more = reads_settles _ (λ p. if_settles (nat_lt p.bytes_left (size_of tokens)) (fails_call (plain result_full)) (makes (tells_rows 0) (makes (tells_error number) (makes (sends tokens) next))) (call_fails (plain result_full))
+    (makes_settles (tells_rows 0) _ tt (makes_settles (tells_error number) _ tt (makes_settles (sends tokens) next tt more))))
+
+exec_ends : (call : RpcCall) (count : ℕ) (status : ℤ) → Settles (ends_exec call count status)
+unfolding ends_exec
+exec_ends call count status = reads_settles _ (λ p. reads_settles _ (λ q.
+    if_settles (q.txn.count == count) (tells_returned (pos 0) (returned call p.vars status) (over On)) (returns_uneven (returned call p.vars status) raised (action_in around_batch q.settings.xact_abort raised))
+    (returned_settles (pos 0) (returned call p.vars status) (over On) (over_settles On))
+    (returned_settles raised.number _ (ended_by (action_in around_batch q.settings.xact_abort raised)) (ended_settles (action_in around_batch q.settings.xact_abort raised)))))
+  where
+    raised : Raised
+    raised = raised_at (pos 1) (plain uneven)
+
+gives_call_settles : (call : RpcCall) (of : Call) (count : ℕ) (inner : List Variable) (status : ℤ) → Settles (gives_call_back call of count inner status)
+unfolding gives_call_back
+gives_call_settles call of count inner status = with_settles {A = List Assigned} (λ sets. assigns_all sets (ends_exec call count status)) (reads λ p. comes_to (given_back p.vars None (rpc_arguments call) of status inner))
+    (calm_settles (reads λ p. comes_to (given_back p.vars None (rpc_arguments call) of status inner)) (λ p. only_comes IsSteadyStep IsInside (given_back p.vars None (rpc_arguments call) of status inner)))
+    (λ assigned. sets_settles assigned (ends_exec call count status) (exec_ends call count status))
+
+leaves_settle : (call : RpcCall) (of : Call) (count : ℕ) (inner : List Variable) (exit : Exit) → Settles (leaves_body call of count inner exit)
+leaves_settle call of count inner (Raise raised) = makes_settles (tells_rows 0) (over End) tt (over_settles End)
+leaves_settle call of count inner (RaiseUp raised) = makes_settles (tells_rows 0) (over End) tt (over_settles End)
+leaves_settle call of count inner End = makes_settles (tells_rows 0) (over End) tt (over_settles End)
+leaves_settle call of count inner (Return status) = gives_call_settles call of count inner status
+leaves_settle call of count inner On = gives_call_settles call of count inner (pos 0)
+leaves_settle call of count inner Leave = gives_call_settles call of count inner (pos 0)
+leaves_settle call of count inner Again = gives_call_settles call of count inner (pos 0)
+
+module _ (p0 : SessionProgress) (call : RpcCall) where
+  exec_settles : (of : Call) → Settles (runs_exec (λ inner at. mean_of statement_limit inner at) call of)
+  unfolding runs_exec
+  exec_settles of = reads_settles _ (λ p. then_settles (runs_body (λ inner at. mean_of statement_limit inner at) (call_vars of) (λ settings. settings) of.procedure.body (in_body of.procedure.name None around_batch)) _
+      (body_settles (λ inner at. mean_of statement_limit inner at) (λ inner at. mean_settles statement_limit p0 inner at) p0 (call_vars of) (λ settings. settings) of.procedure.body (in_body of.procedure.name None around_batch))
+      (λ came. leaves_settle call of p.txn.count came.1 came.0))
+
+  execs_settle : (finds : Doing (Result Call Failure)) → Settles finds → Settles (execs (λ inner at. mean_of statement_limit inner at) call finds)
+  execs_settle finds settles = with_settles {A = Call} (runs_exec (λ inner at. mean_of statement_limit inner at) call) finds settles exec_settles
+
+  named_settles : (name : Option (List ℕ)) → Settles (finds_named call name)
+  named_settles None = calm_settles (fails_naming {A = Call} no_procedure (name_of call.target)) (only_naming IsSteadyStep IsInside Call no_procedure (name_of call.target))
+  named_settles (Some name) = calls_settle around_batch p0 (rpc_statement name (rpc_arguments call)) None name (rpc_arguments call)
+
+  read_settles : (procedure : Option ProcedureTree) → Settles (finds_read call procedure)
+  unfolding binds_call
+  read_settles None = over_settles {A = Result Call Failure} (Err mismatch)
+  read_settles (Some procedure) = if_settles (is_odd_procedure procedure) (over (Err (plain outside_limits))) _ (over_settles (Err (plain outside_limits))) (room_settles _ (bind_settles (reads λ p. comes_to (bound_over [] p.vars (rpc_statement procedure.name (rpc_arguments call)))) _
+      (calm_settles (reads λ p. comes_to (bound_over [] p.vars (rpc_statement procedure.name (rpc_arguments call)))) (λ p. only_comes IsSteadyStep IsInside (bound_over [] p.vars (rpc_statement procedure.name (rpc_arguments call)))))
+      (λ of. calm_settles (reads λ p. comes_to (call_over around_batch None procedure.name (rpc_arguments call) p.vars (Some (Procedure procedure)))) (λ p. only_comes IsSteadyStep IsInside (call_over around_batch None procedure.name (rpc_arguments call) p.vars (Some (Procedure procedure)))))))
+
+  sql_settles : (read : ReadText) → Settles (runs_sql (λ inner at. mean_of statement_limit inner at) call read)
+  sql_settles (text.Statements statements) = execs_settle (finds_read call None) (read_settles None)
+  sql_settles (text.Defines line of units) = execs_settle (finds_read call (defined_in (text.Defines line of units))) (read_settles (defined_in (text.Defines line of units)))
+  sql_settles (text.Refused line code near) = text_settles p0 (text.Refused line code near)
+
+  rpc_settles : (read : ReadText) → Settles (runs_rpc (λ inner at. mean_of statement_limit inner at) call read)
+  unfolding runs_rpc
+  rpc_settles read = if_settles (is_too_many call) (fails_call (plain outside_limits)) _ (call_fails (plain outside_limits))
+      (if_settles (skips_place call) (fails_call mismatch) _ (call_fails mismatch)
+      (if_settles (is_sql call.target) (runs_sql (λ inner at. mean_of statement_limit inner at) call read) (execs (λ inner at. mean_of statement_limit inner at) call (finds_named call (object_in read)))
+      (sql_settles read) (execs_settle (finds_named call (object_in read)) (named_settles (object_in read)))))
+
+rpc_ends_sound : (exit : Exit) (p new : SessionProgress) (exchanges : List Exchange) (done : Unit {0}) → IsSteady p → Held (ends_rpc exit) p exchanges done new → IsSteady new × (new.txn.doomed ≡ false)
+unfolding ends_rpc ends_rpc_doomed
+rpc_ends_sound exit p new exchanges done steady held = end_sound rpc_done exit p new exchanges done steady held
 
 -- ---- the laws
 
@@ -877,6 +963,12 @@ unfolding batch Held
 batch_settles read old new exchanges steady held =
     let on = held_apart (runs_text read) ends (made (begins _) old) new exchanges tt held in
     ends_sound on.came on.mid new on.back tt (text_settles old read (made (begins _) old) on.mid on.front on.came steady on.held) on.rest
+
+pub call_settles : CallSettles
+unfolding rpc Held
+call_settles call read old new exchanges steady held =
+    let on = held_apart (runs_rpc (λ inner at. mean_of statement_limit inner at) call read) ends_rpc (made counts (made (begins _) old)) new exchanges tt held in
+    rpc_ends_sound on.came on.mid new on.back tt (rpc_settles old call read (made counts (made (begins _) old)) on.mid on.front on.came steady on.held) on.rest
 
 pub steady_idle : SteadyIdle
 steady_idle p steady shut = let closed : is_closed p.txn ≡ true = not_closed (is_closed p.txn) (sym steady.0 ∙ shut) in record { shut = shut; closed = closed; sound = steady.1 closed }

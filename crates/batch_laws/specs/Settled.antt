@@ -1,15 +1,17 @@
 -- Own: between two statements a transaction is open exactly where BEGIN TRANSACTION has opened one, whatever statements they are; and behind a batch
--- that was done none is doomed.
+-- or a call by RPC that was done none is doomed.
 use Rattle.std.specs.Prelude.{◌≡◌, ℕ, true, false, List}
 use Rattle.tsql_tree.specs.declared.statement.Statement.{Statement}
 use Rattle.step_model.specs.Exchange.{Exchange}
 use Rattle.txn_rules.specs.State.{is_closed}
+use Rattle.rpc_requests.specs.declared.call.RpcCall.{RpcCall}
 use Rattle.batch_meaning.specs.declared.exit.Exit.{Exit}
 use Rattle.batch_meaning.specs.declared.form.ReadText.{ReadText}
 use Rattle.batch_meaning.specs.Doing.{Held}
 use Rattle.batch_meaning.specs.Meaning.{batch, mean_of}
 use Rattle.batch_meaning.specs.Progress.{IsSettled, SessionProgress}
 use Rattle.batch_meaning.specs.Raised.{Around}
+use Rattle.batch_meaning.specs.Rpc.{rpc}
 use Rattle.batch_laws.specs.Committing.{IsIdle}
 
 -- so it is, and none is doomed where none is open
@@ -23,6 +25,10 @@ StatementSettles = (levels : ℕ) (around : Around) (statement : Statement) (old
 -- so does each batch, and it dooms none
 abbrev pub BatchSettles : Type 0
 BatchSettles = (read : ReadText) (old new : SessionProgress) (exchanges : List Exchange) → IsSteady old → Held (batch read) old exchanges tt new → IsSteady new × (new.txn.doomed ≡ false)
+
+-- so does each call by RPC
+abbrev pub CallSettles : Type 0
+CallSettles = (call : RpcCall) (read : ReadText) (old new : SessionProgress) (exchanges : List Exchange) → IsSteady old → Held (rpc call read) old exchanges tt new → IsSteady new × (new.txn.doomed ≡ false)
 
 -- where none is open then, the session is idle
 abbrev pub SteadyIdle : Type 0

@@ -15,7 +15,7 @@ ghost use Rattle.batch_meaning.specs.Selecting.{Effect};
 ghost use Rattle.batch_laws.specs.Control.{DoomedStrikes, FormControls, NamedDoes, SpentStrikes};
 ghost use Rattle.batch_laws.specs.Cursors.{CloseMoves, DeclareMoves, FetchMoves, OpenLeaves, OpenMoves, RemoveMoves};
 ghost use Rattle.batch_laws.specs.Laws.{BatchCommits, BatchRuns, DefinesEnds, DefinitionRuns, EachInTurn, EffectTells, ErrorStrikes, FailureLeaves, LeftRun, MessageLeaves, PlainEnds, PlainRun, RefusedEnds, StatementEnds, StatusLeaves, TestLeaves, WorkLeaves, WorkTells, WriteLeaves, WritesWhole};
-ghost use Rattle.batch_laws.specs.Settled.{BatchSettles, StatementSettles, SteadyIdle};
+ghost use Rattle.batch_laws.specs.Settled.{BatchSettles, CallSettles, StatementSettles, SteadyIdle};
 ghost use Rattle.batch_laws.specs.Transactions.{BeginLeaves, CommitLeaves, RollbackLeaves, SaveLeaves};
 
 /// The changes of a write stay whole or not at all: where they were made and checked they stand behind what the
@@ -145,10 +145,11 @@ pub fn law_commits()
 {}
 
 /// Between two statements a transaction is open at the port exactly where BEGIN TRANSACTION has opened one, whatever statements
-/// they are; behind a batch that was done none is doomed, and where none is open the session is idle.
-#[tactic(auto, using(crate::proofs::Settled::statement_settles, crate::proofs::Settled::batch_settles, crate::proofs::Settled::steady_idle))]
+/// they are; behind a batch or a call by RPC that was done none is doomed, and where none is open the session is idle.
+#[tactic(auto, using(crate::proofs::Settled::statement_settles, crate::proofs::Settled::batch_settles, crate::proofs::Settled::call_settles, crate::proofs::Settled::steady_idle))]
 pub fn law_settled()
     ensures statement { StatementSettles }
     ensures batch { BatchSettles }
+    ensures call { CallSettles }
     ensures idle { SteadyIdle }
 {}

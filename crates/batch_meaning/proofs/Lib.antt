@@ -1,3 +1,4 @@
 pub mod Composed
 pub mod OneReading
 mod StandardFacts
+mod RpcFacts

@@ -17,3 +17,4 @@ pub mod Cursors  -- opens_cursor: what the statements on cursors ask, and what c
 pub mod Calls  -- finds_call, given_back: what a call runs, and what it gives back
 pub mod Firing  -- leaves_fired: what becomes of a write by how its triggers end
 pub mod Meaning  -- batch: what statements ask, what they end, and what comes of the replies
+pub mod Rpc  -- rpc: what a call by RPC means, which is an EXEC by itself

@@ -183,12 +183,15 @@ ends_even around statement status = where_it_fits around statement (procedure_do
 
 -- With another count: an error of the EXEC, which stands in front of the procedure's end where the batch goes on, and has no DONE. One that is caught is not
 -- told.
+abbrev pub uneven_with : Bool → Action → List Token → Raised → List Token
+uneven_with true action done raised = done
+uneven_with false action.Statement done raised = error_token raised ∷ done
+uneven_with false action.Doom done raised = error_token raised ∷ done
+uneven_with false action.Batch done raised = error_token raised ∷ []
+uneven_with false action.BatchAndTransaction done raised = error_token raised ∷ []
+
 abbrev pub uneven_tokens : Bool → Action → ℤ → Raised → List Token
-uneven_tokens true action status raised = procedure_done status
-uneven_tokens false action.Statement status raised = error_token raised ∷ procedure_done status
-uneven_tokens false action.Doom status raised = error_token raised ∷ procedure_done status
-uneven_tokens false action.Batch status raised = error_token raised ∷ []
-uneven_tokens false action.BatchAndTransaction status raised = error_token raised ∷ []
+uneven_tokens caught action status raised = uneven_with caught action (procedure_done status) raised
 
 abbrev pub uneven_end : Bool → Action → Raised → Doing Exit
 uneven_end true action raised = caught_as action raised
@@ -433,13 +436,20 @@ has_failed (Raise raised) = true
 has_failed (RaiseUp raised) = true
 has_failed exit = false
 
--- a transaction that is doomed at the end of its batch is rolled back, which is told at line 1
+-- a transaction that is doomed at the end is rolled back, which is told at line 1, in front of a last token
+abbrev pub rolls_back_doomed : Token → Doing (Unit {0})
+rolls_back_doomed last = makes (sends (error_token (raised_at (pos 1) (plain doomed_at_end)) ∷ [])) (rolls_back_told then λ _. makes (sends (last ∷ [])) (over tt))
+
 unfoldable pub ends_doomed : Doing (Unit {0})
-ends_doomed = makes (sends (error_token (raised_at (pos 1) (plain doomed_at_end)) ∷ [])) (rolls_back_told then λ _. makes (sends (batch_done true ∷ [])) (over tt))
+ends_doomed = rolls_back_doomed (batch_done true)
+
+-- the last token says whether an error ended what is over
+abbrev pub tells_end : (Bool → Token) → Doing (Unit {0}) → Exit → Doing (Unit {0})
+tells_end last doomed exit = reads λ p. if p.txn.doomed then doomed else makes (sends (last (has_failed exit) ∷ [])) (over tt)
 
 -- however it ends, that is told
 unfoldable pub ends : Exit → Doing (Unit {0})
-ends exit = reads λ p. if p.txn.doomed then ends_doomed else makes (sends (batch_done (has_failed exit) ∷ [])) (over tt)
+ends exit = tells_end batch_done ends_doomed exit
 
 -- ---- definitions
 

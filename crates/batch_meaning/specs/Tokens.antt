@@ -40,9 +40,17 @@ statement_failed kind command = Finished kind (done_more + done_error) command 0
 abbrev pub procedure_done : ℤ → List Token
 procedure_done status = ReturnStatus status ∷ Finished Proc done_more command_none 0 ∷ []
 
--- a batch's end, by whether an error ended it
+-- the last token of a batch or a call by RPC, by whether an error ended it
+abbrev pub last_done : DoneKind → Bool → Token
+last_done kind failed = Finished kind (if failed then done_error else done_final) command_none 0
+
+-- a batch's end
 abbrev pub batch_done : Bool → Token
-batch_done failed = Finished Done (if failed then done_error else done_final) command_none 0
+batch_done failed = last_done Done failed
+
+-- that of a call by RPC
+abbrev pub rpc_done : Bool → Token
+rpc_done failed = last_done Proc failed
 
 -- ---- results
 

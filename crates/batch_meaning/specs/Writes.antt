@@ -5,6 +5,7 @@ use Rattle.std.specs.List.{list_any}
 use Rattle.value_types.specs.Units.{same_units}
 use Rattle.tsql_tree.specs.declared.definition.Definition.{Definition}
 use Rattle.tsql_tree.specs.declared.definition.Definition.TheVariants.{Table, Procedure, Trigger}
+use Rattle.tsql_tree.specs.declared.definition.ProcedureTree.{ProcedureTree}
 use Rattle.tsql_tree.specs.declared.definition.Parameter.{Parameter}
 use Rattle.tsql_tree.specs.declared.definition.TableTree.{TableTree}
 use Rattle.tsql_tree.specs.declared.definition.TriggerTree.{TriggerTree}
@@ -167,6 +168,10 @@ is_odd_parameter parameter = is_long parameter.name || not (is_kind parameter.ki
 abbrev pub is_odd_list : List Parameter → Bool
 is_odd_list parameters = nat_lt max_variables (length parameters) || list_any is_odd_parameter parameters
 
+-- a procedure whose name is too long, or whose parameters are odd
+abbrev pub is_odd_procedure : ProcedureTree → Bool
+is_odd_procedure procedure = is_long procedure.name || is_odd_list procedure.parameters
+
 abbrev pub unless_outside : Bool → Doing (Result Effect Failure) → Doing (Result Effect Failure)
 unless_outside outside tree = if outside then fails outside_limits else tree
 
@@ -184,6 +189,6 @@ where_table name tree found = fails_naming unknown_table name
 unfoldable pub creates_definition : Definition → List ℕ → Doing (Result Effect Failure)
 creates_definition (Table table) text = fails not_bound_so
 creates_definition (Procedure procedure) text =
-    with_room (puts_definition (is_long procedure.name || is_odd_list procedure.parameters) procedure.name (own true (creates procedure.name text)))
+    with_room (puts_definition (is_odd_procedure procedure) procedure.name (own true (creates procedure.name text)))
 creates_definition (Trigger trigger) text = with_room (own (not (is_objects trigger.table)) (look_up trigger.table >>= where_table trigger.table
     (puts_definition (is_long trigger.name) trigger.name (creates trigger.name text))))

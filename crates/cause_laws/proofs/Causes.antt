@@ -1,7 +1,11 @@
 -- An error of a lock has its cause: by induction on the levels of statements, over trees that tell it in no token while the engine has never replied so.
-use Rattle.std.proofs.Common.{refl, sym, subst, ℕ, zero, suc, ℤ, pos, List, [], ◌∷◌, Option, Some, None, Bool, true, false, Result, Ok, Err, is_ok, if◌then◌else◌, ◌==◌}
+use Rattle.std.proofs.Common.{refl, sym, subst, ℕ, zero, suc, ℤ, pos, List, [], ◌∷◌, Option, Some, None, Bool, true, false, Result, Ok, Err, cond, filter, is_ok, if◌then◌else◌, map, ◌==◌}
 use Rattle.std.specs.Prelude.{◌&&◌, nat_le, nat_lt}
+use Rattle.rpc_requests.specs.declared.call.RpcCall.{RpcCall}
 use Rattle.tsql_tree.specs.declared.definition.Definition.{Definition}
+use Rattle.tsql_tree.specs.declared.definition.Definition.TheVariants.{Procedure}
+use Rattle.tsql_tree.specs.declared.definition.ProcedureTree.{ProcedureTree}
+use Rattle.bound_tree.specs.declared.write.Bound.{Bound}
 use Rattle.tsql_tree.specs.declared.definition.TriggerTree.{TriggerTree}
 use Rattle.tsql_tree.specs.declared.option.SessionOption.{SessionOption}
 use Rattle.tsql_tree.specs.declared.statement.Argument.{Argument}
@@ -32,26 +36,27 @@ use Rattle.batch_meaning.specs.declared.settings.Settings.{Settings}
 use Rattle.batch_meaning.specs.declared.stop.Stop.{Stop}
 use Rattle.batch_meaning.specs.declared.stop.Stop.TheVariants.{Failed, Left}
 use Rattle.batch_meaning.specs.Asking.{assigns_all, comes_to, where_done, where_ended}
-use Rattle.batch_meaning.specs.Calls.{Call, call_vars, depth_limit, finds_call, given_back, too_deep, uneven}
+use Rattle.batch_meaning.specs.Calls.{Call, call_over, call_vars, depth_limit, finds_call, given_back, no_procedure, too_deep, uneven}
 use Rattle.batch_meaning.specs.Cursors.{closes_cursor, declares_cursor, fetches_cursor, opens_cursor, removes_cursor}
 use Rattle.batch_meaning.specs.Doing.{Doing, asks, makes, over, reads, ◌then◌, Held}
 use Rattle.batch_meaning.specs.Failures.{plain}
 use Rattle.batch_meaning.specs.Firing.{closes_own, ended_in_trigger, doomed_in_trigger, has_mark, in_trigger, leaves_fired, relaxes_then, settles, trigger_end, undone_to}
-use Rattle.batch_meaning.specs.Meaning.{Meaning, batch, branch, calls, caught_as, concluded, concludes, counted, decides, defined, defines_object, does, doomed_write, each_of, effect_of, ended_by, ends, ends_call, ends_doomed, ends_even, ends_uneven, ends_uneven_as, fails_for, fires, gives_back, goes_on, handled, has_failed, is_refused_doomed, leaves_rows, line_of, mean_by, mean_form, mean_of, or_full, raises, raises_again, raises_at, raises_or_tells, returns_from, rolls_back_told, runs_body, runs_call, runs_fired, runs_text, runs_trigger, runs_triggers, sends_some, set_by, sets_option, spends, strikes, succeeds, tells, told_as, told_tokens, told_unless_own, tries, turned, turns, turns_again, uneven_end, uneven_tokens, unless_stopped, vars_in_text, way_of, where_it_fits, writes, writes_in, written, written_in, written_with}
+use Rattle.batch_meaning.specs.Meaning.{Meaning, batch, branch, calls, caught_as, concluded, concludes, counted, decides, defined, defines_object, does, doomed_write, each_of, effect_of, ended_by, ends, ends_call, ends_doomed, ends_even, ends_uneven, ends_uneven_as, fails_for, fires, gives_back, goes_on, handled, has_failed, is_refused_doomed, leaves_rows, line_of, mean_by, mean_form, mean_of, or_full, raises, raises_again, raises_at, raises_or_tells, returns_from, rolls_back_told, runs_body, runs_call, runs_fired, runs_text, runs_trigger, runs_triggers, sends_some, set_by, sets_option, spends, strikes, succeeds, tells, told_as, told_tokens, told_unless_own, tries, turned, turns, turns_again, uneven_end, uneven_tokens, uneven_with, unless_stopped, vars_in_text, way_of, where_it_fits, writes, writes_in, written, written_in, written_with}
+use Rattle.batch_meaning.specs.Rpc.{Placed, ReadsFor, binds_call, defined_in, ending, ends_exec, ends_rpc, ends_rpc_doomed, error_or_full, execs, fails_call, finds_named, finds_read, gives_call_back, goes_on_with, is_output, is_sql, is_too_many, leaves_body, mismatch, name_of, object_in, placed_in, return_value, returned, returns_uneven, rpc, rpc_arguments, rpc_statement, rpc_text, rpc_vars, runs_exec, runs_rpc, runs_sql, skips_place, strikes_call, tells_returned}
 use Rattle.batch_meaning.specs.Progress.{SessionProgress, begins, counts, fired_from, fires_from, made, sends, size_of, statement_limit, tells_error, tells_rows}
-use Rattle.batch_meaning.specs.Raised.{Around, again, action_in, around_batch, in_body, in_catch, in_try, is_caught_in, raised_at, raised_in}
-use Rattle.batch_meaning.specs.Selecting.{Effect, messages, no_effect, result_full, sending}
+use Rattle.batch_meaning.specs.Raised.{Around, again, action_in, around_batch, error_token, in_body, in_catch, in_try, is_caught_in, raised_at, raised_in}
+use Rattle.batch_meaning.specs.Selecting.{Effect, bound_over, messages, no_effect, result_full, sending}
 use Rattle.batch_meaning.specs.Settings.{outside_profile, set_option}
 use Rattle.batch_meaning.specs.Statements.{vars_of}
-use Rattle.batch_meaning.specs.Tokens.{batch_done, command_of, done_kind, procedure_done}
+use Rattle.batch_meaning.specs.Tokens.{batch_done, command_of, done_kind, procedure_done, rpc_done}
 use Rattle.batch_meaning.specs.Transactions.{begins_transaction, commits_transaction, rolls_back_transaction, saves_transaction}
-use Rattle.batch_meaning.specs.Values.{Assigned, is_message}
+use Rattle.batch_meaning.specs.Values.{Assigned, is_message, outside_limits}
 use Rattle.batch_meaning.specs.Working.{asks_any, binds, composes, enters, known_by, leaves, relaxes, statuses, tests, works}
-use Rattle.batch_meaning.specs.Writes.{Written, change_bound, creates_definition, creates_table, drops}
-use Rattle.cause_laws.specs.Causes.{BatchCauses, CaughtOther, LockError, IsOther, LeavesOther, StatementCauses, TellsNone}
-use Rattle.cause_laws.proofs.UsualValues.{Anything, RefusedUsual, UsualOr, assigned_usual, option_usual, read_usual}
-use Rattle.cause_laws.proofs.Clean.{Clean, OtherOr, clean_comes, clean_done, clean_ended, clean_if, clean_then, held_clean, usual_other}
-use Rattle.cause_laws.proofs.CleanParts.{EffectOther, Effects, Plainly, RaisesOther, WrittenOther, clean_assigns, clean_binds, clean_call, clean_change, clean_closes, clean_composes, clean_drops, clean_enters, clean_leaves, clean_relaxes, clean_statuses, clean_tests, clean_works, messages_other}
+use Rattle.batch_meaning.specs.Writes.{Written, change_bound, creates_definition, creates_table, drops, is_odd_procedure}
+use Rattle.cause_laws.specs.Causes.{BatchCauses, CallCauses, CaughtOther, LockError, IsOther, LeavesOther, StatementCauses, TellsNone}
+use Rattle.cause_laws.proofs.UsualValues.{Anything, RefusedUsual, UsualOr, assigned_usual, call_usual, option_usual, read_usual}
+use Rattle.cause_laws.proofs.Clean.{Clean, OtherOr, clean_bind, clean_comes, clean_done, clean_ended, clean_if, clean_naming, clean_room, clean_then, held_clean, usual_other}
+use Rattle.cause_laws.proofs.CleanParts.{EffectOther, Effects, Plainly, RaisesOther, WrittenOther, clean_assigns, clean_binds, clean_bound, clean_call, clean_change, clean_closes, clean_composes, clean_drops, clean_enters, clean_leaves, clean_relaxes, clean_statuses, clean_tests, clean_works, messages_other}
 use Rattle.cause_laws.proofs.CleanForms.{clean_begins, clean_commits, clean_create, clean_declares, clean_definition, clean_fetches, clean_opens, clean_removes, clean_rolls, clean_saves, clean_shuts}
 
 module _ (error : LockError) where
@@ -449,6 +454,116 @@ module _ (error : LockError) where
       ((usual_other error (pos 3998) refl, tt), clean_then error Anything Anything rolls_back_told (λ done. makes (sends (batch_done true ∷ [])) (over tt)) clean_told (λ done any. ((tt, tt), tt)))
       ((tt, tt), tt)
 
+  -- ---- calls by RPC
+
+  clean_strikes_call : (xact_abort : Bool) (raised : Raised) → IsOther error raised.number → Exits (strikes_call xact_abort raised)
+  clean_strikes_call xact_abort raised other = (tt, ((other, tt), clean_ends (ending (action_in around_batch xact_abort raised))))
+
+  clean_fails_call : (failure : Failure) → IsOther error failure.number → Exits (fails_call failure)
+  unfolding fails_call
+  clean_fails_call failure other = (tt, λ p. clean_strikes_call p.settings.xact_abort (error_or_full p (raised_at (pos 1) failure)) (by_room (nat_lt p.bytes_left (size_of (error_token (raised_at (pos 1) failure) ∷ [])))))
+    where
+      by_room : (full : Bool) → IsOther error (if full then raised_at (pos 1) (plain result_full) else raised_at (pos 1) failure).number
+      by_room true = usual_other error (pos 49002) refl
+      by_room false = other
+
+  -- what comes to something goes on, or fails
+  clean_goes : {A : Type 0} (P : A → Type 0) (go : A → Doing Exit) (work : Doing (Result A Failure)) → Clean error (OtherOr error P) work → ((a : A) → P a → Exits (go a)) → Exits (work then λ came. goes_on_with go came)
+  clean_goes {A = A} P go work clean more = clean_then error (OtherOr error P) (LeavesOther error) work (λ came. goes_on_with go came) clean by_came
+    where
+      by_came : (came : Result A Failure) → OtherOr error P came → Exits (goes_on_with go came)
+      by_came (Ok a) fine = more a fine
+      by_came (Err failure) fine = clean_fails_call failure fine
+
+  values_none : (vars : List Variable) (placed : List Placed) → TellsNone error (map (return_value vars) (filter is_output placed))
+  values_none vars [] = tt
+  values_none vars (one ∷ others) = by_output one.1.output (values_none vars others)
+    where
+      by_output : (b : Bool) → TellsNone error (map (return_value vars) (filter is_output others)) → TellsNone error (map (return_value vars) (cond b (one ∷ filter is_output others) (filter is_output others)))
+      by_output true none = (tt, none)
+      by_output false none = none
+
+  clean_tells_returned : (number : ℤ) (tokens : List Token) (next : Doing Exit) → TellsNone error tokens → Exits next → Exits (tells_returned number tokens next)
+  clean_tells_returned number tokens next none clean = λ p. clean_if error (LeavesOther error) (nat_lt p.bytes_left (size_of tokens)) (fails_call (plain result_full)) (makes (tells_rows 0) (makes (tells_error number) (makes (sends tokens) next)))
+      (clean_fails_call (plain result_full) (usual_other error (pos 49002) refl)) (tt, (tt, (none, clean)))
+
+  uneven_none : (action : Action) (tokens : List Token) (raised : Raised) → TellsNone error tokens → IsOther error raised.number → TellsNone error (uneven_with false action tokens raised)
+  uneven_none act.Statement tokens raised none other = (other, none)
+  uneven_none act.Doom tokens raised none other = (other, none)
+  uneven_none act.Batch tokens raised none other = (other, tt)
+  uneven_none act.BatchAndTransaction tokens raised none other = (other, tt)
+
+  clean_ends_exec : (call : RpcCall) (count : ℕ) (status : ℤ) → Exits (ends_exec call count status)
+  unfolding ends_exec
+  clean_ends_exec call count status = λ p q. clean_if error (LeavesOther error) (q.txn.count == count) (tells_returned (pos 0) (returned call p.vars status) (over On)) (returns_uneven (returned call p.vars status) raised (action_in around_batch q.settings.xact_abort raised))
+      (clean_tells_returned (pos 0) (returned call p.vars status) (over On) (tt, values_none p.vars (placed_in call)) tt)
+      (clean_tells_returned raised.number _ (ended_by (action_in around_batch q.settings.xact_abort raised))
+      (uneven_none (action_in around_batch q.settings.xact_abort raised) (returned call p.vars status) raised (tt, values_none p.vars (placed_in call)) (usual_other error (pos 266) refl)) (clean_ends (action_in around_batch q.settings.xact_abort raised)))
+    where
+      raised : Raised
+      raised = raised_at (pos 1) (plain uneven)
+
+  clean_gives_call_back : (call : RpcCall) (of : Call) (count : ℕ) (inner : List Variable) (status : ℤ) → Exits (gives_call_back call of count inner status)
+  unfolding gives_call_back
+  clean_gives_call_back call of count inner status = clean_goes {A = List Assigned} Anything (λ sets. assigns_all sets (ends_exec call count status)) (reads λ p. comes_to (given_back p.vars None (rpc_arguments call) of status inner))
+      (λ p. clean_comes error {A = List Assigned} Anything (given_back p.vars None (rpc_arguments call) of status inner) (assigned_usual p.vars _ _))
+      (λ sets any. clean_assigns error (LeavesOther error) sets (ends_exec call count status) (clean_ends_exec call count status))
+
+  clean_leaves_body : (call : RpcCall) (of : Call) (count : ℕ) (inner : List Variable) (exit : Exit) → Exits (leaves_body call of count inner exit)
+  clean_leaves_body call of count inner (Raise raised) = (tt, tt)
+  clean_leaves_body call of count inner (RaiseUp raised) = (tt, tt)
+  clean_leaves_body call of count inner End = (tt, tt)
+  clean_leaves_body call of count inner (Return status) = clean_gives_call_back call of count inner status
+  clean_leaves_body call of count inner On = clean_gives_call_back call of count inner (pos 0)
+  clean_leaves_body call of count inner Leave = clean_gives_call_back call of count inner (pos 0)
+  clean_leaves_body call of count inner Again = clean_gives_call_back call of count inner (pos 0)
+
+  -- how a body was left, with its variables
+  abbrev CameOther : Exit × List Variable → Type 0
+  CameOther came = LeavesOther error came.0
+
+  clean_exec : (call : RpcCall) (of : Call) → Exits (runs_exec (λ inner at. mean_of statement_limit inner at) call of)
+  unfolding runs_exec
+  clean_exec call of = λ p. clean_then error CameOther (LeavesOther error) (runs_body (λ inner at. mean_of statement_limit inner at) (call_vars of) (λ settings. settings) of.procedure.body (in_body of.procedure.name None around_batch)) _
+      (clean_body (λ inner at. mean_of statement_limit inner at) (λ inner at is. clean_mean statement_limit inner at is) (call_vars of) (λ settings. settings) of.procedure.body (in_body of.procedure.name None around_batch) tt)
+      (λ came other. clean_leaves_body call of p.txn.count came.1 came.0)
+
+  clean_execs : (call : RpcCall) (finds : Doing (Result Call Failure)) → Clean error (OtherOr error {A = Call} Anything) finds → Exits (execs (λ inner at. mean_of statement_limit inner at) call finds)
+  clean_execs call finds clean = clean_goes {A = Call} Anything (runs_exec (λ inner at. mean_of statement_limit inner at) call) finds clean (λ of any. clean_exec call of)
+
+  clean_named : (call : RpcCall) (name : Option (List ℕ)) → Clean error (OtherOr error {A = Call} Anything) (finds_named call name)
+  clean_named call None = clean_naming error Call Anything no_procedure (name_of call.target) refl
+  clean_named call (Some name) = clean_call error around_batch (rpc_statement name (rpc_arguments call)) None name (rpc_arguments call)
+
+  clean_read : (call : RpcCall) (procedure : Option ProcedureTree) → Clean error (OtherOr error {A = Call} Anything) (finds_read call procedure)
+  unfolding binds_call
+  clean_read call None = usual_other error (pos 49012) refl
+  clean_read call (Some procedure) = clean_if error (OtherOr error {A = Call} Anything) (is_odd_procedure procedure) (over (Err (plain outside_limits))) _ (usual_other error (pos 49007) refl) (clean_room error {A = Call} Anything _ (clean_bind error {A = Bound} {B = Call} Anything Anything (reads λ p. comes_to (bound_over [] p.vars (rpc_statement procedure.name (rpc_arguments call)))) _ (clean_bound error [] (rpc_statement procedure.name (rpc_arguments call)))
+      (λ of some p. clean_comes error {A = Call} Anything (call_over around_batch None procedure.name (rpc_arguments call) p.vars (Some (Procedure procedure))) (call_usual around_batch None procedure.name (rpc_arguments call) p.vars (Some (Procedure procedure))))))
+
+  clean_sql : (call : RpcCall) (read : ReadText) → RefusedUsual read → Exits (runs_sql (λ inner at. mean_of statement_limit inner at) call read)
+  clean_sql call (text.Statements statements) usual = clean_execs call (finds_read call None) (clean_read call None)
+  clean_sql call (text.Defines line of units) usual = clean_execs call (finds_read call (defined_in (text.Defines line of units))) (clean_read call (defined_in (text.Defines line of units)))
+  clean_sql call (text.Refused line code near) usual = clean_text (text.Refused line code near) usual
+
+  clean_rpc : (call : RpcCall) (read : ReadText) → RefusedUsual read → Exits (runs_rpc (λ inner at. mean_of statement_limit inner at) call read)
+  unfolding runs_rpc
+  clean_rpc call read usual = clean_if error (LeavesOther error) (is_too_many call) (fails_call (plain outside_limits)) _ (clean_fails_call (plain outside_limits) (usual_other error (pos 49007) refl))
+      (clean_if error (LeavesOther error) (skips_place call) (fails_call mismatch) _ (clean_fails_call mismatch (usual_other error (pos 49012) refl))
+      (clean_if error (LeavesOther error) (is_sql call.target) (runs_sql (λ inner at. mean_of statement_limit inner at) call read) (execs (λ inner at. mean_of statement_limit inner at) call (finds_named call (object_in read)))
+      (clean_sql call read usual) (clean_execs call (finds_named call (object_in read)) (clean_named call (object_in read)))))
+
+  clean_rpc_end : (exit : Exit) → Plainly error (ends_rpc exit)
+  unfolding ends_rpc ends_rpc_doomed
+  clean_rpc_end exit = λ p. clean_if error Anything p.txn.doomed ends_rpc_doomed (makes (sends (rpc_done (has_failed exit) ∷ [])) (over tt))
+      ((usual_other error (pos 3998) refl, tt), clean_then error Anything Anything rolls_back_told (λ done. makes (sends (rpc_done true ∷ [])) (over tt)) clean_told (λ done any. ((tt, tt), tt)))
+      ((tt, tt), tt)
+
+-- what is read for a call is refused by a usual error, too
+called_usual : (units : Option (List ℕ)) (read : ReadText) → ReadsFor units read → RefusedUsual read
+called_usual None read is = subst RefusedUsual (sym is) tt
+called_usual (Some units) read is = read_usual units read is
+
 -- ---- the laws
 
 pub statement_causes : StatementCauses
@@ -459,4 +574,11 @@ unfolding batch Held
 batch_causes error units read old new exchanges reads_so none held =
     let come = held_clean error {A = Unit {0}} Anything (runs_text read then ends) (made (begins (vars_in_text read)) old) new exchanges tt
     (clean_then error (LeavesOther error) Anything (runs_text read) ends (clean_text error read (read_usual units read reads_so)) (λ exit other. clean_end error exit)) none held in
+    subst (TellsNone error) (sym come.1.1) come.1.2
+
+pub call_causes : CallCauses
+unfolding rpc Held
+call_causes error call read old new exchanges reads_so none held =
+    let come = held_clean error {A = Unit {0}} Anything (runs_rpc (λ inner at. mean_of statement_limit inner at) call read then ends_rpc) (made counts (made (begins (rpc_vars call)) old)) new exchanges tt
+    (clean_then error (LeavesOther error) Anything (runs_rpc (λ inner at. mean_of statement_limit inner at) call read) ends_rpc (clean_rpc error call read (called_usual (rpc_text call) read reads_so)) (λ exit other. clean_rpc_end error exit)) none held in
     subst (TellsNone error) (sym come.1.1) come.1.2

@@ -1,4 +1,4 @@
--- Own: `StatementCauses` and `BatchCauses`. A client is told ERROR 1205 only where the engine has replied Victim, and ERROR 1222 only where it has
+-- Own: `StatementCauses`, `BatchCauses` and `CallCauses`. A client is told ERROR 1205 only where the engine has replied Victim, and ERROR 1222 only where it has
 -- replied TimedOut. Whatever else a statement fails by has another number.
 use Rattle.std.specs.Prelude.{◌≡◌, ◌≢◌, ℕ, ℤ, pos, Bool, true, false, List, ◌++◌, Option, None, Some}
 use Rattle.std.specs.List.{AllByRecursion}
@@ -9,6 +9,8 @@ use Rattle.step_model.specs.Exchange.{Exchange}
 use Rattle.step_model.specs.Ranges.{deadlock, lock_timeout}
 use Rattle.tds_tokens.specs.declared.token.Token.{Token}
 use Rattle.tds_tokens.specs.declared.token.Token.TheVariants.{Error}
+use Rattle.rpc_requests.specs.declared.call.RpcCall.{RpcCall}
+use Rattle.batch_meaning.specs.Rpc.{ReadsCallAs, rpc}
 use Rattle.batch_meaning.specs.declared.exit.Exit.{Exit}
 use Rattle.batch_meaning.specs.declared.exit.Exit.TheVariants.{Raise, RaiseUp}
 use Rattle.batch_meaning.specs.declared.form.ReadText.{ReadText}
@@ -81,3 +83,8 @@ StatementCauses = (error : LockError) (levels : ℕ) (around : Around) (statemen
 abbrev pub BatchCauses : Type 0
 BatchCauses = (error : LockError) (text : List ℕ) (read : ReadText) (old new : SessionProgress) (exchanges : List Exchange)
     → ReadsAs text read → NeverAnswered error exchanges → Held (batch read) old exchanges tt new → TellsNone error new.tokens
+
+-- A call by RPC, as its text is read, to which the engine has never replied so sends no token that tells it.
+abbrev pub CallCauses : Type 0
+CallCauses = (error : LockError) (call : RpcCall) (read : ReadText) (old new : SessionProgress) (exchanges : List Exchange)
+    → ReadsCallAs call read → NeverAnswered error exchanges → Held (rpc call read) old exchanges tt new → TellsNone error new.tokens

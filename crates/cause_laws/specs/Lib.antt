@@ -1,2 +1,2 @@
 -- Read in this order; the comment behind a name says what the file is for.
-pub mod Causes  -- StatementCauses, BatchCauses: an error of a lock is told only where the engine has replied so
+pub mod Causes  -- StatementCauses, BatchCauses, CallCauses: an error of a lock is told only where the engine has replied so

@@ -6,12 +6,13 @@
 //! in turn is no part of it (`refusals_caused` of `step_model`), and nothing is said of ERROR 701, since want of memory may come at any time.
 #![tactic(auto)]
 
-ghost use Rattle.cause_laws.specs.Causes.{BatchCauses, StatementCauses};
+ghost use Rattle.cause_laws.specs.Causes.{BatchCauses, CallCauses, StatementCauses};
 
-/// Where no reply makes the session the victim of a deadlock, or says that a lock stands in its way, no batch tells that error, and no
-/// statement but in the CATCH of that error.
+/// Where no reply makes the session the victim of a deadlock, or says that a lock stands in its way, no batch and no call by RPC tells
+/// that error, and no statement but in the CATCH of that error.
 #[tactic(auto, using(crate::proofs::Causes::statement_causes))]
 pub fn law_causes()
     ensures statement { StatementCauses }
     ensures batch { BatchCauses }
+    ensures call { CallCauses }
 {}

@@ -1,9 +1,9 @@
--- Each response of a connection is that of a batch, by its own exchanges, or has no token that tells an error of a lock.
+-- Each response of a connection is that of a batch or a call, by its own exchanges, or has no token that tells an error of a lock.
 use Rattle.std.proofs.Common.{◌≡◌, inl, inr, ℕ, ℤ, pos, ◌==◌, Bool, true, false, if◌then◌else◌, List, [], ◌∷◌, ◌++◌, fold, map, Option, None, Some, Result, Ok, Err, refl, sym, ap, ◌∙◌, subst, append_assoc, append-nil}
 use Rattle.std.specs.List.{All, AllByRecursion, flat_map}
 use Rattle.std.proofs.lemmas.List.Elements.{All-head, All-tail}
 use Rattle.tds_packets.specs.declared.message.Message.{Message}
-use Rattle.tds_packets.specs.Header.{sql_batch, attention, login7, prelogin}
+use Rattle.tds_packets.specs.Header.{sql_batch, rpc as rpc_request, attention, login7, prelogin}
 use Rattle.tds_login.specs.declared.config.Config.{Config}
 use Rattle.tds_login.specs.declared.login.Login.{Login}
 use Rattle.tds_login.specs.declared.login.LoginFault.{LoginFault}
@@ -13,20 +13,25 @@ use Rattle.tds_login.specs.Prelogin.{prelogin_of}
 use Rattle.tds_login.specs.Login.{login_of}
 use Rattle.tds_login.specs.Verdict.{has_credentials, is_known, judge_login, login_failed, size_for, unknown_database}
 use Rattle.step_model.specs.Exchange.{Exchange}
+use Rattle.rpc_requests.specs.declared.call.RpcCall.{RpcCall}
+use Rattle.rpc_requests.specs.declared.fault.RpcFault.{RpcFault}
+use Rattle.rpc_requests.specs.declared.fault.RpcFault.TheVariants as rpc_fault
+use Rattle.rpc_requests.specs.Reading.{rpc_of}
 use Rattle.batch_meaning.specs.declared.form.ReadText.{ReadText}
+use Rattle.batch_meaning.specs.Rpc.{rpc}
 use Rattle.batch_meaning.specs.Doing.{Doing, over, ◌then◌, Held}
 use Rattle.batch_meaning.specs.Meaning.{batch, rolls_back_open}
 use Rattle.batch_meaning.specs.Progress.{SessionProgress, first_progress}
 use Rattle.statement_paths.proofs.Apart.{held_apart}
 use Rattle.cause_laws.specs.Causes.{LockError, IsOther, NeverAnswered, is_answer}
-use Rattle.cause_laws.proofs.Causes.{batch_causes}
+use Rattle.cause_laws.proofs.Causes.{batch_causes, call_causes}
 use Rattle.cause_laws.proofs.Clean.{all_both, all_front, usual_other}
 use Rattle.session_server.specs.declared.end.BatchFault.{BatchFault}
 use Rattle.session_server.specs.declared.end.End.{End}
 use Rattle.session_server.specs.Conversation.{Abandons, IsAsked, closed}
 use Rattle.session_server.specs.Ends.{Cause, no_message, by_message, unsent, unmade}
 use Rattle.session_server.specs.Response.{Response}
-use Rattle.session_server.specs.Talk.{AreRequests, Handling, IsReadAs, IsRequest, Request, Walk, batch_fault, batch_response, ends, first_walk, handle, handle_batch, handle_login, handle_prelogin, handle_verdict, handling_in, refuses, responds, response_to, runs, talk_of, walk_by, walk_of, walk_on, with_handling, with_message, with_request}
+use Rattle.session_server.specs.Talk.{AreRequests, Handling, IsReadAs, IsRequest, Request, Walk, batch_fault, batch_response, calls, ends, first_walk, handle, handle_batch, handle_login, handle_prelogin, handle_rpc, handle_verdict, handling_in, refuses, responds, response_to, rpc_response, runs, talk_of, walk_by, walk_of, walk_on, with_handling, with_message, with_request}
 use Rattle.sound_laws.proofs.Looked.{all_left}
 use Rattle.connection_laws.specs.Causes.{AreCaused, ConnectionCauses, HasCauses, ResponseTellsNone}
 use Rattle.connection_laws.proofs.Short.{GoesBy, IsLimited, IsReached, all_limited, first_reached, handled_goes}
@@ -50,7 +55,7 @@ verdict_other error login config P granted refused = by_tests (has_credentials l
 module _ (error : LockError) where
   -- ---- how messages are handled
 
-  -- a response that is none of a batch tells it in no token
+  -- a response that is none of a batch or a call tells it in no token
   abbrev pub HandlesOther : Handling → Type 0
   HandlesOther (responds response next) = ResponseTellsNone error response
   HandlesOther (refuses response number) = ResponseTellsNone error response
@@ -72,6 +77,11 @@ module _ (error : LockError) where
   batch_other size payload None = tt
   batch_other size payload (Some fault) = tt
 
+  rpc_other : (size : ℕ) (read : Result RpcCall RpcFault) → HandlesOther (handle_rpc size read)
+  rpc_other size (Ok call) = tt
+  rpc_other size (Err (rpc_fault.Bad _ _)) = tt
+  rpc_other size (Err rpc_fault.Memory) = tt
+
   -- by where the connection stands
   abbrev OtherBy : {S : Type 0} → (S → Handling) → Result S End → Type 0
   OtherBy handled (Ok state) = HandlesOther (handled state)
@@ -82,7 +92,7 @@ module _ (error : LockError) where
       (other_if (message.kind == prelogin) _ _ (prelogin_other (prelogin_of message.payload)) (other_if (message.kind == login7) _ _ (login_other config (login_of message.payload)) tt))
   handled_other config walk message (inr (inl (read, ready))) = subst (OtherBy (λ state. handle config state message)) (sym ready) (other_if (message.kind == login7) _ _ (login_other config (login_of message.payload)) tt)
   handled_other config walk message (inr (inr (inl (size, logged)))) = subst (OtherBy (λ state. handle config state message)) (sym logged)
-      (other_if (message.kind == sql_batch) _ _ (batch_other size message.payload (batch_fault message.payload)) (other_if (message.kind == attention) _ _ (tt, tt) tt))
+      (other_if (message.kind == sql_batch) _ _ (batch_other size message.payload (batch_fault message.payload)) (other_if (message.kind == rpc_request) _ _ (rpc_other size (rpc_of message.payload)) (other_if (message.kind == attention) _ _ (tt, tt) tt)))
   handled_other config walk message (inr (inr (inr (end, ended)))) = subst (OtherBy (λ state. handle config state message)) (sym ended) tt
 
   -- ---- all messages
@@ -93,6 +103,7 @@ module _ (error : LockError) where
   other_with : (handled : List Handling) (handling : Handling) → AreOther handled → HandlesOther handling → AreOther (with_handling handled handling)
   other_with handled (responds response next) all one = all_both HandlesOther handled (responds response next ∷ []) all (one, tt)
   other_with handled (runs size text) all one = all_both HandlesOther handled (runs size text ∷ []) all (one, tt)
+  other_with handled (calls size call) all one = all_both HandlesOther handled (calls size call ∷ []) all (one, tt)
   other_with handled (refuses response number) all one = all_both HandlesOther handled (refuses response number ∷ []) all (one, tt)
   other_with handled (ends end) all one = all
 
@@ -136,12 +147,16 @@ module _ (error : LockError) where
   caused_more (front ∷ parts) (first ∷ responses) part response all one = (all.0, caused_more parts responses part response all.1 one)
 
   response_other : (handling : Handling) (read_as : ReadText) (p new : SessionProgress) (exchanges : List Exchange) (response : Response) → HandlesOther handling → IsReadAs handling read_as → NeverAnswered error exchanges → Held (response_to handling read_as) p exchanges response new → ResponseTellsNone error response
-  unfolding batch_response Held
+  unfolding batch_response rpc_response Held
   response_other (responds answer next) read_as p new exchanges response other is none held = subst (ResponseTellsNone error) (sym held.1) other
   response_other (runs size text) read_as p new exchanges response other is none held =
       let on = held_apart (batch read_as) (gives_tokens size) p new exchanges response held in
       let front : NeverAnswered error on.front = all_front (λ (x : Exchange). is_answer error x.reply ≡ false) on.front on.back (subst (NeverAnswered error) on.parts none) in
       subst (ResponseTellsNone error) (sym on.rest.1) (batch_causes error text read_as p on.mid on.front is front on.held)
+  response_other (calls size call) read_as p new exchanges response other is none held =
+      let on = held_apart (rpc call read_as) (gives_tokens size) p new exchanges response held in
+      let front : NeverAnswered error on.front = all_front (λ (x : Exchange). is_answer error x.reply ≡ false) on.front on.back (subst (NeverAnswered error) on.parts none) in
+      subst (ResponseTellsNone error) (sym on.rest.1) (call_causes error call read_as p on.mid on.front is front on.held)
   response_other (refuses answer number) read_as p new exchanges response other is none held = subst (ResponseTellsNone error) (sym held.1) other
   response_other (ends end) read_as p new exchanges response other is none held = absurd held
 

@@ -1,7 +1,8 @@
 -- Read in this order; the comment behind a name says what the file is for.
+pub mod Sizes  -- a call has no text that is longer than its payload
 pub mod Short  -- texts of messages are short, so what they keep reads back
 pub mod Talks  -- what a talk has asked, request by request
-pub mod Shut  -- what a batch that was left has open is rolled back
-pub mod Served  -- what a connection has asked are batches; and so it is of connections one behind another
+pub mod Shut  -- what a batch or a call that was left has open is rolled back
+pub mod Served  -- what a connection has asked are batches and calls; and so it is of connections one behind another
 pub mod Sound  -- each commit keeps its database intact, and each database of the log is
 pub mod Causes  -- each response tells an error of a lock only where the engine has replied so

@@ -6,7 +6,7 @@ use Rattle.std.proofs.lemmas.List.Elements.{All-head, All-tail}
 use Rattle.value_types.specs.Units.{units_of}
 use Rattle.table_rows.specs.Definitions.{longest_text}
 use Rattle.tds_packets.specs.declared.message.Message.{Message}
-use Rattle.tds_packets.specs.Header.{sql_batch, attention, login7, prelogin}
+use Rattle.tds_packets.specs.Header.{sql_batch, rpc as rpc_request, attention, login7, prelogin}
 use Rattle.tds_packets.specs.Stream.{Joins, payload_limit}
 use Rattle.tds_login.specs.declared.config.Config.{Config}
 use Rattle.tds_login.specs.declared.config.Entry.{Entry}
@@ -18,14 +18,20 @@ use Rattle.tds_login.specs.declared.prelogin.PreloginFault.{PreloginFault}
 use Rattle.tds_login.specs.Prelogin.{prelogin_of}
 use Rattle.tds_login.specs.Login.{login_of}
 use Rattle.tds_login.specs.Verdict.{judge_login}
+use Rattle.rpc_requests.specs.declared.call.RpcCall.{RpcCall}
+use Rattle.rpc_requests.specs.declared.fault.RpcFault.{RpcFault}
+use Rattle.rpc_requests.specs.declared.fault.RpcFault.TheVariants as rpc_fault
+use Rattle.rpc_requests.specs.Reading.{rpc_of}
+use Rattle.batch_meaning.specs.Rpc.{ReadsFor, rpc_text}
 use Rattle.batch_meaning.specs.declared.form.ReadText.{ReadText}
-use Rattle.batch_meaning.specs.declared.form.ReadText.TheVariants.{Statements}
 use Rattle.session_server.specs.declared.end.BatchFault.{BatchFault}
 use Rattle.session_server.specs.declared.end.End.{End}
-use Rattle.session_server.specs.Talk.{Handling, responds, runs, refuses, ends, first_state, next_of, handle_prelogin, handle_verdict, handle_login, headers_length, batch_fault, text_of, handle_batch, handle, Walk, with_handling, walk_on, walk_by, with_message, first_walk, walk_of, Request, IsReadAs, IsRequest, handling_in, AreRequests}
-use Rattle.text_laws.specs.Laws.{TextReadsBack}
-use Rattle.text_laws.proofs.Served.{served_text}
-use Rattle.connection_laws.specs.Batches.{batches_of, with_batch}
+use Rattle.session_server.specs.Talk.{Handling, responds, runs, calls, refuses, ends, first_state, next_of, handle_prelogin, handle_verdict, handle_login, handle_rpc, headers_length, batch_fault, text_of, handle_batch, handle, Walk, with_handling, walk_on, walk_by, with_message, first_walk, walk_of, Request, IsReadAs, IsRequest, handling_in, AreRequests}
+use Rattle.sound_laws.specs.Runs.{Task, TaskReadsBack}
+use Rattle.text_laws.specs.Laws.{CallReadsBack, TextReadsBack}
+use Rattle.text_laws.proofs.Served.{served_call, served_text}
+use Rattle.connection_laws.proofs.Sizes.{IsShortText, call_short}
+use Rattle.connection_laws.specs.Tasks.{tasks_of, with_task}
 
 -- ---- one message
 
@@ -37,9 +43,10 @@ units_short (low ∷ high ∷ bytes) = omega (arith, units_short bytes)
 text_short : (payload : List ℕ) → length payload ≤ payload_limit → length (text_of payload) ≤ longest_text
 text_short payload limit = omega (arith, units_short (drop (headers_length payload) payload), length-drop (headers_length payload) payload)
 
--- the text of a batch that is run is short
+-- the text of a batch that is run is short, or that of a call
 abbrev pub IsShort : Handling → Type 0
 IsShort (runs size text) = length text ≤ longest_text
+IsShort (calls size call) = IsShortText (rpc_text call)
 IsShort handling = Unit {0}
 
 -- The connection stands where it begins before a login, behind a PRELOGIN, or logged in; or it has ended. The type of its
@@ -79,6 +86,14 @@ module _ (walk : Walk) where
   batch_goes size payload limit None = (text_short payload limit, inr (inr (inl (size, refl))))
   batch_goes size payload limit (Some fault) = (tt, inr (inr (inr (_, refl))))
 
+  rpc_goes : (size : ℕ) (payload : List ℕ) → length payload ≤ payload_limit → Goes (handle_rpc size (rpc_of payload))
+  rpc_goes size payload limit = by_read (rpc_of payload) refl
+    where
+      by_read : (read : Result RpcCall RpcFault) → rpc_of payload ≡ read → Goes (handle_rpc size read)
+      by_read (Ok call) is = (call_short payload call limit is, inr (inr (inl (size, refl))))
+      by_read (Err (rpc_fault.Bad _ _)) is = (tt, inr (inr (inr (_, refl))))
+      by_read (Err rpc_fault.Memory) is = (tt, inr (inr (inr (_, refl))))
+
 -- the payload of a message is within its limit
 abbrev pub IsLimited : Message → Type 0
 IsLimited message = length message.payload ≤ payload_limit
@@ -95,7 +110,7 @@ handled_goes config walk message limit (inl first) = subst (GoesBy walk (λ stat
 handled_goes config walk message limit (inr (inl (read, ready))) = subst (GoesBy walk (λ state. handle config state message)) (sym ready)
     (goes_if walk (message.kind == login7) _ _ (login_goes walk config (login_of message.payload)) (ends_goes walk _))
 handled_goes config walk message limit (inr (inr (inl (size, logged)))) = subst (GoesBy walk (λ state. handle config state message)) (sym logged)
-    (goes_if walk (message.kind == sql_batch) _ _ (batch_goes walk size message.payload limit (batch_fault message.payload)) (goes_if walk (message.kind == attention) _ _ (tt, inr (inr (inl (size, refl)))) (ends_goes walk _)))
+    (goes_if walk (message.kind == sql_batch) _ _ (batch_goes walk size message.payload limit (batch_fault message.payload)) (goes_if walk (message.kind == rpc_request) _ _ (rpc_goes walk size message.payload limit) (goes_if walk (message.kind == attention) _ _ (tt, inr (inr (inl (size, refl)))) (ends_goes walk _))))
 handled_goes config walk message limit (inr (inr (inr (end, ended)))) = subst (GoesBy walk (λ state. handle config state message)) (sym ended) tt
 
 -- where it goes on from a state, the text is short
@@ -119,6 +134,7 @@ short_append (first ∷ handled) handling all one = (all.0, short_append handled
 short_with : (handled : List Handling) (handling : Handling) → AreShort handled → IsShort handling → AreShort (with_handling handled handling)
 short_with handled (responds response next) all one = short_append handled (responds response next) all one
 short_with handled (runs size text) all one = short_append handled (runs size text) all one
+short_with handled (calls size call) all one = short_append handled (calls size call) all one
 short_with handled (refuses response number) all one = short_append handled (refuses response number) all one
 short_with handled (ends end) all one = all
 
@@ -149,26 +165,35 @@ module _ (config : Config) where
 
 -- ---- requests
 
-nothing_back : (read_as : ReadText) → read_as ≡ Statements [] → TextReadsBack read_as
-nothing_back read_as none = subst TextReadsBack (sym none) tt
+-- what is run reads back
+abbrev pub HandledBack : Handling → ReadText → Type 0
+HandledBack (runs size text) read_as = TextReadsBack read_as
+HandledBack (calls size call) read_as = CallReadsBack read_as
+HandledBack handling read_as = Unit {0}
 
-pub text_back : (handling : Handling) (read_as : ReadText) → IsShort handling → IsReadAs handling read_as → TextReadsBack read_as
+called_back : (text : Option (List ℕ)) (read_as : ReadText) → IsShortText text → ReadsFor text read_as → CallReadsBack read_as
+called_back None read_as short none = subst CallReadsBack (sym none) tt
+called_back (Some text) read_as short reads = served_call text read_as reads short
+
+pub text_back : (handling : Handling) (read_as : ReadText) → IsShort handling → IsReadAs handling read_as → HandledBack handling read_as
 text_back (runs size text) read_as short reads = served_text text read_as reads short
-text_back (responds response next) read_as short none = nothing_back read_as none
-text_back (refuses response number) read_as short none = nothing_back read_as none
-text_back (ends end) read_as short none = nothing_back read_as none
+text_back (calls size call) read_as short reads = called_back (rpc_text call) read_as short reads
+text_back (responds response next) read_as short none = tt
+text_back (refuses response number) read_as short none = tt
+text_back (ends end) read_as short none = tt
 
-with_back : (handling : Handling) (read_as : ReadText) (others : List ReadText) → IsShort handling → IsReadAs handling read_as → AllByRecursion TextReadsBack others → AllByRecursion TextReadsBack (with_batch handling read_as others)
-with_back (runs size text) read_as others short reads back = (served_text text read_as reads short, back)
-with_back (responds response next) read_as others short none back = back
-with_back (refuses response number) read_as others short none back = back
-with_back (ends end) read_as others short none back = back
+with_back : (handling : Handling) (read_as : ReadText) (others : List Task) → HandledBack handling read_as → AllByRecursion TaskReadsBack others → AllByRecursion TaskReadsBack (with_task handling read_as others)
+with_back (runs size text) read_as others one back = (one, back)
+with_back (calls size call) read_as others one back = (one, back)
+with_back (responds response next) read_as others one back = back
+with_back (refuses response number) read_as others one back = back
+with_back (ends end) read_as others one back = back
 
-each_back : (requests : List Request) → AreShort (map handling_in requests) → All IsRequest requests → AllByRecursion TextReadsBack (batches_of requests)
+each_back : (requests : List Request) → AreShort (map handling_in requests) → All IsRequest requests → AllByRecursion TaskReadsBack (tasks_of requests)
 each_back [] short are = tt
 each_back (request ∷ requests) short are =
-    with_back request.handling request.read_as (batches_of requests) short.0 (All-head IsRequest request requests are) (each_back requests short.1 (All-tail IsRequest request requests are))
+    with_back request.handling request.read_as (tasks_of requests) (text_back request.handling request.read_as short.0 (All-head IsRequest request requests are)) (each_back requests short.1 (All-tail IsRequest request requests are))
 
--- the batches of requests that were handled so
-pub batches_back : (handled : List Handling) (requests : List Request) → AreShort handled → AreRequests handled requests → AllByRecursion TextReadsBack (batches_of requests)
-batches_back handled requests short are = each_back requests (subst AreShort (sym are.handlings) short) are.are
+-- the batches and calls of requests that were handled so
+pub tasks_back : (handled : List Handling) (requests : List Request) → AreShort handled → AreRequests handled requests → AllByRecursion TaskReadsBack (tasks_of requests)
+tasks_back handled requests short are = each_back requests (subst AreShort (sym are.handlings) short) are.are

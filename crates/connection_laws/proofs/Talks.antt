@@ -1,15 +1,17 @@
--- A talk is taken apart: the batches of its requests were done, one behind another.
+-- A talk is taken apart: the batches and calls of its requests were done, one behind another.
 use Rattle.std.proofs.Common.{◌≡◌, ℕ, List, [], ◌∷◌, ◌++◌, fold, refl, sym, ap, ◌∙◌, subst, append-nil, append_assoc}
 use Rattle.step_model.specs.Exchange.{Exchange}
+use Rattle.rpc_requests.specs.declared.call.RpcCall.{RpcCall}
 use Rattle.batch_meaning.specs.declared.form.ReadText.{ReadText}
 use Rattle.batch_meaning.specs.Doing.{Doing, over, reads, ◌then◌, Held}
 use Rattle.batch_meaning.specs.Meaning.{batch}
 use Rattle.batch_meaning.specs.Progress.{SessionProgress, first_progress}
+use Rattle.batch_meaning.specs.Rpc.{rpc}
 use Rattle.statement_paths.proofs.Apart.{held_apart}
 use Rattle.session_server.specs.Response.{Response, tabular}
-use Rattle.session_server.specs.Talk.{Handling, responds, runs, refuses, ends, batch_response, response_to, talk_more, with_request, Request, talk_of}
-use Rattle.sound_laws.specs.Runs.{AreDone}
-use Rattle.connection_laws.specs.Batches.{batches_of, with_batch}
+use Rattle.session_server.specs.Talk.{Handling, responds, runs, calls, refuses, ends, batch_response, rpc_response, response_to, talk_more, with_request, Request, talk_of}
+use Rattle.sound_laws.specs.Runs.{AreDone, Task}
+use Rattle.connection_laws.specs.Tasks.{tasks_of, with_task}
 
 -- where nothing is asked behind a tree, the exchanges are the tree's
 pub held_whole : {A : Type 0} (tree : Doing A) (p mid new : SessionProgress) (exchanges front back : List Exchange) (a : A) → Held tree p front a mid → exchanges ≡ front ++ back → back ≡ [] → new ≡ mid → Held tree p exchanges a new
@@ -19,7 +21,7 @@ held_whole tree p mid new exchanges front back a held parts none same =
 
 -- ---- one request
 
--- the response to a batch has the tokens that it sent
+-- the response to a batch or a call has the tokens that it sent
 abbrev pub gives_tokens : ℕ → Unit {0} → Doing Response
 gives_tokens size nothing = reads λ p. over (tabular size p.tokens)
 
@@ -29,15 +31,22 @@ batch_done size read_as old new exchanges response held =
     let on = held_apart (batch read_as) (gives_tokens size) old new exchanges response held in
     held_whole (batch read_as) old on.mid new exchanges on.front on.back tt on.held on.parts on.rest.0 on.rest.2
 
-module _ (others : List ReadText) (old mid new : SessionProgress) (first later : List Exchange) (response : Response) (done : AreDone others mid later new) where
-  -- a request that runs no batch asks nothing
+call_done : (size : ℕ) (call : RpcCall) (read_as : ReadText) (old new : SessionProgress) (exchanges : List Exchange) (response : Response) → Held (rpc_response size call read_as) old exchanges response new → Held (rpc call read_as) old exchanges tt new
+unfolding rpc_response Held
+call_done size call read_as old new exchanges response held =
+    let on = held_apart (rpc call read_as) (gives_tokens size) old new exchanges response held in
+    held_whole (rpc call read_as) old on.mid new exchanges on.front on.back tt on.held on.parts on.rest.0 on.rest.2
+
+module _ (others : List Task) (old mid new : SessionProgress) (first later : List Exchange) (response : Response) (done : AreDone others mid later new) where
+  -- a request that runs nothing asks nothing
   still_done : first ≡ [] → mid ≡ old → AreDone others old (first ++ later) new
   still_done none same = subst (λ (l : List Exchange). AreDone others old (l ++ later) new) (sym none) (subst (λ (q : SessionProgress). AreDone others q later new) same done)
 
-  request_done : (handling : Handling) (read_as : ReadText) → Held (response_to handling read_as) old first response mid → AreDone (with_batch handling read_as others) old (first ++ later) new
+  request_done : (handling : Handling) (read_as : ReadText) → Held (response_to handling read_as) old first response mid → AreDone (with_task handling read_as others) old (first ++ later) new
   unfolding Held
   request_done (responds answer next) read_as held = still_done held.0 held.2
   request_done (runs size text) read_as held = (mid, first, later, refl, batch_done size read_as old mid first response held, done)
+  request_done (calls size call) read_as held = (mid, first, later, refl, call_done size call read_as old mid first response held, done)
   request_done (refuses answer number) read_as held = still_done held.0 held.2
   request_done (ends end) read_as held = absurd held
 
@@ -70,7 +79,7 @@ more_apart talk tree p new exchanges responses held =
       responded = held_whole tree one.mid two.mid new one.back two.front two.back two.came two.held two.parts two.rest.0 two.rest.2;
     }
 
--- what was asked for a talk, and behind it the batches of more requests
+-- what was asked for a talk, and behind it the batches and calls of more requests
 pub record Behind (talk : Doing (List Response)) (requests : List Request) (p new : SessionProgress) (exchanges : List Exchange) : Type 0 where
   pub front : List Exchange
   pub back : List Exchange
@@ -78,7 +87,7 @@ pub record Behind (talk : Doing (List Response)) (requests : List Request) (p ne
   pub mid : SessionProgress
   pub parts : exchanges ≡ front ++ back
   pub talked : Held talk p front earlier mid
-  pub done : AreDone (batches_of requests) mid back new
+  pub done : AreDone (tasks_of requests) mid back new
 
 behind : (requests : List Request) (talk : Doing (List Response)) (p new : SessionProgress) (exchanges : List Exchange) (responses : List Response) → Held (fold with_request talk requests) p exchanges responses new → Behind talk requests p new exchanges
 behind [] talk p new exchanges responses held = record {
@@ -100,13 +109,13 @@ behind (request ∷ others) talk p new exchanges responses held =
       mid = more.mid;
       parts = on.parts ∙ ap (λ (l : List Exchange). l ++ on.back) more.parts ∙ append_assoc more.front more.back on.back;
       talked = more.talked;
-      done = request_done (batches_of others) more.mid on.mid new more.back on.back more.response on.done request.handling request.read_as more.responded;
+      done = request_done (tasks_of others) more.mid on.mid new more.back on.back more.response on.done request.handling request.read_as more.responded;
     }
 
--- What was asked for the responses to requests is what their batches ask.
-pub talk_done : (requests : List Request) (new : SessionProgress) (exchanges : List Exchange) (responses : List Response) → Held (talk_of requests) first_progress exchanges responses new → AreDone (batches_of requests) first_progress exchanges new
+-- What was asked for the responses to requests is what their batches and calls ask.
+pub talk_done : (requests : List Request) (new : SessionProgress) (exchanges : List Exchange) (responses : List Response) → Held (talk_of requests) first_progress exchanges responses new → AreDone (tasks_of requests) first_progress exchanges new
 unfolding talk_of Held
 talk_done requests new exchanges responses held =
     let on = behind requests (over []) first_progress new exchanges responses held in
-    subst (λ (q : SessionProgress). AreDone (batches_of requests) q exchanges new) on.talked.2
-    (subst (λ (l : List Exchange). AreDone (batches_of requests) on.mid l new) (sym (on.parts ∙ ap (λ (l : List Exchange). l ++ on.back) on.talked.0)) on.done)
+    subst (λ (q : SessionProgress). AreDone (tasks_of requests) q exchanges new) on.talked.2
+    (subst (λ (l : List Exchange). AreDone (tasks_of requests) on.mid l new) (sym (on.parts ∙ ap (λ (l : List Exchange). l ++ on.back) on.talked.0)) on.done)

@@ -1,5 +1,5 @@
--- Own: the laws of connections. A connection asks what its messages mean; here it is said that these are batches, and what
--- follows of it for the log of commits.
+-- Own: the laws of connections. A connection asks what its messages mean; here it is said that these are batches and calls by
+-- RPC, and what follows of it for the log of commits.
 use Rattle.std.specs.Prelude.{◌≡◌, ℕ, List, [], take}
 use Rattle.std.specs.List.{AllByRecursion, flat_map}
 use Rattle.tds_login.specs.declared.config.Config.{Config}
@@ -18,7 +18,7 @@ use Rattle.session_server.specs.Talk.{Request}
 use Rattle.sound_laws.specs.Runs.{AreServed}
 use Rattle.sound_laws.specs.Stands.{CommitsKeep, Intact}
 use Rattle.sound_laws.specs.Tied.{Tied}
-use Rattle.connection_laws.specs.Batches.{AsksBatches, batches_of}
+use Rattle.connection_laws.specs.Tasks.{AsksTasks, tasks_of}
 
 -- These exchanges are what one connection has asked for the messages that it took, until it ended.
 pub record IsConnection (exchanges : List Exchange) : Type 0 where
@@ -32,10 +32,10 @@ pub record IsConnection (exchanges : List Exchange) : Type 0 where
   pub split : Splits taken messages rest
   pub asked : IsAsked config messages requests exchanges responses cause
 
--- They are those of the batches of its requests, one behind another, and at the end those of one that was left, if one was. A transaction
--- may go over batches; what is open at the end is rolled back.
+-- They are those of the batches and calls of its requests, one behind another, and at the end those of one that was left, if one was. A
+-- transaction may go over them; what is open at the end is rolled back.
 abbrev pub ConnectionAsks : Type 0
-ConnectionAsks = (exchanges : List Exchange) (connection : IsConnection exchanges) → AsksBatches connection.cause (batches_of connection.requests) exchanges
+ConnectionAsks = (exchanges : List Exchange) (connection : IsConnection exchanges) → AsksTasks connection.cause (tasks_of connection.requests) exchanges
 
 -- So they have the form that the laws of soundness ask for.
 abbrev pub ConnectionServed : Type 0

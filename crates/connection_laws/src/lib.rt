@@ -1,10 +1,10 @@
-//! Laws of connections: what one connection asks of its port are batches, one behind another, and what texts of its messages
-//! keep reads back; a transaction may go over batches, and what is open at the end is rolled back. So each commit of a session
-//! that serves connections keeps its database sound, and in every run of such sessions each database that the commits of the
-//! log leave is sound. And each response tells ERROR 1205 and ERROR 1222 only where the engine has
+//! Laws of connections: what one connection asks of its port are batches and calls by RPC, one behind another, and what texts of
+//! its messages keep reads back; a transaction may go over them, and what is open at the end is rolled back. So each commit of a
+//! session that serves connections keeps its database sound, and in every run of such sessions each database that the commits of
+//! the log leave is sound. And each response tells ERROR 1205 and ERROR 1222 only where the engine has
 //! replied so.
 //!
-//! Read `specs/Batches.antt` first, then `specs/Laws.antt` and `specs/Causes.antt`. The functions do nothing: each one's contract is a law of what
+//! Read `specs/Tasks.antt` first, then `specs/Laws.antt` and `specs/Causes.antt`. The functions do nothing: each one's contract is a law of what
 //! messages ask (`session_server`), for every reply that may come, and of runs of the engine (`step_model`). They ask nothing
 //! of their caller; only the definitions that they cite say what they mean.
 #![tactic(auto)]
@@ -12,7 +12,7 @@
 ghost use Rattle.connection_laws.specs.Causes.{ConnectionCauses};
 ghost use Rattle.connection_laws.specs.Laws.{ConnectionAsks, ConnectionServed, ConnectionSound, ConnectionsKeep, ConnectionsSound, HistorySound};
 
-/// What a connection has asked is what the batches of its requests ask, one behind another, each done, and each from where the
+/// What a connection has asked is what the batches and calls of its requests ask, one behind another, each done, and each from where the
 /// one before it has come to; then, where the last response was not made, a front of what one more asks, and the rollback of
 /// what they left open. This is served, as the laws of soundness ask for it.
 pub fn law_served_connection()

@@ -1,8 +1,7 @@
 -- Changes that pass all checks keep the constraints of all tables.
-use Rattle.std.proofs.Common.{◌≡◌, refl, sym, ap, ◌∙◌, subst, ◌⊎◌, inl, inr, ℕ, ◌≤◌, Bool, true, false, not, ◌&&◌, ◌||◌, nat_le, List, [], ◌∷◌, ◌++◌, length, map, filter, filter_map, Option, Some, None, IsSome, IsTrue, is_some, if◌then◌else◌, arith, Ok, Err, ℤ, rules, tests}
+use Rattle.std.proofs.Common.{◌≡◌, refl, sym, ap, ◌∙◌, subst, ◌⊎◌, inl, inr, ℕ, Bool, true, false, not, ◌&&◌, ◌||◌, List, [], ◌∷◌, ◌++◌, map, filter, filter_map, Option, Some, None, IsSome, IsTrue, is_some, if◌then◌else◌, Ok, Err}
 use Rattle.std.proofs.lemmas.Bool.{and_parts, and_from}
 use Rattle.std.proofs.lemmas.List.{map-append}
-use Rattle.std.proofs.lemmas.List.Elements.{recursion_from_All}
 use Rattle.std.specs.List.{AllByRecursion, cons_option, flat_map}
 use Rattle.std.specs.Option.{ForSome, option_map, option_or}
 use Rattle.value_types.specs.Units.{same_units}
@@ -23,18 +22,18 @@ use Rattle.step_model.specs.declared.change.Planned.{Planned}
 use Rattle.step_model.specs.declared.change.Change.{Change}
 use Rattle.step_model.specs.declared.range.Start.TheVariants.{At}
 use Rattle.step_model.specs.declared.range.Stop.TheVariants.{Within}
-use Rattle.step_model.specs.Database.{Database, In, With, is_at, is_within}
+use Rattle.step_model.specs.Database.{Database, With, is_at}
 use Rattle.step_model.proofs.Databases.{With-append}
 use Rattle.step_model.specs.Own.{change_of, is_insert, row_of}
 use Rattle.clause_binder.specs.Scope.{key_places}
-use Rattle.table_rows.specs.Rows.{has_columns, key_of, row_fits, values_at}
+use Rattle.table_rows.specs.Rows.{has_columns, key_of, places_of, row_fits, values_at}
 use Rattle.constraint_check.specs.declared.check_read.CheckRead.{CheckRead}
 use Rattle.constraint_check.specs.Local.{broken_among, check_fault, first_given, null_fault, null_in, row_setting}
-use Rattle.constraint_check.specs.Reads.{all_rows, child_read, child_reads, child_where, is_again, is_erase, is_gone, of_both, of_key, of_row, parent_read, parent_reads, parent_reads_of, places_of, is_key, row_at, rows_table, shape_of, unique_read, unique_reads}
-use Rattle.constraint_check.specs.Judged.{agreeing, agrees, error_where}
+use Rattle.constraint_check.specs.Reads.{all_rows, child_read, child_reads, child_where, is_again, is_erase, is_gone, of_both, of_key, of_row, parent_read, parent_reads, parent_reads_of, is_key, row_at, rows_table, shape_of, unique_read, unique_reads}
+use Rattle.constraint_check.specs.Judged.{agrees}
 use Rattle.constraint_check.specs.Integrity.{AreKept, HasParents, IsKept, IsUnique, Stands, comes_false, has_false}
 use Rattle.constraint_check.specs.Laws.{Checked, CheckedKept, KeysAreOne, Passes, behind}
-use Rattle.constraint_check.proofs.Lists.{Among, among_any, among_split, all_filter, all_flat, all_given, all_left, all_more, counted, all_map, all_right, among_both, among_more, count-map, count_one, from_among, one_passes, all_two}
+use Rattle.constraint_check.proofs.Lists.{Among, among_any, among_split, all_filter, all_flat, all_given, all_left, all_more, all_map, all_right, among_both, among_more, from_among, all_two}
 use Rattle.constraint_check.proofs.Behind.{at_is, elsewhere, erased_at, name_is, name_itself, origin, stays, written_stands, one_behind, same, same_back, same_itself, same_on}
 
 -- ---- what the first error says
@@ -78,58 +77,17 @@ of_written P row (change ∷ changes) all (inr later) = of_written P row changes
     rest (Some x) all = all.1
 of_written P row [] all none = absurd none
 
--- ---- what the rows that were read say
-
--- the row at a key of a table is among all its rows
-read_all : (db : Database) (name : List ℕ) (key row : List Value) (rows : List (List Value × List Value)) → KeysAreOne db → db (rows_table name) key ≡ Some row
-    → In db (rows_table name) (all_rows name).start (all_rows name).stop rows → Among (λ (at : List Value × List Value). (same key at.0 ≡ true) × (at.1 ≡ row)) rows
-read_all db name key row rows one stands image =
-    let among = among_any (λ (at : List Value × List Value). same key at.0) rows (image.whole key refl (subst (λ (o : Option (List Value)). IsSome o) (sym stands) refl)) in
-    let both = among_both (λ (at : List Value × List Value). IsTrue true × (db (rows_table name) at.0 ≡ Some at.1)) (λ (at : List Value × List Value). same key at.0 ≡ true) rows (recursion_from_All (λ (at : List Value × List Value). IsTrue true × (db (rows_table name) at.0 ≡ Some at.1)) rows image.rows_of_range) among in
-    among_more _ (λ (at : List Value × List Value). (same key at.0 ≡ true) × (at.1 ≡ row)) (λ at h. (h.1, some_is (sym h.0.1 ∙ sym (one (rows_table name) key at.0 h.1) ∙ stands))) rows both
-  where
-    value_of : Option (List Value) → List Value
-    value_of None = []
-    value_of (Some x) = x
-
-    some_is : {x y : List Value} → Some x ≡ Some y → x ≡ y
-    some_is h = ap value_of h
-
-nothing_wrong : (broken : Bool) (number : ℤ) → error_where broken number ≡ None → broken ≡ false
-nothing_wrong true number h = absurd (let both : true ≡ false = ap is_some h in cc)
-nothing_wrong false number h = refl
-
-few_of : (count : ℕ) → nat_le 2 count ≡ false → count ≤ 1
-few_of count h = search (rules, tests)
-
-some_of : (count : ℕ) → nat_le count 0 ≡ false → 1 ≤ count
-some_of count h = search (rules, tests)
-
-none_of : (count : ℕ) → nat_le 1 count ≡ false → 1 ≤ count → ⊥
-none_of count h some = let few : count ≤ 0 = search (rules, tests) in absurd (omega (arith, few, some))
+-- ---- what passes
 
 -- UNIQUE: two rows with the values of a row that was read for are one
-unique_at : (db : Database) (shape : TableTree) (own : List Value) (unique : KeyTree) → KeysAreOne db → Passes db (unique_read shape own unique) → (key other row and_row : List Value) → Stands db shape key row → Stands db shape other and_row
+unique_at : (db : Database) (shape : TableTree) (own : List Value) (unique : KeyTree) → Passes db (unique_read shape own unique) → (key other row and_row : List Value) → Stands db shape key row → Stands db shape other and_row
     → agrees (unique_read shape own unique) row ≡ true → agrees (unique_read shape own unique) and_row ≡ true → same key other ≡ true
-unique_at db shape own unique one passes key other row and_row stands also agree and_agree =
-    let read = unique_read shape own unique in
-    let rows = passes.0 in
-    let few : length (filter (λ (at : List Value × List Value). agrees read at.1) rows) ≤ 1 =
-    subst (λ (n : ℕ). n ≤ 1) (count-map (agrees read) (λ (at : List Value × List Value). at.1) rows) (few_of (agreeing read (map (λ (at : List Value × List Value). at.1) rows)) (nothing_wrong _ _ passes.2)) in
-    let first = among_more (λ (at : List Value × List Value). (same key at.0 ≡ true) × (at.1 ≡ row)) (λ at. (same key at.0 ≡ true) × (agrees read at.1 ≡ true)) (λ at h. (h.0, ap (agrees read) h.1 ∙ agree)) rows (read_all db shape.name key row rows one stands passes.1) in
-    let second = among_more (λ (at : List Value × List Value). (same other at.0 ≡ true) × (at.1 ≡ and_row)) (λ at. (same other at.0 ≡ true) × (agrees read at.1 ≡ true)) (λ at h. (h.0, ap (agrees read) h.1 ∙ and_agree)) rows (read_all db shape.name other and_row rows one also passes.1) in
-    let both = one_passes (λ (at : List Value × List Value). agrees read at.1) (λ at. same key at.0 ≡ true) (λ at. same other at.0 ≡ true) rows first second few in
-    from_among (λ (at : List Value × List Value). (same key at.0 ≡ true) × (same other at.0 ≡ true)) (same key other ≡ true) (λ at h. same_on key at.0 other h.0 (same_back other at.0 h.1)) rows both
+unique_at db shape own unique passes key other row and_row stands also agree and_agree = passes key other row and_row (refl, stands, agree) (refl, also, and_agree)
 
 -- a parent's rows: none has the values of a key that is gone
-parent_left : (db : Database) (gone : List Value) (child : TableTree) (foreign : ForeignTree) → KeysAreOne db → Passes db (parent_read gone child foreign) → (key row : List Value) → Stands db child key row
+parent_left : (db : Database) (gone : List Value) (child : TableTree) (foreign : ForeignTree) → Passes db (parent_read gone child foreign) → (key row : List Value) → Stands db child key row
     → same (values_at (places_of child foreign.columns) row) gone ≡ true → ⊥
-parent_left db gone child foreign one passes key row stands agree =
-    let read = parent_read gone child foreign in
-    let rows = passes.0 in
-    let here = among_more (λ (at : List Value × List Value). (same key at.0 ≡ true) × (at.1 ≡ row)) (λ at. agrees read at.1 ≡ true) (λ at h. ap (agrees read) h.1 ∙ agree) rows (read_all db child.name key row rows one stands passes.1) in
-    let some : 1 ≤ agreeing read (map (λ (at : List Value × List Value). at.1) rows) = subst (λ (n : ℕ). 1 ≤ n) (sym (count-map (agrees read) (λ (at : List Value × List Value). at.1) rows)) (count_one (λ (at : List Value × List Value). agrees read at.1) rows here) in
-    none_of (agreeing read (map (λ (at : List Value × List Value). at.1) rows)) (nothing_wrong _ _ passes.2) some
+parent_left db gone child foreign passes key row stands agree = passes key row (refl, stands, agree)
 
 row_at_table : (name : List ℕ) (values : List Value) → (row_at name values).table ≡ rows_table name
 row_at_table name values = by_test (is_key values)
@@ -315,9 +273,9 @@ module _ (db : Database) (tests : TableTree → List BoundTest) (shapes : List T
       step unique before passes key other row and_row stands also agree =
           let values : List Value → List Value = λ row. values_at (places_of shape unique.columns) row in
           elim (comes key row stands) [
-            | inr first ↦ unique_at after shape row unique one (passes (row, wrote key row first)) key other row and_row stands also (same_itself (values row)) (same_back (values row) (values and_row) agree)
+            | inr first ↦ unique_at after shape row unique (passes (row, wrote key row first)) key other row and_row stands also (same_itself (values row)) (same_back (values row) (values and_row) agree)
             | inl stood ↦ elim (comes other and_row also) [
-              | inr second ↦ unique_at after shape and_row unique one (passes (and_row, wrote other and_row second)) key other row and_row stands also agree (same_itself (values and_row))
+              | inr second ↦ unique_at after shape and_row unique (passes (and_row, wrote other and_row second)) key other row and_row stands also agree (same_itself (values and_row))
               | inl too ↦ before key other row and_row stood too agree
             ]
           ]
@@ -342,16 +300,7 @@ module _ (db : Database) (tests : TableTree → List BoundTest) (shapes : List T
       by_shape : (o : Option TableTree) → shape_of (rows_table foreign.parent) shapes ≡ o → IsSome o → IsSome (after (rows_table foreign.parent) values)
       by_shape None is some = absurd (let both : false ≡ true = some in cc)
       by_shape (Some parent) is some =
-          let read = child_read shapes foreign values in
-          let rows = passes.0 in
-          let count : 1 ≤ length (filter (λ (at : List Value × List Value). agrees read at.1) rows) =
-          subst (λ (n : ℕ). 1 ≤ n) (count-map (agrees read) (λ (at : List Value × List Value). at.1) rows) (some_of (agreeing read (map (λ (at : List Value × List Value). at.1) rows)) (nothing_wrong _ _ passes.2)) in
-          let range = row_at foreign.parent values in
-          let stand = all_more (λ (at : List Value × List Value). IsTrue (is_within range.start range.stop at.0) × (after range.table at.0 ≡ Some at.1)) (λ at. after (rows_table foreign.parent) at.0 ≡ Some at.1)
-          (λ at h. subst (λ (t : TableName). after t at.0 ≡ Some at.1) (row_at_table foreign.parent values) h.1) rows
-          (recursion_from_All (λ (at : List Value × List Value). IsTrue (is_within range.start range.stop at.0) × (after range.table at.0 ≡ Some at.1)) rows passes.1.rows_of_range) in
-          from_among (λ (at : List Value × List Value). (after (rows_table foreign.parent) at.0 ≡ Some at.1) × (agrees read at.1 ≡ true)) (IsSome (after (rows_table foreign.parent) values)) step rows
-          (among_both (λ (at : List Value × List Value). after (rows_table foreign.parent) at.0 ≡ Some at.1) (λ at. agrees read at.1 ≡ true) rows stand (counted (λ (at : List Value × List Value). agrees read at.1) rows count))
+          step (passes.0, passes.1) (subst (λ (t : TableName). after t passes.0 ≡ Some passes.1) (row_at_table foreign.parent values) passes.2.1, passes.2.2)
         where
           step : (at : List Value × List Value) → (after (rows_table foreign.parent) at.0 ≡ Some at.1) × (agrees (child_read shapes foreign values) at.1 ≡ true) → IsSome (after (rows_table foreign.parent) values)
           step at h =
@@ -446,7 +395,7 @@ module _ (db : Database) (tests : TableTree → List BoundTest) (shapes : List T
       by_option name None is =
           let gone = is_gone_key (values_at (places_of child foreign.columns) row) (subst (λ (n : List ℕ). IsSome (db (rows_table n) (values_at (places_of child foreign.columns) row))) name stood) is in
           let named : same_units foreign.parent shape.name ≡ true = subst (λ (n : List ℕ). same_units n shape.name ≡ true) (sym name) (name_itself shape.name) in
-          absurd (parent_left after gone.0.0 child foreign one (left gone.0 named) key row stands (same_back gone.0.0 (values_at (places_of child foreign.columns) row) gone.1))
+          absurd (parent_left after gone.0.0 child foreign (left gone.0 named) key row stands (same_back gone.0.0 (values_at (places_of child foreign.columns) row) gone.1))
 
       by_test : (b : Bool) → same_units shape.name foreign.parent ≡ b → IsSome (after (rows_table foreign.parent) (values_at (places_of child foreign.columns) row))
       by_test false apart = subst (λ (o : Option (List Value)). IsSome o) (sym (elsewhere shape.name foreign.parent apart changes checked.of_table db (values_at (places_of child foreign.columns) row))) stood

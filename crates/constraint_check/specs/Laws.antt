@@ -1,5 +1,5 @@
--- The law: where a database keeps its tables' constraints, it keeps them behind the changes of a statement that pass
--- all checks.
+-- The laws: rows that were read and give no error break nothing; and where a database keeps its tables' constraints, it keeps them
+-- behind the changes of a statement that pass all checks.
 use Rattle.std.specs.Prelude.{◌≡◌, ◌++◌, true, false, IsTrue, IsSome, List, filter_map, map, Some, None}
 use Rattle.std.specs.List.{AllByRecursion}
 use Rattle.std.specs.Option.{ForSome}
@@ -10,22 +10,39 @@ use Rattle.value_types.specs.Order.{key_cmp}
 use Rattle.tsql_tree.specs.declared.definition.TableTree.{TableTree}
 use Rattle.bound_tree.specs.declared.expr.BoundTest.{BoundTest}
 use Rattle.step_model.specs.declared.change.Planned.{Planned}
-use Rattle.step_model.specs.Database.{Database, In, With}
+use Rattle.step_model.specs.Database.{Database, In, With, is_within}
 use Rattle.step_model.specs.Own.{change_of, row_of}
 use Rattle.table_rows.specs.Rows.{row_fits}
+use Rattle.constraint_check.specs.declared.check_read.Check.{Check}
+use Rattle.constraint_check.specs.declared.check_read.Check.TheVariants.{Unique, Child, Parent}
 use Rattle.constraint_check.specs.declared.check_read.CheckRead.{CheckRead}
 use Rattle.constraint_check.specs.Local.{first_local}
 use Rattle.constraint_check.specs.Reads.{is_erase, reads_for, rows_table, shape_of}
-use Rattle.constraint_check.specs.Judged.{judge}
+use Rattle.constraint_check.specs.Judged.{agrees, judge}
 use Rattle.constraint_check.specs.Integrity.{AreKept}
 
 -- keys that compare equal are one key, as in every database that commits have made
 abbrev pub KeysAreOne : Database → Type 0
 KeysAreOne db = (table : TableName) (key other : List Value) → eq_by_cmp key_cmp key other ≡ true → db table key ≡ db table other
 
--- the rows of the range give no error
+-- a row of the range that has the values that are asked for
+abbrev pub Agrees : Database → CheckRead → List Value → List Value → Type 0
+Agrees db read key row = IsTrue (is_within read.range.start read.range.stop key) × (db read.range.table key ≡ Some row) × (agrees read row ≡ true)
+
+-- by what is checked: of UNIQUE all such rows are at one key, of a row's parent there is one, of a parent's rows there is none
+abbrev pub PassesBy : Check → Database → CheckRead → Type 0
+PassesBy Unique db read = (key other row and_row : List Value) → Agrees db read key row → Agrees db read other and_row → IsTrue (eq_by_cmp key_cmp key other)
+PassesBy Child db read = (key : List Value) × (row : List Value) × Agrees db read key row
+PassesBy Parent db read = (key row : List Value) → Agrees db read key row → ⊥
+
+-- the database has nothing in the range that breaks what is checked
 abbrev pub Passes : Database → CheckRead → Type 0
-Passes db read = (rows : List (List Value × List Value)) × In db read.range.table read.range.start read.range.stop rows × (judge read (map (λ at. at.1) rows) ≡ None)
+Passes db read = PassesBy read.check db read
+
+-- it has not where the rows that were read are those of the range, and give no error
+abbrev pub JudgedPasses : Type 0
+JudgedPasses = (db : Database) (read : CheckRead) (rows : List (List Value × List Value)) → KeysAreOne db → In db read.range.table read.range.start read.range.stop rows
+    → judge read (map (λ at. at.1) rows) ≡ None → Passes db read
 
 -- the database behind changes
 abbrev pub behind : Database → List Planned → Database

@@ -6,7 +6,7 @@ ghost use Rattle.bound_tree.specs.Meaning.{is_null};
 ghost use Rattle.bound_tree.specs.Setting.{value_at};
 ghost use Rattle.step_model.specs.Own.{row_of};
 ghost use Rattle.clause_binder.specs.Scope.{key_places, place_in};
-ghost use Rattle.table_rows.specs.Rows.{values_at};
+ghost use Rattle.table_rows.specs.Rows.{places_of, values_at};
 ghost use Rattle.constraint_check.specs.Reads as spec;
 
 use crate::inserted::Inserted;
@@ -301,7 +301,7 @@ fn row_of(deed: &Deed) -> Option<&Row>
 
 /// The places of the columns of these names.
 fn places_of(alloc: Global, shape: &TableTree, names: &[Units]) -> Result<Items<u16>, Memory>
-    ensures { IfOk result (λ places. places ≡ spec.places_of shape.now names.now) }
+    ensures { IfOk result (λ places. places ≡ places_of shape.now names.now) }
 {
     let places = places_in(alloc, shape.columns.as_slice(), names)?;
     Ok(Items::from_vec(places))

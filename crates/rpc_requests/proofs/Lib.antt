@@ -2,6 +2,7 @@ pub mod StandardFacts
 pub mod Texts
 pub mod Forms
 pub mod Shrinks
+pub mod Sizes
 pub mod Loop
 pub mod Again
 pub mod Takes

@@ -167,5 +167,8 @@ spelled_fit [] text s = All-nil IsParameter
 spelled_fit (p ∷ ps) text s =
     All-cons IsParameter p ps (parameter_fits p s.0 s.2) (spelled_fit ps s.1 s.3)
 
+pub parameters_fit : (payload : List ℕ) (call : RpcCall) → Spells call payload → All IsParameter call.parameters
+parameters_fit payload call s = spelled_fit call.parameters s.rest s.parameters
+
 pub read_fits : (payload : List ℕ) (call : RpcCall) → Spells call payload → IsTarget call.target → IsCall call
-read_fits payload call s is = record { target = is; parameters = spelled_fit call.parameters s.rest s.parameters }
+read_fits payload call s is = record { target = is; parameters = parameters_fit payload call s }

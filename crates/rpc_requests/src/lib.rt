@@ -7,8 +7,7 @@
 //! 4 GiB, and messages are at most 1 MiB. [`write_rpc`] appends the bytes of a call, which behind
 //! any headers are read as that call again ([`law_written_call`]); its names have at most 128
 //! units, its texts a size from 1 to 4,000, and its values are NULL or of their types. What is read
-//! can be written, unless the procedure's name is longer ([`law_read_call`]). No crate uses this
-//! one yet.
+//! can be written, unless the procedure's name is longer ([`law_read_call`]).
 //!
 //! ```text
 //! let call = read_rpc(alloc, payload)?;

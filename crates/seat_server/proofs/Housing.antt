@@ -65,8 +65,11 @@ all_firm engine seats agree served others place =
     let each : (number : ℕ) → Stands engine number (steps_at number seats) = λ number. stands engine number seats agree served (others number) in
     let fits : (number : ℕ) → Fits number [] engine.log (mine_in (steps_at number seats)) = λ number. (each number).known.0.accords.fits in
     history_sound engine.log (λ number. mine_in (steps_at number seats)) (λ number. record {
+      numbers = (fits number).numbers;
+      fetches = (fits number).fetches;
       ranges = (fits number).ranges;
       inserts = (fits number).inserts;
+      targets = (fits number).targets;
       commits = (fits number).commits;
       comes = (each number).known.1;
     }) fits (λ number. (each number).connections) place

@@ -59,8 +59,11 @@ module _ (old new : EngineSeat) (exchanges : List Exchange) (since : Since old n
         fits = fits;
         commits = fits.commits.1;
         keeps = connections_keep old.number old.log new.log exchanges (record {
+          numbers = fits.numbers;
+          fetches = fits.fetches;
           ranges = fits.ranges;
           inserts = fits.inserts;
+          targets = fits.targets;
           commits = fits.commits;
           comes = come_since (mine_in old.steps) exchanges idle (subst come mine_are within.1);
         }) connections;

@@ -8,7 +8,7 @@ use Rattle.outside_io.specs.Doors.{IsUntouched, count_on}
 use Rattle.shared_port.specs.Asked.{EngineSeat}
 use Rattle.session_server.specs.Conversation.{CountsFault}
 use Rattle.session_server.specs.declared.end.End.{End}
-use Rattle.session_server.specs.declared.end.End.TheVariants.{Closed, Cut, BadHeader, TooLong, OutOfPlace, BadPrelogin, LoginRefused, BadBatch, Spent, ReadFault, WriteFault, Memory}
+use Rattle.session_server.specs.declared.end.End.TheVariants.{Closed, Cut, BadHeader, TooLong, OutOfPlace, BadPrelogin, LoginRefused, BadBatch, BadRpc, Spent, ReadFault, WriteFault, Memory}
 use Rattle.seat_server.specs.declared.tally.Tally.{Tally}
 use Rattle.seat_server.specs.Served.{Course, Follow, ServedConnection}
 
@@ -17,7 +17,7 @@ use Rattle.seat_server.specs.Served.{Course, Follow, ServedConnection}
 module _ {L : Type 0} (left given : L → Option (List ℕ)) (read_faults : L → ℕ) (written : L → Option (List ℕ)) (write_faults : L → ℕ) where
   -- a line, as a door was given it back, was served in this course
   pub record IsServedIn (config : Config) (course : Course) (line : L) : Type 0 where
-    -- as the door gave it: nothing had gone through it, and neither side had a fault
+    -- it began as some line through which nothing had gone, and neither side of which had a fault
     pub first : L
     pub untouched : (given first ≡ Some []) × IsUntouched (written first)
     pub faultless : (read_faults first ≡ 0) × (write_faults first ≡ 0)
@@ -40,6 +40,7 @@ is_memory (Cut at) = false
 is_memory (BadHeader at) = false
 is_memory (TooLong at) = false
 is_memory (OutOfPlace at kind) = false
+is_memory (BadRpc at why) = false
 is_memory (BadPrelogin fault) = false
 is_memory (LoginRefused number) = false
 is_memory (BadBatch fault) = false

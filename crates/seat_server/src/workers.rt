@@ -26,12 +26,12 @@ use value_types::Memory;
 const MOST_WORKERS: usize = 64;
 
 /// Serves the connections of a hall: each seat gets a door and a worker, which accepts, serves and finishes connections one
-/// after another, beside the others, until it has served its share of the rounds, if any are given, or its door has failed or
-/// closed; no other end of a connection ends a worker. The rounds are dealt out beforehand: each of W workers has `rounds / W`
-/// connections, and each of the first `rounds % W` one more.
+/// after another, beside the others. It gives the seats back in their order, and how much was done ([`Tally`]).
 ///
-/// All doors and the list of workers are made first; where memory is wanting for one of these, no worker begins. It gives the
-/// seats back in their order, and how much was done ([`Tally`]).
+/// Where rounds are given, as many connections are served, or fewer where a door has failed or closed, or where memory is wanting for
+/// the doors or the list of workers, which are made first; then no worker begins. Without rounds each worker goes on until its door
+/// has failed or closed. That workers run at once, and which of them has how many of the rounds (`rounds / W` of W workers, and one more
+/// of the first `rounds % W`), no clause says.
 pub fn serve_workers<H: Hall, R: Threads + Wait + Sync>(
     alloc: Global,
     rt: &R,
@@ -55,7 +55,7 @@ pub fn serve_workers<H: Hall, R: Threads + Wait + Sync>(
     ensures tallied { Tallied rounds (length seats.items) (H.faults hall.old) (H.faults hall.new) (H.finished hall.old) (H.finished hall.new) (H.failed hall.old) (H.failed hall.new)
         (H.closed hall.old) (H.closed hall.new) result.1 }
 
-    // A door closes only where none may come any more.
+    // Doors are counted as closed only where there is one that may close.
     ensures may_close { 0 < result.1.closed → (door : H.Door) × IsTrue (H.Door.may_close door) }
     ensures room { vec_capacity result.0 ≡ vec_capacity seats }
 {

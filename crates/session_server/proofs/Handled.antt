@@ -1,5 +1,5 @@
 -- How one message is handled, from what its parts do.
-use Rattle.std.proofs.Common.{◌≡◌, ℕ, true, false, List, [], Result, Ok, Err, inl, inr, refl, sym, subst, ap, ◌∙◌}
+use Rattle.std.proofs.Common.{◌≡◌, ℕ, true, false, List, [], length, Result, Ok, Err, inl, inr, refl, sym, subst, ap, ◌∙◌}
 use Rattle.value_types.specs.declared.memory.Memory.{Memory}
 use Rattle.step_model.specs.Port.{PortPast}
 use Rattle.step_model.proofs.Pasts.{goes_nowhere}
@@ -12,7 +12,7 @@ use Rattle.session_server.specs.declared.message.Handling.TheVariants.{Responds,
 use Rattle.session_server.specs.declared.prepared.PreparedResponse.{PreparedResponse}
 use Rattle.session_server.specs.declared.prepared.Channel.{Channel}
 use Rattle.batch_meaning.specs.Progress.{SessionProgress}
-use Rattle.session_server.specs.Parts.{Bears, Answers, Says, IsHandled, IsUnasked}
+use Rattle.session_server.specs.Parts.{Bears, Answers, HasResponse, MayWant, Says, IsHandled, IsUnasked}
 use Rattle.session_server.specs.Response.{Response, tabular}
 use Rattle.std.specs.Result.{IsErr}
 use Rattle.tds_login.specs.declared.config.Config.{Config}
@@ -23,9 +23,11 @@ use Rattle.session_server.specs.declared.message.ServerState.{ServerState}
 use Rattle.session_server.specs.declared.message.ServerState.TheVariants.{Initial, LoginReady, LoggedIn}
 use Rattle.batch_meaning.specs.declared.form.ReadText.{ReadText}
 use Rattle.batch_meaning.specs.declared.form.ReadText.TheVariants.{Statements}
-use Rattle.batch_meaning.specs.Statements.{ReadsAs}
 use Rattle.batch_meaning.specs.Doing.{Did}
-use Rattle.session_server.specs.Talk.{Handling, responds, runs, refuses, ends, batch_response, handle, handle_prelogin, handle_login, handle_attention}
+use Rattle.session_server.specs.Talk.{Handling, responds, runs, calls, refuses, ends, IsReadAs, handle, handle_prelogin, handle_login, handle_rpc, handle_attention, response_to}
+use Rattle.rpc_requests.specs.declared.call.RpcCall.{RpcCall}
+use Rattle.rpc_requests.specs.declared.fault.RpcFault.{RpcFault}
+use Rattle.rpc_requests.specs.Reading.{placed, rpc_of, whole_call}
 use Rattle.batch_meaning.proofs.Composed.{does_over}
 
 -- what was prepared of tokens
@@ -39,13 +41,22 @@ says_answers : (past : PortPast) (handling : Handling) (p : SessionProgress) (re
 says_answers past (responds own next) p response is = record { read_as = Statements []; are = refl; has = tt; does = rw (← is) (does_over refl) }
 says_answers past (refuses own number) p response is = record { read_as = Statements []; are = refl; has = tt; does = rw (← is) (does_over refl) }
 says_answers past (runs size text) p response is = absurd is
+says_answers past (calls size call) p response is = absurd is
 says_answers past (ends end) p response is = absurd is
+
+-- what has a response may want memory
+wants : (handling : Handling) → HasResponse handling → MayWant handling
+wants (responds response next) has = tt
+wants (runs size text) has = tt
+wants (calls size call) has = tt
+wants (refuses response number) has = tt
+wants (ends end) has = absurd has
 
 -- a message for which nothing is asked
 pub answered_handled : (spid : ℕ) (past : PortPast) (handling : Handling) (p : SessionProgress) (result : Result MadeHandling Memory) → IsUnasked spid handling result → IsHandled spid past past handling p result p
 answered_handled spid past handling p (Ok (Responds prepared next)) answered = (answered.0, says_answers past handling p answered.0 answered.1, answered.2, answered.3, answered.4)
 answered_handled spid past handling p (Ok (Ends end)) answered = (answered, goes_nowhere past, refl)
-answered_handled spid past handling p (Err memory) answered = (answered, record { exchanges = []; past = goes_nowhere past; left = inl (refl, refl) })
+answered_handled spid past handling p (Err memory) answered = (wants handling answered, record { exchanges = []; past = goes_nowhere past; left = inl (refl, refl) })
 
 -- by the kind of message that it is
 pub answered_as : (spid : ℕ) (past : PortPast) (placed handling : Handling) (p : SessionProgress) (result : Result MadeHandling Memory) → placed ≡ handling → IsUnasked spid handling result → IsHandled spid past past placed p result p
@@ -64,15 +75,25 @@ module _ (config : Config) (state : ServerState) (message : Message) (payload : 
   pub at_attention : (size : ℕ) → state ≡ LoggedIn size → message.kind ≡ 6 → handle config state message ≡ handle_attention size
   at_attention size at is = rw at (rw is refl)
 
--- ---- a batch
+-- ---- a batch, and a call
 
 -- memory was wanting, before its text was read
-pub unread_handled : (past : PortPast) (spid size : ℕ) (text : List ℕ) (p : SessionProgress) (result : Result MadeHandling Memory) → IsErr result → IsHandled spid past past (runs size text) p result p
-unread_handled past spid size text p (Ok made) err = absurd (let no : false ≡ true = err in cc)
-unread_handled past spid size text p (Err wanting) err = (tt, record { exchanges = []; past = goes_nowhere past; left = inl (refl, refl) })
+pub unread_handled : (past : PortPast) (spid : ℕ) (handling : Handling) → MayWant handling → (p : SessionProgress) (result : Result MadeHandling Memory) → IsErr result → IsHandled spid past past handling p result p
+unread_handled past spid handling may p (Ok made) err = absurd (let no : false ≡ true = err in cc)
+unread_handled past spid handling may p (Err wanting) err = (may, record { exchanges = []; past = goes_nowhere past; left = inl (refl, refl) })
 
 -- or behind that
-pub left_handled : {before after : PortPast} (spid size : ℕ) (text : List ℕ) (read_as : ReadText) {p q : SessionProgress} {memory : Memory} (result : Result MadeHandling Memory) → IsErr result → ReadsAs text read_as → Did before after (batch_response size read_as) p (Err memory) q
-    → IsHandled spid before after (runs size text) p result q
-left_handled spid size text read_as (Ok made) err read does = absurd (let no : false ≡ true = err in cc)
-left_handled spid size text read_as (Err wanting) err read does = (tt, record { exchanges = does.exchanges; past = does.past; left = inr (read_as, read, does.came) })
+pub left_handled : {before after : PortPast} (spid : ℕ) (handling : Handling) → MayWant handling → (read_as : ReadText) {p q : SessionProgress} {memory : Memory} (result : Result MadeHandling Memory) → IsErr result → IsReadAs handling read_as
+    → Did before after (response_to handling read_as) p (Err memory) q → IsHandled spid before after handling p result q
+left_handled spid handling may read_as (Ok made) err read does = absurd (let no : false ≡ true = err in cc)
+left_handled spid handling may read_as (Err wanting) err read does = (may, record { exchanges = does.exchanges; past = does.past; left = inr (read_as, read, does.came) })
+
+-- A call is read, or refused, whatever a refusal is: that type is the reader's own.
+by_read : {R : Type 0} (told : Result RpcCall R → Result RpcCall RpcFault) (P : Result RpcCall RpcFault → Type 0) → ((call : RpcCall) → P (told (Ok call))) → ((refusal : R) → P (told (Err refusal))) → (read : Result RpcCall R) → P (told read)
+by_read told P called refused (Ok call) = called call
+by_read told P called refused (Err refusal) = refused refusal
+
+-- while a call is read, memory may be wanting whatever it is
+pub may_want_rpc : (size : ℕ) (payload : List ℕ) → MayWant (handle_rpc size (rpc_of payload))
+unfolding rpc_of
+may_want_rpc size payload = by_read (placed (length payload)) (λ (read : Result RpcCall RpcFault). MayWant (handle_rpc size read)) (λ call. tt) (λ refusal. tt) (whole_call payload)

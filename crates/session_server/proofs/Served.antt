@@ -17,14 +17,15 @@ use Rattle.step_model.specs.Port.{PortPast, GoesOn}
 use Rattle.step_model.proofs.Pasts.{goes_further}
 use Rattle.session_server.specs.declared.end.End.{End}
 use Rattle.session_server.specs.declared.end.End.TheVariants.{LoginRefused}
+use Rattle.session_server.specs.declared.end.End.TheVariants as why
 use Rattle.session_server.specs.declared.message.ServerState.{ServerState}
 use Rattle.batch_meaning.specs.Progress.{SessionProgress, first_progress}
 use Rattle.batch_meaning.specs.Doing.{Doing, Did}
-use Rattle.session_server.specs.Conversation.{IsUnended, EndsAtLast, IsAnswered, Emptied}
+use Rattle.session_server.specs.Conversation.{IsUnended, EndsAtLast, IsAnswered, IsUnmade, Emptied}
 use Rattle.session_server.specs.Ends.{Cause, no_message, by_message, unsent, unmade, end_of}
-use Rattle.session_server.specs.Parts.{HasResponse, Answers, EndsBy, Turned, EndsTurn, Ended, Spoke}
+use Rattle.session_server.specs.Parts.{HasResponse, MayWant, Answers, EndsBy, Turned, EndsTurn, Ended, Spoke}
 use Rattle.session_server.specs.Response.{Response}
-use Rattle.session_server.specs.Talk.{Handling, responds, runs, refuses, ends, next_of, first_state, handle, Walk, with_handling, walk_on, walk_of, Request, IsReadAs, IsRequest, AreRequests, talk_of, response_bytes, Bytes}
+use Rattle.session_server.specs.Talk.{Handling, responds, runs, calls, refuses, ends, next_of, first_state, handle, Walk, with_handling, walk_on, walk_of, Request, IsReadAs, IsRequest, AreRequests, talk_of, response_bytes, Bytes}
 use Rattle.batch_meaning.specs.declared.form.ReadText.{ReadText}
 use Rattle.batch_meaning.proofs.Composed.{does_over}
 use Rattle.session_server.proofs.Walks.{walk_more, requests_more, talk_with_request, handled_more, does_more, bytes_more}
@@ -149,8 +150,29 @@ module _ {S : Type 0} {config : Config} {left given : S → Option (List ℕ)} {
   answered : (message : Message) (handling : Handling) → handle config state message ≡ handling → HasResponse handling → IsAnswered config (served.messages ++ message ∷ [])
   answered message (responds response to) is has = inl (ap (λ w. is_ok w.stands) (walk_with message) ∙ ap (λ h. is_ok (next_of h)) is)
   answered message (runs size text) is has = inl (ap (λ w. is_ok w.stands) (walk_with message) ∙ ap (λ h. is_ok (next_of h)) is)
+  answered message (calls size call) is has = inl (ap (λ w. is_ok w.stands) (walk_with message) ∙ ap (λ h. is_ok (next_of h)) is)
   answered message (refuses response number) is has = inr (number, ends_at message (LoginRefused number) (ap next_of is))
   answered message (ends end) is has = absurd has
+
+  -- one for which memory may be wanting
+  wanted : (message : Message) (handling : Handling) → handle config state message ≡ handling → MayWant handling → IsUnmade config (served.messages ++ message ∷ [])
+  wanted message (responds response to) is may = inl (answered message (responds response to) is tt)
+  wanted message (runs size text) is may = inl (answered message (runs size text) is tt)
+  wanted message (calls size call) is may = inl (answered message (calls size call) is tt)
+  wanted message (refuses response number) is may = inl (answered message (refuses response number) is tt)
+  wanted message (ends (why.BadRpc at kind)) is may = inr (at, kind, ends_at message (why.BadRpc at kind) (ap next_of is))
+  wanted message (ends why.Closed) is may = absurd may
+  wanted message (ends (why.Cut at)) is may = absurd may
+  wanted message (ends (why.BadHeader at)) is may = absurd may
+  wanted message (ends (why.TooLong at)) is may = absurd may
+  wanted message (ends (why.OutOfPlace at kind)) is may = absurd may
+  wanted message (ends (why.BadPrelogin fault)) is may = absurd may
+  wanted message (ends (why.LoginRefused number)) is may = absurd may
+  wanted message (ends (why.BadBatch fault)) is may = absurd may
+  wanted message (ends why.Spent) is may = absurd may
+  wanted message (ends why.ReadFault) is may = absurd may
+  wanted message (ends why.WriteFault) is may = absurd may
+  wanted message (ends why.Memory) is may = absurd may
 
   written_more : (new : Option (List ℕ)) (response : Response) → Appends sink new (response_bytes spid response) → Appends old new (Bytes spid (served.responses ++ response ∷ []))
   written_more new response written = subst (Appends old new) (sym (bytes_more spid served.responses response)) (Appends-trans old sink new (Bytes spid served.responses) (response_bytes spid response) served.written written)
@@ -246,7 +268,7 @@ module _ {S : Type 0} {config : Config} {left given : S → Option (List ℕ)} {
       from_source = all_taken bytes took;
       split = split_whole bytes how.0 how.1;
       written = written_still new how.4;
-      caused = (answered how.0 (handle config state how.0) refl how.2, refl);
+      caused = (wanted how.0 (handle config state how.0) refl how.2, refl);
       end_is = same;
       emptied = emptied;
     };

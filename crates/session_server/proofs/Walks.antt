@@ -12,7 +12,7 @@ use Rattle.batch_meaning.specs.Progress.{SessionProgress}
 use Rattle.batch_meaning.specs.declared.form.ReadText.{ReadText}
 use Rattle.batch_meaning.specs.Doing.{Doing, over, Did}
 use Rattle.session_server.specs.Response.{Response}
-use Rattle.session_server.specs.Talk.{Handling, responds, runs, refuses, ends, handle, Walk, with_handling, walk_on, walk_by, with_message, first_walk, walk_of, Request, IsReadAs, IsRequest, handling_in, AreRequests, talk_more, with_request, talk_of, response_bytes, Bytes}
+use Rattle.session_server.specs.Talk.{Handling, responds, runs, calls, refuses, ends, handle, Walk, with_handling, walk_on, walk_by, with_message, first_walk, walk_of, Request, IsReadAs, IsRequest, handling_in, AreRequests, talk_more, with_request, talk_of, response_bytes, Bytes}
 use Rattle.session_server.specs.Conversation.{IsUnended}
 use Rattle.session_server.specs.Parts.{HasResponse}
 use Rattle.batch_meaning.proofs.Composed.{does_over, does_then}
@@ -61,6 +61,7 @@ talk_with_request requests request = fold-append with_request (over []) requests
 pub handled_more : (handled : List Handling) (handling : Handling) → HasResponse handling → with_handling handled handling ≡ handled ++ handling ∷ []
 handled_more handled (responds response next) has = refl
 handled_more handled (runs size text) has = refl
+handled_more handled (calls size call) has = refl
 handled_more handled (refuses response number) has = refl
 handled_more handled (ends end) has = absurd has
 

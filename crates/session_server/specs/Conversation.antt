@@ -5,6 +5,7 @@ use Rattle.std.specs.Prelude.{◌≡◌, ℕ, ℤ, ◌+◌, ◌-◌, ◌<◌, �
 use Rattle.std.specs.Io.KnownBytes.{Appends, IsAtEnd}
 use Rattle.outside_io.specs.Bytes.{HasRisen}
 use Rattle.tds_login.specs.declared.config.Config.{Config}
+use Rattle.rpc_requests.specs.declared.fault.RpcKind.{RpcKind}
 use Rattle.tds_packets.specs.declared.message.Message.{Message}
 use Rattle.tds_packets.specs.declared.fault.MessageFault.TheVariants as faults
 use Rattle.tds_packets.specs.declared.fault.SendFault.{SendFault}
@@ -14,7 +15,7 @@ use Rattle.tds_packets.specs.Packets.{IsPartSent}
 use Rattle.step_model.specs.Exchange.{Exchange}
 use Rattle.step_model.specs.Port.{PortPast, GoesOn}
 use Rattle.session_server.specs.declared.end.End.{End}
-use Rattle.session_server.specs.declared.end.End.TheVariants.{Closed, LoginRefused, Memory}
+use Rattle.session_server.specs.declared.end.End.TheVariants.{BadRpc, Closed, LoginRefused, Memory}
 use Rattle.session_server.specs.declared.message.ServerState.{ServerState}
 use Rattle.batch_meaning.specs.Progress.{SessionProgress, first_progress}
 use Rattle.batch_meaning.specs.declared.form.ReadText.{ReadText}
@@ -46,13 +47,17 @@ pub record EndsAtLast (config : Config) (messages : List Message) (end : End) : 
 abbrev pub IsAnswered : Config → List Message → Type 0
 IsAnswered config messages = IsUnended config messages ⊎ ((number : ℤ) × EndsAtLast config messages (LoginRefused number))
 
+-- or the last is a call that can't be read: memory may be wanting while it is
+abbrev pub IsUnmade : Config → List Message → Type 0
+IsUnmade config messages = IsAnswered config messages ⊎ ((at : ℕ) × (kind : RpcKind) × EndsAtLast config messages (BadRpc at kind))
+
 -- Why the connection ended, where these messages were taken and then `rest`, which begins at offset
 -- `at`. Behind a message that ended it, or whose response was not sent, nothing was taken.
 abbrev pub Caused : Config → List Message → ℕ → List ℕ → Cause → Type 0
 Caused config messages at rest (no_message fault) = IsUnended config messages × StopsBy at rest fault
 Caused config messages at rest (by_message end) = EndsAtLast config messages end × (rest ≡ [])
 Caused config messages at rest (unsent fault) = IsAnswered config messages × (rest ≡ [])
-Caused config messages at rest unmade = IsAnswered config messages × (rest ≡ [])
+Caused config messages at rest unmade = IsUnmade config messages × (rest ≡ [])
 
 -- where the source has ended, nothing is left in it
 abbrev pub Emptied : Option (List ℕ) → Cause → Type 0

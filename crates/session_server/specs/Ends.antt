@@ -22,7 +22,7 @@ end_of_sending sending.WriteFault = WriteFault
 end_of_sending sending.Memory = Memory
 
 -- Why a connection ended: no message came; the last message ended it; the response to the last one could
--- not be sent; or there was no memory to make it.
+-- not be sent; or there was no memory to make it, or to read a call.
 pub data Cause : Type 0 where
   no_message : MessageFault → Cause
   by_message : End → Cause

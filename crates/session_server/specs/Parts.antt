@@ -18,6 +18,7 @@ use Rattle.session_server.specs.Conversation.{IsAbandoned, Emptied, Heard}
 use Rattle.batch_meaning.specs.declared.form.ReadText.{ReadText}
 use Rattle.session_server.specs.Ends.{Cause, no_message, by_message, unsent, unmade, end_of}
 use Rattle.session_server.specs.declared.end.End.{End}
+use Rattle.session_server.specs.declared.end.End.TheVariants.{BadRpc}
 use Rattle.std.specs.Io.KnownBytes.{Appends}
 use Rattle.tds_login.specs.declared.config.Config.{Config}
 use Rattle.tds_packets.specs.declared.message.Message.{Message}
@@ -41,6 +42,11 @@ abbrev pub HasResponse : Handling → Type 0
 HasResponse (ends end) = ⊥
 HasResponse handling = Unit {0}
 
+-- memory may be wanting: for a response, or while a call is read, also one that can't be
+abbrev pub MayWant : Handling → Type 0
+MayWant (ends (BadRpc _ _)) = Unit {0}
+MayWant handling = HasResponse handling
+
 -- its response was made, with what its text is read as
 pub record Answers (before after : PortPast) (handling : Handling) (old : SessionProgress) (response : Response) (new : SessionProgress) : Type 0 where
   pub read_as : ReadText
@@ -54,12 +60,12 @@ pub record Leaves (before after : PortPast) (handling : Handling) (old new : Ses
   pub past : GoesOn before after exchanges
   pub left : IsAbandoned handling old exchanges new
 
--- the message was handled so, and the session has come so far; or memory was wanting for its response
+-- the message was handled so, and the session has come so far; or memory was wanting
 abbrev pub IsHandled : ℕ → PortPast → PortPast → Handling → SessionProgress → Result MadeHandling Memory → SessionProgress → Type 0
 IsHandled spid before after handling old (Ok (Responds prepared next)) new =
     (response : Response) × Answers before after handling old response new × Bears spid response prepared × (next ≡ next_of handling) × IfOk next IsSized
 IsHandled spid before after handling old (Ok (Ends end)) new = (handling ≡ ends end) × GoesOn before after [] × (new ≡ old)
-IsHandled spid before after handling old (Err memory) new = HasResponse handling × Leaves before after handling old new
+IsHandled spid before after handling old (Err memory) new = MayWant handling × Leaves before after handling old new
 
 -- nothing is asked for this response
 abbrev pub Says : Handling → Response → Type 0
@@ -99,7 +105,7 @@ EndsTurn config spid at state before after sink_before sink_after old new bytes 
 EndsTurn config spid at state before after sink_before sink_after old new bytes (by_message end) = (message : Message) × IsMessage at bytes message × EndsBy spid before after sink_before sink_after old new (handle config state message) end
 EndsTurn config spid at state before after sink_before sink_after old new bytes (unsent fault) = (message : Message) × IsMessage at bytes message
     × (response : Response) × Answers before after (handle config state message) old response new × IsPartSent sink_before sink_after (response_bytes spid response) fault
-EndsTurn config spid at state before after sink_before sink_after old new bytes unmade = (message : Message) × IsMessage at bytes message × HasResponse (handle config state message)
+EndsTurn config spid at state before after sink_before sink_after old new bytes unmade = (message : Message) × IsMessage at bytes message × MayWant (handle config state message)
     × Leaves before after (handle config state message) old new × Appends sink_before sink_after []
 
 -- The connection ended at bytes that were taken from offset `at` on.

@@ -1,4 +1,4 @@
--- What a message is answered by ([MS-TDS] 2.2.7): options, or tokens, of which those of a batch are its own.
+-- What a message is answered by ([MS-TDS] 2.2.7): options, or tokens, of which those of a batch or a call are its own.
 use Rattle.std.specs.Prelude.{ℕ, ℤ, pos, List, [], ◌∷◌, Some}
 use Rattle.tds_tokens.specs.Numbers.{done_error, done_attn, command_none}
 use Rattle.tds_tokens.specs.declared.token.DoneKind.TheVariants.{Done}
@@ -14,8 +14,8 @@ attention_tokens = Finished Done done_attn command_none 0 ∷ []
 abbrev pub refusal_tokens : ℤ → List Token
 refusal_tokens number = error_token (raised_at (pos 1) (record { number = number; name = Some [] })) ∷ Finished Done done_error command_none 0 ∷ []
 
--- What a message is answered by: the options that answer every PRELOGIN ([MS-TDS] 2.2.6.5), or tokens in
--- packets of a size.
+-- The options that answer every PRELOGIN ([MS-TDS] 2.2.6.5), or tokens in packets of a size: those of a login,
+-- a batch, a call or an attention.
 pub data Response : Type 0 where
   options : Response
   tabular : ℕ → List Token → Response

@@ -1,6 +1,6 @@
 -- [MS-TDS] 2.2.1 and 3.3.5: what is answered to the messages of a client, by where the connection stands: a
 -- response, until one ends the connection, and the bytes of these. How a message is handled, and where it
--- leads, the message says alone; what is done for one that runs a batch is said of what its
+-- leads, the message says alone; what is done for one that runs a batch or a call is said of what its
 -- text reads as. Responses depend on what the port answers, so the talk is what a session does; the code
 -- handles one message after another.
 use Rattle.std.specs.Prelude.{◌≡◌, ℕ, ℤ, pos, All, map, ◌-◌, ◌%◌, ◌==◌, ◌||◌, nat_lt, if◌then◌else◌, List, [], ◌∷◌, ◌++◌, fold, length, drop, Option, None, Some, Result, Ok, Err}
@@ -8,7 +8,11 @@ use Rattle.std.specs.List.{flat_map}
 use Rattle.byteorder.specs.Endian.{little_number}
 use Rattle.value_types.specs.Units.{units_of}
 use Rattle.tds_packets.specs.declared.message.Message.{Message}
-use Rattle.tds_packets.specs.Header.{sql_batch, tabular_result, attention, login7, prelogin}
+use Rattle.rpc_requests.specs.declared.call.RpcCall.{RpcCall}
+use Rattle.rpc_requests.specs.declared.fault.RpcFault.{RpcFault}
+use Rattle.rpc_requests.specs.declared.fault.RpcFault.TheVariants as rpc_fault
+use Rattle.rpc_requests.specs.Reading.{rpc_of}
+use Rattle.tds_packets.specs.Header.{sql_batch, rpc as rpc_request, tabular_result, attention, login7, prelogin}
 use Rattle.tds_packets.specs.Packets.{Packets, default_size}
 use Rattle.tds_tokens.specs.Spelling.{TokenBytes}
 use Rattle.tds_login.specs.declared.config.Config.{Config}
@@ -24,7 +28,7 @@ use Rattle.tds_login.specs.Verdict.{judge_login, login_reply}
 use Rattle.session_server.specs.declared.end.BatchFault.{BatchFault}
 use Rattle.session_server.specs.declared.end.BatchFault.TheVariants.{HeadersShort, HeadersTotal, OddText}
 use Rattle.session_server.specs.declared.end.End.{End}
-use Rattle.session_server.specs.declared.end.End.TheVariants.{OutOfPlace, BadPrelogin, LoginRefused, BadBatch}
+use Rattle.session_server.specs.declared.end.End.TheVariants.{OutOfPlace, BadPrelogin, LoginRefused, BadBatch, BadRpc, Memory}
 use Rattle.session_server.specs.declared.message.ServerState.{ServerState}
 use Rattle.session_server.specs.declared.message.ServerState.TheVariants.{Initial, LoginReady, LoggedIn}
 use Rattle.batch_meaning.specs.declared.form.ReadText.{ReadText}
@@ -32,6 +36,7 @@ use Rattle.batch_meaning.specs.declared.form.ReadText.TheVariants.{Statements}
 use Rattle.batch_meaning.specs.Statements.{ReadsAs}
 use Rattle.batch_meaning.specs.Doing.{Doing, over, reads, never, ◌then◌}
 use Rattle.batch_meaning.specs.Meaning.{batch}
+use Rattle.batch_meaning.specs.Rpc.{ReadsCallAs, rpc}
 use Rattle.session_server.specs.Response.{Response, options, tabular, attention_tokens, refusal_tokens}
 
 -- ---- one message
@@ -42,11 +47,12 @@ first_state Login = Initial
 first_state Bare = LoggedIn default_size
 
 -- How a message is handled: by a response, behind which the connection goes on in a state; by running the
--- batch of a text, with tokens in packets of a size; by a response that refuses the login with an error's
+-- batch of a text, or a call, with tokens in packets of a size; by a response that refuses the login with an error's
 -- number, and ends the connection; or by its end alone.
 pub data Handling : Type 0 where
   responds : Response → ServerState → Handling
   runs : ℕ → List ℕ → Handling
+  calls : ℕ → RpcCall → Handling
   refuses : Response → ℤ → Handling
   ends : End → Handling
 
@@ -54,6 +60,7 @@ pub data Handling : Type 0 where
 abbrev pub next_of : Handling → Result ServerState End
 next_of (responds response next) = Ok next
 next_of (runs size text) = Ok (LoggedIn size)
+next_of (calls size call) = Ok (LoggedIn size)
 next_of (refuses response number) = Err (LoginRefused number)
 next_of (ends end) = Err end
 
@@ -81,7 +88,7 @@ abbrev pub handle_login : Config → Result LoginRecord LoginFault → Handling
 handle_login config (Ok login) = handle_verdict (judge_login login config)
 handle_login config (Err fault) = refuse unreadable_login
 
--- ---- batches and attentions
+-- ---- batches, calls and attentions
 
 -- the length of ALL_HEADERS, which counts itself ([MS-TDS] 2.2.5.3)
 abbrev pub headers_length : List ℕ → ℕ
@@ -103,6 +110,12 @@ abbrev pub handle_batch : ℕ → List ℕ → Option BatchFault → Handling
 handle_batch size payload None = runs size (text_of payload)
 handle_batch size payload (Some fault) = ends (BadBatch fault)
 
+-- a call is run, or the first field that is refused ends the connection
+abbrev pub handle_rpc : ℕ → Result RpcCall RpcFault → Handling
+handle_rpc size (Ok call) = calls size call
+handle_rpc size (Err (rpc_fault.Bad at kind)) = ends (BadRpc at kind)
+handle_rpc size (Err rpc_fault.Memory) = ends Memory
+
 -- an attention is acknowledged
 abbrev pub handle_attention : ℕ → Handling
 handle_attention size = responds (tabular size attention_tokens) (LoggedIn size)
@@ -121,6 +134,7 @@ handle config LoginReady message =
     else ends (OutOfPlace message.at message.kind)
 handle config (LoggedIn size) message =
     if message.kind == sql_batch then handle_batch size message.payload (batch_fault message.payload)
+    else if message.kind == rpc_request then handle_rpc size (rpc_of message.payload)
     else if message.kind == attention then handle_attention size
     else ends (OutOfPlace message.at message.kind)
 
@@ -158,14 +172,15 @@ walk_of config messages = fold (with_message config) (first_walk config) message
 
 -- ---- what is done for them
 
--- how a message is handled, with what the text of the batch that it runs is read as
+-- how a message is handled, with what the text of the batch that it runs is read as, or the text that is read for its call
 pub record Request : Type 0 where
   pub handling : Handling
   pub read_as : ReadText
 
--- where none is run it is a batch of no statements
+-- where there is no text it is a batch of no statements
 abbrev pub IsReadAs : Handling → ReadText → Type 0
 IsReadAs (runs size text) read_as = ReadsAs text read_as
+IsReadAs (calls size call) read_as = ReadsCallAs call read_as
 IsReadAs handling read_as = read_as ≡ Statements []
 
 abbrev pub IsRequest : Request → Type 0
@@ -183,10 +198,15 @@ pub record AreRequests (handled : List Handling) (requests : List Request) : Typ
 unfoldable pub batch_response : ℕ → ReadText → Doing Response
 batch_response size read_as = batch read_as then λ _. reads λ p. over (tabular size p.tokens)
 
+-- so that of a call
+unfoldable pub rpc_response : ℕ → RpcCall → ReadText → Doing Response
+rpc_response size call read_as = rpc call read_as then λ _. reads λ p. over (tabular size p.tokens)
+
 -- the response to a message that is handled so, and whose text is read so
 abbrev pub response_to : Handling → ReadText → Doing Response
 response_to (responds response next) read_as = over response
 response_to (runs size text) read_as = batch_response size read_as
+response_to (calls size call) read_as = rpc_response size call read_as
 response_to (refuses response number) read_as = over response
 response_to (ends end) read_as = never
 

@@ -4,6 +4,7 @@ ghost use Rattle.std.specs.Prelude.{◌≡◌};
 ghost use Rattle.session_server.specs.Ends.{end_of_message, end_of_sending};
 ghost use Rattle.session_server.specs.declared.end.End.TheVariants.{Memory};
 
+use rpc_requests::RpcKind;
 use tds_login::PreloginFault;
 use tds_packets::{MessageFault, SendFault};
 use value_types::Memory as NoMemory;
@@ -61,6 +62,13 @@ pub enum End {
     BadBatch {
         /// What is wrong with it.
         fault: BatchFault,
+    },
+    /// The payload of a call can't be read.
+    BadRpc {
+        /// Where the first field that is refused begins in the payload, in bytes from 0.
+        at: u32,
+        /// What is wrong with it.
+        kind: RpcKind,
     },
     /// A byte was wanted after 2^40 bytes were read.
     Spent,

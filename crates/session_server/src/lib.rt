@@ -1,4 +1,4 @@
-//! One connection over a port: its messages read, its login judged, its batches run, its responses sent.
+//! One connection over a port: its messages read, its login judged, its batches and calls run, its responses sent.
 //!
 //! Read `specs/Lib.antt`: it names the definitions in order. The layer above relies on [`serve_on_port`],
 //! whatever stands behind the port, the source and the sink: every byte written and every operation asked

@@ -1,11 +1,13 @@
 //! Where a connection stands, and how a message is handled there.
 
-ghost use Rattle.std.specs.Prelude.{◌≡◌, ◌%◌, ℕ, length, drop, None, Some, Ok, IfOk, IfErr};
+ghost use Rattle.std.specs.Prelude.{◌≡◌, ◌<◌, ◌^◌, ◌%◌, ℕ, All, length, drop, None, Some, Ok, IfOk, IfErr};
 ghost use Rattle.session_server.specs.Parts.{IsHandled, IsUnasked, IsSized};
 ghost use Rattle.batch_meaning.specs.Meaning.{vars_in_text};
 ghost use Rattle.batch_meaning.specs.Progress.{Ready};
-ghost use Rattle.session_server.specs.Talk.{first_state, runs, handle, handle_prelogin, handle_login, handle_verdict, handle_batch, handle_attention, refuse, batch_fault, headers_length};
+ghost use Rattle.session_server.specs.Talk.{first_state, runs, calls, handle, handle_prelogin, handle_login, handle_verdict, handle_batch, handle_rpc, handle_attention, refuse, batch_fault, headers_length};
 ghost use Rattle.batch_meaning.specs.Statements.{ReadsAs};
+ghost use Rattle.rpc_requests.specs.Fit.{IsParameter};
+ghost use Rattle.rpc_requests.specs.Reading.{rpc_of};
 ghost use Rattle.tds_login.specs.Login.{login_of};
 ghost use Rattle.tds_login.specs.Prelogin.{prelogin_of};
 ghost use Rattle.tds_packets.specs.Packets.{IsPacketSize, default_size};
@@ -14,10 +16,11 @@ ghost use Rattle.value_types.specs.Units.{units_of};
 use crate::end::{BatchFault, End};
 use crate::prepared::{Channel, PreparedResponse};
 use crate::response::{attention_done, refusal_tokens};
-use batch_exec::run_batch;
-use batch_forms::read_text;
+use batch_exec::{run_batch, run_call};
+use batch_forms::{read_call, read_text};
 use batch_meaning::ReadText;
 use byteorder::{ByteOrder, LittleEndian};
+use rpc_requests::{RpcCall, RpcFault, read_rpc};
 use session_state::SessionState;
 use session_vars::Vars;
 use std::alloc::Global;
@@ -25,7 +28,7 @@ use step_model::Port;
 use tds_login::{
     Config, Entry, LoginFault, judge_login, login_reply, prelogin_reply, read_login, read_prelogin,
 };
-use tds_packets::{ATTENTION, DEFAULT_SIZE, LOGIN7, Message, PRELOGIN, SQL_BATCH};
+use tds_packets::{ATTENTION, DEFAULT_SIZE, LOGIN7, Message, PRELOGIN, RPC, SQL_BATCH};
 use value_types::{Memory, UnitsFault, units_of_le};
 
 /// The SPID of the response to a PRELOGIN, the same for all sessions ([MS-TDS] 2.2.3.1.4).
@@ -44,7 +47,7 @@ pub(crate) enum ServerState {
     Initial,
     /// Behind a PRELOGIN: a LOGIN7 comes.
     LoginReady,
-    /// Logged in: batches and attentions come.
+    /// Logged in: batches, calls and attentions come.
     LoggedIn {
         /// The size of the packets that are sent, in bytes.
         packet_size: u16,
@@ -94,6 +97,7 @@ pub(crate) fn handle<P: Port>(
 ) -> Result<Handling, Memory>
     requires ready { Ready session.old (P.past port.old) }
     requires sized { IsSized state }
+    requires short { length message.now.payload < 2 ^ 32 }
     ensures handled { IsHandled spid (P.past port.old) (P.past port.new) (handle config.now state message.now) session.old result session.new }
     ensures ready { Ready session.new (P.past port.new) }
 {
@@ -104,6 +108,9 @@ pub(crate) fn handle<P: Port>(
         (ServerState::LoginReady, LOGIN7) => handle_login(alloc, config, spid, payload),
         (ServerState::LoggedIn { packet_size }, SQL_BATCH) => {
             handle_batch(alloc, Channel { spid, packet_size }, session, port, payload)
+        }
+        (ServerState::LoggedIn { packet_size }, RPC) => {
+            handle_rpc(alloc, Channel { spid, packet_size }, session, port, payload)
         }
         (ServerState::LoggedIn { packet_size }, ATTENTION) => {
             handle_attention(alloc, Channel { spid, packet_size })
@@ -197,7 +204,7 @@ fn first_channel(spid: u16) -> Channel
     }
 }
 
-// ---- batches and attentions
+// ---- batches, calls and attentions
 
 /// Handles a batch with this payload.
 fn handle_batch<P: Port>(
@@ -276,6 +283,54 @@ fn batch_text(payload: &[u8]) -> Result<&[u8], BatchFault>
         return Err(BatchFault::OddText);
     }
     Ok(text)
+}
+
+/// Handles a call with this payload.
+fn handle_rpc<P: Port>(
+    alloc: Global,
+    channel: Channel,
+    session: &mut SessionState,
+    port: &mut P,
+    payload: &[u8],
+) -> Result<Handling, Memory>
+    requires ready { Ready session.old (P.past port.old) }
+    requires sized { IsPacketSize channel.packet_size }
+    requires short { length payload.now < 2 ^ 32 }
+    ensures handled { IsHandled channel.spid (P.past port.old) (P.past port.new) (handle_rpc channel.packet_size (rpc_of payload.now)) session.old result session.new }
+    ensures ready { Ready session.new (P.past port.new) }
+{
+    match read_rpc(alloc, payload) {
+        Ok(call) => respond_to_call(alloc, channel, session, port, &call),
+        Err(RpcFault::Bad { at, kind }) => Ok(Handling::Ends {
+            end: End::BadRpc { at, kind },
+        }),
+        Err(RpcFault::Memory) => Err(Memory),
+    }
+}
+
+/// Runs a call, and responds by what it sends.
+fn respond_to_call<P: Port>(
+    alloc: Global,
+    channel: Channel,
+    session: &mut SessionState,
+    port: &mut P,
+    call: &RpcCall,
+) -> Result<Handling, Memory>
+    requires ready { Ready session.old (P.past port.old) }
+    requires sized { IsPacketSize channel.packet_size }
+    requires fits { All IsParameter call.now.parameters }
+    ensures handled { IsHandled channel.spid (P.past port.old) (P.past port.new) (calls channel.packet_size call.now) session.old result session.new }
+    ensures ready { Ready session.new (P.past port.new) }
+{
+    let read = read_call(alloc, call)?;
+    run_call(alloc, session, port, call, read)?;
+    let response = PreparedResponse::of_tokens(alloc, channel, session.tokens())?;
+    Ok(Handling::Responds {
+        response,
+        next: Ok(ServerState::LoggedIn {
+            packet_size: channel.packet_size,
+        }),
+    })
 }
 
 /// Acknowledges an attention.

@@ -1,4 +1,4 @@
-//! The tokens of responses to messages that are no batch.
+//! The tokens of responses to messages that are no batch and no call.
 
 ghost use Rattle.std.specs.Prelude.{◌≡◌, [], ◌∷◌, IfOk};
 ghost use Rattle.tds_tokens.specs.Fit.{FitTokens};

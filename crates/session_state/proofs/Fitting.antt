@@ -6,9 +6,8 @@ use Rattle.tds_tokens.specs.declared.columns.ColumnInfo.{ColumnInfo}
 use Rattle.tds_tokens.specs.declared.notice.Notice.{Notice}
 use Rattle.tds_tokens.specs.Numbers.{done_final, done_error, command_none, env_begin, env_collation, env_commit, env_rollback}
 use Rattle.tds_tokens.specs.declared.token.DoneKind.{DoneKind}
-use Rattle.tds_tokens.specs.declared.token.DoneKind.TheVariants.{Done}
 use Rattle.tds_tokens.specs.declared.token.Token.{Token}
-use Rattle.tds_tokens.specs.declared.token.Token.TheVariants.{EnvBytes, Finished}
+use Rattle.tds_tokens.specs.declared.token.Token.TheVariants.{EnvBytes, Finished, ReturnStatus}
 use Rattle.tds_tokens.specs.Fit.{FitsNotice, FitTokens}
 use Rattle.tds_tokens.specs.Spelling.{columns_after}
 use Rattle.tds_tokens.proofs.Lengths.{length-notice_bytes}
@@ -16,7 +15,7 @@ use Rattle.batch_meaning.specs.declared.raised.Raised.{Raised}
 use Rattle.batch_meaning.specs.Meaning.{told_tokens}
 use Rattle.batch_meaning.specs.Raised.{error_token, info_token}
 use Rattle.session_state.specs.Sendable.{IsFit}
-use Rattle.batch_meaning.specs.Tokens.{descriptor, procedure_done, statement_done, batch_done, transaction_begun, transaction_committed, transaction_rolled_back}
+use Rattle.batch_meaning.specs.Tokens.{descriptor, procedure_done, statement_done, last_done, transaction_begun, transaction_committed, transaction_rolled_back}
 
 -- ---- one list behind another
 
@@ -72,14 +71,24 @@ pub error_and_fits : (raised : Raised) (status : ℤ) → HasName raised → IsF
 unfolding FitTokens
 error_and_fits raised status named = λ columns. (notice_fits raised named, (tt, (tt, tt)))
 
+-- the status of a procedure, in front of what it has returned
+pub returned_fits : (status : ℤ) (behind : List Token) → IsFit behind → IsFit (ReturnStatus status ∷ behind)
+unfolding FitTokens
+returned_fits status behind fit = λ columns. (tt, fit columns)
+
+-- an error in front of tokens
+pub in_front_fits : (raised : Raised) (behind : List Token) → HasName raised → IsFit behind → IsFit (error_token raised ∷ behind)
+unfolding FitTokens
+in_front_fits raised behind named fit = λ columns. (notice_fits raised named, fit columns)
+
 -- a DONE alone
 pub done_fit : (kind : DoneKind) (status command rows : ℕ) → IsFit (Finished kind status command rows ∷ [])
 unfolding FitTokens
 done_fit kind status command rows = λ columns. (tt, tt)
 
--- a batch's end
-pub batch_done_fit : (failed : Bool) → IsFit (batch_done failed ∷ [])
-batch_done_fit failed = done_fit Done (if failed then done_error else done_final) command_none 0
+-- the end of a batch or a call
+pub last_done_fit : (kind : DoneKind) (failed : Bool) → IsFit (last_done kind failed ∷ [])
+last_done_fit kind failed = done_fit kind (if failed then done_error else done_final) command_none 0
 
 -- a statement's end with its count
 pub told_fit : (kind : DoneKind) (no_count : Bool) (command rows : ℕ) (columns : List ColumnInfo) → FitTokens columns (statement_done kind no_count command rows ∷ [])

@@ -32,8 +32,8 @@ pub use sendable::TokenList;
 pub use state::SessionState;
 pub use system::system_in;
 pub use tokens::{
-    LONGEST_NAME, batch_end, command_of, error_and_done, error_of, error_tokens, is_message,
-    messages, procedure_done, raised_at, raised_in, result_tokens, told_tokens, transaction_begun,
-    transaction_committed, transaction_rolled_back, written_tokens,
+    LONGEST_NAME, command_of, error_and_done, error_in_front, error_of, error_tokens, is_message,
+    last_tokens, messages, procedure_done, raised_at, raised_in, result_tokens, returned_tokens,
+    told_tokens, transaction_begun, transaction_committed, transaction_rolled_back, written_tokens,
 };
 pub use values::{first_row, is_true, made_of, raised_by, rows_assigned, sets_of, status_of};

@@ -3,11 +3,12 @@
 ghost use Rattle.std.specs.Prelude.{◌≡◌, ◌++◌, ◌∷◌, ◌<◌, ◌≤◌, [], All, length, take, IfOk, Some, pos};
 ghost use Rattle.error_table.specs.Text.{text_with};
 ghost use Rattle.tsql_tree.specs.declared.statement.Form.{out-Form};
-ghost use Rattle.session_state.specs.Sendable.{IsResult};
+ghost use Rattle.session_state.specs.Sendable.{IsFit, IsResult};
+ghost use Rattle.tds_tokens.specs.declared.token.Token.TheVariants.{ReturnStatus};
 ghost use Rattle.batch_meaning.specs.Meaning.{told_tokens};
 ghost use Rattle.batch_meaning.specs.Raised.{error_token, named, raised_at, raised_in};
 ghost use Rattle.batch_meaning.specs.Selecting.{messages};
-ghost use Rattle.batch_meaning.specs.Tokens.{batch_done, command_of, descriptor, procedure_done, result_tokens, row_tokens, statement_done, statement_failed, transaction_begun, transaction_committed, transaction_rolled_back};
+ghost use Rattle.batch_meaning.specs.Tokens.{command_of, descriptor, last_done, procedure_done, result_tokens, row_tokens, statement_done, statement_failed, transaction_begun, transaction_committed, transaction_rolled_back};
 ghost use Rattle.batch_meaning.specs.Values.{is_message};
 
 use crate::sendable::TokenList;
@@ -103,20 +104,20 @@ fn statement_failed(kind: DoneKind, command: u16) -> Token
     done(kind, DONE_MORE | DONE_ERROR, command, 0)
 }
 
-/// A batch's end, by whether an error ended it.
-pub fn batch_end(alloc: Global, failed: bool) -> Result<TokenList, Memory>
-    ensures { IfOk result (λ tokens. tokens ≡ batch_done failed ∷ []) }
+/// The last token of a batch or of a call by RPC, by whether an error ended it.
+pub fn last_tokens(alloc: Global, kind: DoneKind, failed: bool) -> Result<TokenList, Memory>
+    ensures { IfOk result (λ tokens. tokens ≡ last_done kind failed ∷ []) }
 {
-    Ok(TokenList::new(vec![in alloc; batch_done(failed)]?))
+    Ok(TokenList::new(vec![in alloc; last_done(kind, failed)]?))
 }
 
-fn batch_done(failed: bool) -> Token
-    ensures { result ≡ batch_done failed }
+fn last_done(kind: DoneKind, failed: bool) -> Token
+    ensures { result ≡ last_done kind failed }
 {
     if failed {
-        done(DoneKind::Done, DONE_ERROR, COMMAND_NONE, 0)
+        done(kind, DONE_ERROR, COMMAND_NONE, 0)
     } else {
-        done(DoneKind::Done, DONE_FINAL, COMMAND_NONE, 0)
+        done(kind, DONE_FINAL, COMMAND_NONE, 0)
     }
 }
 
@@ -151,6 +152,34 @@ pub fn error_and_done(alloc: Global, raised: &Raised, status: i32) -> Result<Tok
         Token::ReturnStatus(status),
         done(DoneKind::Proc, DONE_MORE, COMMAND_NONE, 0),
     ]?))
+}
+
+/// What is sent for a procedure that has returned to a call by RPC: its status, and behind it these tokens.
+pub fn returned_tokens(
+    alloc: Global,
+    status: i32,
+    mut values: Vec<Token>,
+) -> Result<TokenList, Memory>
+    requires { IsFit values.items }
+    ensures { IfOk result (λ tokens. tokens ≡ ReturnStatus status ∷ values.items) }
+{
+    let mut tokens = vec![in alloc; Token::ReturnStatus(status)]?;
+    tokens.append(&mut values)?;
+    Ok(TokenList::new(tokens))
+}
+
+/// An error in front of such tokens.
+pub fn error_in_front(
+    alloc: Global,
+    raised: &Raised,
+    behind: TokenList,
+) -> Result<TokenList, Memory>
+    ensures { IfOk result (λ tokens. tokens ≡ error_token raised.now ∷ behind) }
+{
+    let mut tokens = vec![in alloc; Token::Error(notice_of(alloc, raised)?)]?;
+    let mut behind = behind.into_vec();
+    tokens.append(&mut behind)?;
+    Ok(TokenList::new(tokens))
 }
 
 /// The command that a DONE names.

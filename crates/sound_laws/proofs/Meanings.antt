@@ -1,9 +1,12 @@
--- So does each batch: by induction on the levels of its statements. The bodies of procedures and triggers are statements whose tables read back, too.
+-- So does each batch, and each call by RPC: by induction on the levels of its statements. The bodies of procedures and triggers are statements whose tables read back, too.
 use Rattle.std.proofs.Common.{◌≡◌, ℕ, zero, suc, ℤ, ◌==◌, not, Bool, true, false, if◌then◌else◌, is_ok, List, [], ◌∷◌, Option, Some, None, Result, Ok, Err, refl, ap}
 use Rattle.std.specs.Prelude.{◌&&◌, nat_le, nat_lt, pos}
 use Rattle.std.specs.List.{AllByRecursion}
 use Rattle.std.specs.Option.{ForSome}
+use Rattle.rpc_requests.specs.declared.call.RpcCall.{RpcCall}
 use Rattle.tsql_tree.specs.declared.definition.Definition.{Definition}
+use Rattle.tsql_tree.specs.declared.definition.Definition.TheVariants.{Table, Procedure, Trigger}
+use Rattle.tsql_tree.specs.declared.definition.ProcedureTree.{ProcedureTree}
 use Rattle.tsql_tree.specs.declared.definition.TriggerTree.{TriggerTree}
 use Rattle.tsql_tree.specs.declared.option.SessionOption.{SessionOption}
 use Rattle.tsql_tree.specs.declared.statement.Argument.{Argument}
@@ -34,29 +37,32 @@ use Rattle.batch_meaning.specs.declared.raised.Raised.{Raised}
 use Rattle.batch_meaning.specs.declared.settings.Settings.{Settings}
 use Rattle.batch_meaning.specs.declared.stop.Stop.{Stop}
 use Rattle.batch_meaning.specs.declared.stop.Stop.TheVariants.{Failed, Left}
-use Rattle.batch_meaning.specs.Asking.{assigns_all, comes_to, fails, finds_by, marked, unless_refused, where_begun, where_ended, with_room, ◌>>=◌}
-use Rattle.batch_meaning.specs.Calls.{Call, call_over, call_vars, depth_limit, finds_call, given_back, too_deep}
+use Rattle.batch_meaning.specs.Asking.{assigns_all, comes_to, fails, fails_naming, finds_by, marked, unless_refused, where_begun, where_ended, with_room, ◌>>=◌}
+use Rattle.batch_meaning.specs.Calls.{Call, call_over, call_vars, depth_limit, finds_call, given_back, no_procedure, too_deep, uneven}
 use Rattle.batch_meaning.specs.Cursors.{closes_cursor, declares_cursor, fetches_cursor, opens_cursor, removes_cursor}
 use Rattle.batch_meaning.specs.Doing.{Doing, asks, makes, over, reads, room, ◌then◌}
-use Rattle.batch_meaning.specs.Failures.{plain}
+use Rattle.batch_meaning.specs.Failures.{naming, plain}
 use Rattle.batch_meaning.specs.Firing.{closes_own, has_mark, in_trigger, leaves_fired, relaxes_then, settles, trigger_end, undone_to}
 use Rattle.batch_meaning.specs.Meaning.{Meaning, batch, branch, calls, caught_as, concluded, concludes, counted, decides, defined, defines_object, does, doomed_write, each_of, effect_of, ended_by, ends, ends_call, ends_doomed, ends_even, ends_uneven, ends_uneven_as, fails_for, fires, gives_back, goes_on, handled, is_refused_doomed, leaves_rows, mean_by, mean_form, mean_of, raises, raises_again, raises_at, raises_or_tells, returns_from, rolls_back_open, rolls_back_told, runs_body, runs_call, runs_fired, runs_text, runs_trigger, runs_triggers, sends_some, set_by, sets_option, spends, strikes, succeeds, tells, tells_behind, told_as, told_unless_own, tries, turned, turns, turns_again, uneven_end, uneven_tokens, unless_stopped, where_it_fits, writes, writes_in, written, written_in, written_with}
+use Rattle.batch_meaning.specs.Rpc.{binds_call, ending, ends_exec, ends_rpc, ends_rpc_doomed, error_or_full, execs, fails_call, finds_named, finds_read as finds_defined, gives_call_back, goes_on_with, is_sql, is_too_many, leaves_body, mismatch, name_of, object_in, returned, returns_uneven, rpc, rpc_arguments, rpc_statement, runs_exec, runs_rpc, runs_sql, skips_place, tells_returned}
 use Rattle.batch_meaning.specs.Progress as step
 use Rattle.batch_meaning.specs.Progress.{SessionProgress, size_of, statement_limit}
-use Rattle.batch_meaning.specs.Raised.{Around, Fired, action_in, around_batch, in_body, in_catch, in_try, is_caught_in}
+use Rattle.batch_meaning.specs.Raised.{Around, Fired, action_in, around_batch, in_body, in_catch, in_try, is_caught_in, raised_at}
 use Rattle.batch_meaning.specs.Selecting.{Effect, bound_over, no_effect, result_full, sending}
 use Rattle.batch_meaning.specs.Settings.{outside_profile, set_option}
 use Rattle.batch_meaning.specs.Statements.{vars_of}
 use Rattle.batch_meaning.specs.Tokens.{done_kind, procedure_done, transaction_begun, transaction_committed, transaction_rolled_back}
 use Rattle.batch_meaning.specs.Transactions.{begins_outermost, begins_over, begins_transaction, commits_by, commits_transaction, goes_back, next_serial, nothing_open, rolls_back_to, rolls_back_transaction, rolls_back_whole, saves_transaction, saves_unless, unless_own}
-use Rattle.batch_meaning.specs.Values.{is_message}
+use Rattle.batch_meaning.specs.Values.{is_message, outside_limits}
 use Rattle.batch_meaning.specs.Working.{asks_any, binds, composes, enters, known_by, leaves, own, relaxes, statuses, tests, works}
-use Rattle.batch_meaning.specs.Writes.{Written, change_bound, creates_definition, creates_table, drops}
+use Rattle.batch_meaning.specs.Writes.{Written, change_bound, creates_definition, creates_table, drops, is_odd_procedure}
 use Rattle.statement_paths.proofs.Looking.{finds_read}
-use Rattle.statement_paths.proofs.Only.{AnyStep, only_bind, only_comes, only_if, only_room, only_then}
-use Rattle.sound_laws.specs.Laws.{BatchSound, RollbackSound, StatementSound}
+use Rattle.statement_paths.proofs.Only.{AnyStep, only_bind, only_comes, only_if, only_naming, only_room, only_then}
+use Rattle.sound_laws.specs.Laws.{BatchSound, CallSound, RollbackSound, StatementSound}
+use Rattle.sound_laws.specs.Runs.{Task, TaskReadsBack, tree_of}
+use Rattle.sound_laws.specs.Runs.Task.{Runs, Calls}
 use Rattle.sound_laws.specs.Stands.{Carries, Stands}
-use Rattle.text_laws.specs.Laws.{EachIn, Everywhere, ReadsBack, ReadsBackAs, TextReadsBack, Within}
+use Rattle.text_laws.specs.Laws.{BodyReadsBack, CallReadsBack, EachIn, Everywhere, ReadsBack, ReadsBackAs, TextReadsBack, Within}
 use Rattle.sound_laws.proofs.Bringing.{brings_room, brings_then}
 use Rattle.sound_laws.proofs.Cursors.{closes_still, declares_still, fetches_still, first_still, opens_still, own_still, removes_still}
 use Rattle.sound_laws.proofs.Defining.{defines_carry}
@@ -64,7 +70,7 @@ use Rattle.sound_laws.proofs.Statements.{begun_still, bytes_still, carries_if, c
 use Rattle.sound_laws.proofs.Steps.{IsStill}
 use Rattle.sound_laws.proofs.Targets.{target_of}
 use Rattle.sound_laws.proofs.Trees.{WritesNothing, carries_still, only_assigns, only_refused, reads_still}
-use Rattle.sound_laws.proofs.Yields.{CallBack, FiresBack, TriggerBack, Well, Yields, brings_yields, call_yields, write_yields}
+use Rattle.sound_laws.proofs.Yields.{CallBack, FiresBack, TriggerBack, Well, Yields, brings_yields, call_back, call_yields, write_yields, yields_on, yields_room}
 
 -- ---- BEGIN TRANSACTION, COMMIT, ROLLBACK and SAVE TRANSACTION
 
@@ -566,6 +572,112 @@ pub batch_carry : (read : ReadText) → TextReadsBack read → Carries (batch re
 unfolding batch
 batch_carry read back = carries_makes (step.begins _) (runs_text read then ends) (carries_then (runs_text read) ends (text_carry read back) (λ exit. carries_still (ends exit) (ends_still exit)))
 
+-- ---- calls by RPC
+
+fails_call_still : (failure : Failure) → WritesNothing (fails_call failure)
+unfolding fails_call
+fails_call_still failure = (tt, λ p. (tt, (tt, ended_by_still (ending (action_in around_batch p.settings.xact_abort (error_or_full p (raised_at (pos 1) failure)))))))
+
+returned_still : (number : ℤ) (tokens : List Token) (next : Doing Exit) → WritesNothing next → WritesNothing (tells_returned number tokens next)
+returned_still number tokens next still = λ p. only_if AnyStep IsStill (nat_lt p.bytes_left (size_of tokens)) (fails_call (plain result_full)) (makes (step.tells_rows 0) (makes (step.tells_error number) (makes (step.sends tokens) next)))
+    (fails_call_still (plain result_full)) (tt, (tt, (tt, still)))
+
+exec_ends_still : (call : RpcCall) (count : ℕ) (status : ℤ) → WritesNothing (ends_exec call count status)
+unfolding ends_exec
+exec_ends_still call count status = λ p q. only_if AnyStep IsStill (q.txn.count == count) (tells_returned (pos 0) (returned call p.vars status) (over On)) (returns_uneven (returned call p.vars status) raised (action_in around_batch q.settings.xact_abort raised))
+    (returned_still (pos 0) (returned call p.vars status) (over On) tt) (returned_still raised.number _ (ended_by (action_in around_batch q.settings.xact_abort raised)) (ended_by_still (action_in around_batch q.settings.xact_abort raised)))
+  where
+    raised : Raised
+    raised = raised_at (pos 1) (plain uneven)
+
+gives_call_still : (call : RpcCall) (of : Call) (count : ℕ) (inner : List Variable) (status : ℤ) → WritesNothing (gives_call_back call of count inner status)
+unfolding gives_call_back
+gives_call_still call of count inner status = only_then AnyStep IsStill (reads λ p. comes_to (given_back p.vars None (rpc_arguments call) of status inner)) _ (λ p. only_comes AnyStep IsStill (given_back p.vars None (rpc_arguments call) of status inner)) by_came
+  where
+    by_came : (came : Result (List _) Failure) → WritesNothing (goes_on_with (λ sets. assigns_all sets (ends_exec call count status)) came)
+    by_came (Ok sets) = only_assigns IsStill sets (ends_exec call count status) (exec_ends_still call count status)
+    by_came (Err failure) = fails_call_still failure
+
+leaves_still_call : (call : RpcCall) (of : Call) (count : ℕ) (inner : List Variable) (exit : Exit) → WritesNothing (leaves_body call of count inner exit)
+leaves_still_call call of count inner (Raise raised) = (tt, tt)
+leaves_still_call call of count inner (RaiseUp raised) = (tt, tt)
+leaves_still_call call of count inner End = (tt, tt)
+leaves_still_call call of count inner (Return status) = gives_call_still call of count inner status
+leaves_still_call call of count inner On = gives_call_still call of count inner (pos 0)
+leaves_still_call call of count inner Leave = gives_call_still call of count inner (pos 0)
+leaves_still_call call of count inner Again = gives_call_still call of count inner (pos 0)
+
+module _ (call : RpcCall) where
+  exec_carry : (of : Call) → CallBack of → Carries (runs_exec (λ inner at. mean_of statement_limit inner at) call of)
+  unfolding runs_exec
+  exec_carry of back = carries_reads _ (λ p. carries_then (runs_body (λ inner at. mean_of statement_limit inner at) (call_vars of) (λ settings. settings) of.procedure.body (in_body of.procedure.name None around_batch)) _
+      (body_carry (λ inner at. mean_of statement_limit inner at) around_batch (rpc_statement of.procedure.name (rpc_arguments call)) (mean_carry statement_limit) (call_vars of) (λ settings. settings) of.procedure.body (in_body of.procedure.name None around_batch) back)
+      (λ came. carries_still (leaves_body call of p.txn.count came.1 came.0) (leaves_still_call call of p.txn.count came.1 came.0)))
+
+  execs_carry : (finds : Doing (Result Call Failure)) → Carries finds → Yields (Well CallBack) finds → Carries (execs (λ inner at. mean_of statement_limit inner at) call finds)
+  execs_carry finds carries yields = carries_given (Well CallBack) finds _ carries yields by_came
+    where
+      by_came : (came : Result Call Failure) → Well CallBack came → Carries (goes_on_with (runs_exec (λ inner at. mean_of statement_limit inner at) call) came)
+      by_came (Ok of) back = exec_carry of back
+      by_came (Err failure) back = carries_still (fails_call failure) (fails_call_still failure)
+
+  named_carry : (name : Option (List ℕ)) → Carries (execs (λ inner at. mean_of statement_limit inner at) call (finds_named call name))
+  named_carry None = execs_carry (finds_named call None) (carries_still (fails_naming {A = Call} no_procedure (name_of call.target)) (only_naming AnyStep IsStill Call no_procedure (name_of call.target))) by_room
+    where
+      by_room : (enough : Bool) → Yields (Well CallBack) (if enough then over (Err (naming no_procedure (name_of call.target))) else fails no_memory)
+      by_room true = tt
+      by_room false = tt
+  named_carry (Some name) = execs_carry (finds_named call (Some name))
+      (carries_still (finds_call around_batch (rpc_statement name (rpc_arguments call)) None name (rpc_arguments call)) (finds_call_still around_batch (rpc_statement name (rpc_arguments call)) None name (rpc_arguments call)))
+      (call_yields around_batch (rpc_statement name (rpc_arguments call)) None name (rpc_arguments call))
+
+  binds_still : (procedure : ProcedureTree) → WritesNothing (finds_defined call (Some procedure))
+  unfolding binds_call
+  binds_still procedure = only_if AnyStep IsStill (is_odd_procedure procedure) (over (Err (plain outside_limits))) _ tt (only_room AnyStep IsStill _ (only_bind AnyStep IsStill (reads λ p. comes_to (bound_over [] p.vars (rpc_statement procedure.name (rpc_arguments call)))) _
+      (λ p. only_comes AnyStep IsStill (bound_over [] p.vars (rpc_statement procedure.name (rpc_arguments call))))
+      (λ of p. only_comes AnyStep IsStill (call_over around_batch None procedure.name (rpc_arguments call) p.vars (Some (Procedure procedure))))))
+
+  binds_yield : (procedure : ProcedureTree) → BodyReadsBack (Procedure procedure) → Yields (Well CallBack) (finds_defined call (Some procedure))
+  unfolding binds_call
+  binds_yield procedure back = by_limits (is_odd_procedure procedure)
+    where
+      within : Yields (Well CallBack) (binds_call (rpc_statement procedure.name (rpc_arguments call)) (rpc_arguments call) procedure)
+      within = yields_room CallBack _ (yields_on CallBack (reads λ p. comes_to (bound_over [] p.vars (rpc_statement procedure.name (rpc_arguments call)))) _
+          (λ of p. yields_room CallBack (over (call_over around_batch None procedure.name (rpc_arguments call) p.vars (Some (Procedure procedure)))) (call_back around_batch None procedure.name (rpc_arguments call) p.vars (Some (Procedure procedure)) back)))
+
+      by_limits : (odd : Bool) → Yields (Well CallBack) (if odd then over (Err (plain outside_limits)) else binds_call (rpc_statement procedure.name (rpc_arguments call)) (rpc_arguments call) procedure)
+      by_limits true = tt
+      by_limits false = within
+
+  -- where no procedure was read
+  unread_carry : Carries (execs (λ inner at. mean_of statement_limit inner at) call (finds_defined call None))
+  unread_carry = execs_carry (finds_defined call None) (over_carries {A = Result Call Failure} (Err mismatch)) tt
+
+  read_carry : (read : ReadText) → CallReadsBack read → Carries (runs_sql (λ inner at. mean_of statement_limit inner at) call read)
+  read_carry (text.Statements statements) back = unread_carry
+  read_carry (text.Defines line (Table table) kept) back = unread_carry
+  read_carry (text.Defines line (Procedure procedure) kept) back = execs_carry (finds_defined call (Some procedure)) (carries_still (finds_defined call (Some procedure)) (binds_still procedure)) (binds_yield procedure back)
+  read_carry (text.Defines line (Trigger trigger) kept) back = unread_carry
+  read_carry (text.Refused line code near) back = carries_still (runs_text (text.Refused line code near)) (tt, tt)
+
+rpc_ends_still : (exit : Exit) → WritesNothing (ends_rpc exit)
+unfolding ends_rpc ends_rpc_doomed
+rpc_ends_still exit = λ p. only_if AnyStep IsStill p.txn.doomed ends_rpc_doomed (makes (step.sends _) (over tt))
+    (tt, only_then AnyStep IsStill rolls_back_told (λ done. makes (step.sends _) (over tt)) told_still (λ done. (tt, tt))) (tt, tt)
+
+-- what a call asks keeps what stands
+pub call_carry : (call : RpcCall) (read : ReadText) → CallReadsBack read → Carries (rpc call read)
+unfolding rpc runs_rpc
+call_carry call read back = carries_makes (step.begins _) _ (carries_makes step.counts _ (carries_then (runs_rpc (λ inner at. mean_of statement_limit inner at) call read) ends_rpc
+    (carries_if (is_too_many call) (fails_call (plain outside_limits)) _ (carries_still (fails_call (plain outside_limits)) (fails_call_still (plain outside_limits)))
+    (carries_if (skips_place call) (fails_call mismatch) _ (carries_still (fails_call mismatch) (fails_call_still mismatch))
+    (carries_if (is_sql call.target) (runs_sql (λ inner at. mean_of statement_limit inner at) call read) (execs (λ inner at. mean_of statement_limit inner at) call (finds_named call (object_in read))) (read_carry call read back) (named_carry call (object_in read)))))
+    (λ exit. carries_still (ends_rpc exit) (rpc_ends_still exit))))
+
+pub task_carry : (one : Task) → TaskReadsBack one → Carries (tree_of one)
+task_carry (Runs read) back = batch_carry read back
+task_carry (Calls call read) back = call_carry call read back
+
 -- and so does a rollback behind it
 pub open_carry : Carries rolls_back_open
 open_carry = carries_still rolls_back_open open_still
@@ -577,6 +689,9 @@ statement_sound levels statement around back = mean_carry levels statement back 
 
 pub batch_sound : BatchSound
 batch_sound = batch_carry
+
+pub call_sound : CallSound
+call_sound = call_carry
 
 pub rollback_sound : RollbackSound
 rollback_sound = open_carry

@@ -17,19 +17,22 @@ use Rattle.write_laws.specs.Reading.{HasCommit}
 use Rattle.write_laws.proofs.Commits.{commit_leaves}
 use Rattle.write_laws.proofs.States.{every_state}
 use Rattle.write_laws.proofs.Empty.{firm_empty}
-use Rattle.sound_laws.specs.Runs.{RunSound, ServeBatches}
+use Rattle.sound_laws.specs.Runs.{RunSound, ServeTasks}
 use Rattle.sound_laws.specs.Stands.{Intact}
 use Rattle.sound_laws.specs.Tied.{Tied}
 use Rattle.sound_laws.proofs.Coming.{runs_come}
 use Rattle.sound_laws.proofs.Serving.{all_keep}
 
-module _ (asked : List Asked) (engine : Engine) (run : Run opening asked engine) (serve : ServeBatches asked) where
+module _ (asked : List Asked) (engine : Engine) (run : Run opening asked engine) (serve : ServeTasks asked) where
   tied : (session : ℕ) → Tied session [] engine.log (without_waits (mine_of session asked))
   tied session =
       let fits = law_runs session asked engine run in
       record {
+        numbers = fits.numbers;
+        fetches = fits.fetches;
         ranges = fits.ranges;
         inserts = fits.inserts;
+        targets = fits.targets;
         commits = fits.commits;
         comes = runs_come session asked engine run;
       }

@@ -8,20 +8,18 @@ use Rattle.step_model.specs.declared.reply.Reply.TheVariants as replies
 use Rattle.step_model.specs.Exchange.{Exchange}
 use Rattle.step_model.specs.Log.{Commit as Logged}
 use Rattle.step_model.specs.Own.{Progress, none_open, progress_of}
-use Rattle.batch_meaning.specs.declared.form.ReadText.{ReadText}
 use Rattle.batch_meaning.specs.Asking.{where_ended}
 use Rattle.batch_meaning.specs.Doing.{Doing, Held, asks, over}
-use Rattle.batch_meaning.specs.Meaning.{batch, rolls_back_open}
+use Rattle.batch_meaning.specs.Meaning.{rolls_back_open}
 use Rattle.batch_meaning.specs.Progress.{SessionProgress, asked}
 use Rattle.write_laws.proofs.Parts.{from_both}
 use Rattle.statement_paths.proofs.Only.{AnyStep, NoCommit, Only, held_asks, only_if}
-use Rattle.sound_laws.specs.Laws.{BatchAgrees, ShutStands}
-use Rattle.sound_laws.specs.Runs.{AreDone, AreServed, IsCut, IsServed, IsWhole}
+use Rattle.sound_laws.specs.Laws.{ShutStands, TaskAgrees}
+use Rattle.sound_laws.specs.Runs.{AreDone, AreServed, IsCut, IsServed, IsWhole, Task, TaskReadsBack, tree_of}
 use Rattle.sound_laws.specs.Stands.{CommitsKeep, Stands, StandsAt, base_of}
-use Rattle.text_laws.specs.Laws.{TextReadsBack}
 use Rattle.sound_laws.specs.Tied.{Tied}
 use Rattle.sound_laws.proofs.Bringing.{keep_both, keep_none}
-use Rattle.sound_laws.proofs.Meanings.{batch_carry}
+use Rattle.sound_laws.proofs.Meanings.{task_carry}
 use Rattle.sound_laws.proofs.Shut.{all_shut, left_open, open_behind}
 use Rattle.sound_laws.proofs.Trees.{none_keep}
 
@@ -65,8 +63,8 @@ module _ (session : ℕ) (begin log : List Logged) (mine : List Exchange) (tied 
   abbrev Agree : SessionProgress → List Exchange → Type 0
   Agree p before = p.is_open ≡ (progress_of before).is_open
 
-  -- batches that were done keep what stands
-  done_keep : (batches : List ReadText) (before part later : List Exchange) (p new : SessionProgress) → AllByRecursion TextReadsBack batches → mine ≡ before ++ (part ++ later) → Agree p before → Stands log before (part ++ later) → AreDone batches p part new
+  -- batches and calls that were done keep what stands
+  done_keep : (tasks : List Task) (before part later : List Exchange) (p new : SessionProgress) → AllByRecursion TaskReadsBack tasks → mine ≡ before ++ (part ++ later) → Agree p before → Stands log before (part ++ later) → AreDone tasks p part new
       → CommitsKeep log before part × Stands log (before ++ part) later × Agree new (before ++ part)
   done_keep [] before part later p new back is agree stands done =
       let same : before ++ part ≡ before = ap (λ (xs : List Exchange). before ++ xs) done.0 ∙ append-nil before in (
@@ -74,28 +72,28 @@ module _ (session : ℕ) (begin log : List Logged) (mine : List Exchange) (tied 
         subst (λ (xs : List Exchange). Stands log xs later) (sym same) (subst (λ (xs : List Exchange). Stands log before (xs ++ later)) done.0 stands),
         ap (λ (q : SessionProgress). q.is_open) done.1 ∙ agree ∙ ap (λ (xs : List Exchange). (progress_of xs).is_open) (sym same),
       )
-  done_keep (read ∷ others) before part later p new back is agree stands (mid, first, rest, parts, held, done) =
+  done_keep (one_task ∷ others) before part later p new back is agree stands (mid, first, rest, parts, held, done) =
       let all : part ++ later ≡ first ++ (rest ++ later) = ap (λ (xs : List Exchange). xs ++ later) parts ∙ append_assoc first rest later in
-      let one = (batch_carry read back.0 session begin log mine tied before first (rest ++ later) p (is ∙ ap (λ (xs : List Exchange). before ++ xs) all) agree (subst (Stands log before) all stands)).1 tt mid held in
-      let on = done_keep others (before ++ first) rest later mid new back.1 (is ∙ ap (λ (xs : List Exchange). before ++ xs) all ∙ sym (append_assoc before first (rest ++ later))) (open_behind (batch read) before first p mid tt agree held) one.1 done in
+      let one = (task_carry one_task back.0 session begin log mine tied before first (rest ++ later) p (is ∙ ap (λ (xs : List Exchange). before ++ xs) all) agree (subst (Stands log before) all stands)).1 tt mid held in
+      let on = done_keep others (before ++ first) rest later mid new back.1 (is ∙ ap (λ (xs : List Exchange). before ++ xs) all ∙ sym (append_assoc before first (rest ++ later))) (open_behind (tree_of one_task) before first p mid tt agree held) one.1 done in
       let whole : (before ++ first) ++ rest ≡ before ++ part = append_assoc before first rest ∙ ap (λ (xs : List Exchange). before ++ xs) (sym parts) in
       (subst (CommitsKeep log before) (sym parts) (keep_both log before first rest one.0 on.0), subst (λ (xs : List Exchange). Stands log xs later) whole on.1, subst (Agree new) whole on.2)
 
   -- and one that was left keeps its databases intact
-  cut_keep : (last : Option ReadText) (before part later : List Exchange) (p new : SessionProgress) → ForSome last TextReadsBack → mine ≡ before ++ (part ++ later) → Agree p before → Stands log before (part ++ later) → IsCut last p part new
+  cut_keep : (last : Option Task) (before part later : List Exchange) (p new : SessionProgress) → ForSome last TaskReadsBack → mine ≡ before ++ (part ++ later) → Agree p before → Stands log before (part ++ later) → IsCut last p part new
       → CommitsKeep log before part × Agree new (before ++ part)
   cut_keep None before part later p new back is agree stands cut =
       (keep_none log before part cut.0, ap (λ (q : SessionProgress). q.is_open) cut.1 ∙ agree ∙ ap (λ (xs : List Exchange). (progress_of xs).is_open) (sym (ap (λ (xs : List Exchange). before ++ xs) cut.0 ∙ append-nil before)))
-  cut_keep (Some read) before part later p new back is agree stands cut = (
-    (batch_carry read (back read refl) session begin log mine tied before part later p is agree stands).0 new cut,
-    sym (ap (λ (q : Progress). q.is_open) (from_both none_open before part) ∙ left_open (batch read) (progress_of before) p new part (sym agree) cut),
+  cut_keep (Some one_task) before part later p new back is agree stands cut = (
+    (task_carry one_task (back one_task refl) session begin log mine tied before part later p is agree stands).0 new cut,
+    sym (ap (λ (q : Progress). q.is_open) (from_both none_open before part) ∙ left_open (tree_of one_task) (progress_of before) p new part (sym agree) cut),
   )
 
   -- what a connection has asked
   pub served_keep : (before part later : List Exchange) (new : SessionProgress) → mine ≡ before ++ (part ++ later) → (progress_of before).is_open ≡ false → IsServed part new → CommitsKeep log before part × Agree new (before ++ part)
   served_keep before part later new is shut s =
       let all : part ++ later ≡ s.done ++ (s.left ++ later) = ap (λ (xs : List Exchange). xs ++ later) s.parts ∙ append_assoc s.done s.left later in
-      let done = done_keep s.batches before s.done (s.left ++ later) s.old s.mid s.back (is ∙ ap (λ (xs : List Exchange). before ++ xs) all) (s.closed ∙ sym shut)
+      let done = done_keep s.tasks before s.done (s.left ++ later) s.old s.mid s.back (is ∙ ap (λ (xs : List Exchange). before ++ xs) all) (s.closed ∙ sym shut)
       (shut_stands session begin log mine before (s.done ++ (s.left ++ later)) tied (is ∙ ap (λ (xs : List Exchange). before ++ xs) all) shut) s.are_done in
       let cut = cut_keep s.last (before ++ s.done) s.left later s.mid new s.last_back (is ∙ ap (λ (xs : List Exchange). before ++ xs) all ∙ sym (append_assoc before s.done (s.left ++ later))) done.2 done.1 s.was_left in
       let whole : (before ++ s.done) ++ s.left ≡ before ++ part = append_assoc before s.done s.left ∙ ap (λ (xs : List Exchange). before ++ xs) (sym s.parts) in
@@ -134,8 +132,8 @@ module _ (session : ℕ) (begin log : List Logged) (mine : List Exchange) (tied 
 
 -- ---- what is open
 
-pub batch_agrees : BatchAgrees
-batch_agrees read old new before part agree came = elim came [
-  | inl held ↦ open_behind (batch read) before part old new tt agree held
-  | inr left ↦ sym (ap (λ (q : Progress). q.is_open) (from_both none_open before part) ∙ left_open (batch read) (progress_of before) old new part (sym agree) left)
+pub task_agrees : TaskAgrees
+task_agrees one_task old new before part agree came = elim came [
+  | inl held ↦ open_behind (tree_of one_task) before part old new tt agree held
+  | inr left ↦ sym (ap (λ (q : Progress). q.is_open) (from_both none_open before part) ∙ left_open (tree_of one_task) (progress_of before) old new part (sym agree) left)
 ]

@@ -1,20 +1,19 @@
 -- Worked sessions: one that has asked nothing is one that the law of runs speaks of, and so is one whose connection ended at once.
 use Rattle.std.proofs.Common.{◌≡◌, [], ◌∷◌, Option, Some, None, refl}
-use Rattle.batch_meaning.specs.declared.form.ReadText.{ReadText}
 use Rattle.batch_meaning.specs.Doing.{Held}
 use Rattle.batch_meaning.specs.Meaning.{rolls_back_open}
 use Rattle.batch_meaning.specs.Progress.{first_progress}
-use Rattle.sound_laws.specs.Runs.{AreServed, IsServed, IsWhole}
+use Rattle.sound_laws.specs.Runs.{AreServed, IsServed, IsWhole, Task}
 
-none_some : (read : ReadText) → ◌≡◌ {A = Option ReadText} None (Some read) → ⊥
-none_some read is = absurd (let no : ◌≡◌ {A = Option ReadText} None (Some read) = is in cc)
+none_some : (one : Task) → ◌≡◌ {A = Option Task} None (Some one) → ⊥
+none_some one is = absurd (let no : ◌≡◌ {A = Option Task} None (Some one) = is in cc)
 
 -- a connection before its first batch
 before_first : IsServed [] first_progress
 before_first = record {
   old = first_progress;
   closed = refl;
-  batches = [];
+  tasks = [];
   last = None;
   done = [];
   left = [];
@@ -23,7 +22,7 @@ before_first = record {
   are_done = (refl, refl);
   was_left = (refl, refl);
   back = tt;
-  last_back = λ read is. absurd (none_some read is);
+  last_back = λ one is. absurd (none_some one is);
 }
 
 -- nothing is open then, so its end asks nothing

@@ -220,7 +220,7 @@ finds_yields (Some found) name back = yields_room BackIf (over (Ok found)) back
 abbrev pub CallBack : Call → Type 0
 CallBack call = AllByRecursion (Everywhere ReadsBack) call.procedure.body
 
-call_back : (around : Around) (status : Option (List ℕ)) (name : List ℕ) (arguments : List Argument) (vars : List Variable) (found : Option Definition) → BackIf found → Well CallBack (call_over around status name arguments vars found)
+pub call_back : (around : Around) (status : Option (List ℕ)) (name : List ℕ) (arguments : List Argument) (vars : List Variable) (found : Option Definition) → BackIf found → Well CallBack (call_over around status name arguments vars found)
 call_back around status name arguments vars found back = by_standing (are_standing status arguments vars) found back
   where
     by_values : (procedure : ProcedureTree) (values : Result (List Value) ℤ) → AllByRecursion (Everywhere ReadsBack) procedure.body → Well CallBack (call_with procedure values)

@@ -1,4 +1,4 @@
--- Own: the laws. What a statement or a batch asks keeps what stands, and each of its commits keeps an intact database intact; such a one is
+-- Own: the laws. What a statement, a batch or a call by RPC asks keeps what stands, and each of its commits keeps an intact database intact; such a one is
 -- sound; and so is each database that the log's commits leave.
 use Rattle.std.specs.Prelude.{◌≡◌, ◌⊎◌, ℕ, ◌≤◌, ◌<◌, false, List, ◌∷◌, ◌++◌, length, take}
 use Rattle.tsql_tree.specs.declared.statement.Statement.{Statement}
@@ -9,16 +9,18 @@ use Rattle.step_model.specs.Exchange.{Exchange}
 use Rattle.step_model.specs.Fits.{committed_by}
 use Rattle.step_model.specs.Log.{Commit as Logged, State}
 use Rattle.step_model.specs.Own.{progress_of}
+use Rattle.rpc_requests.specs.declared.call.RpcCall.{RpcCall}
 use Rattle.batch_meaning.specs.declared.form.ReadText.{ReadText}
 use Rattle.batch_meaning.specs.Meaning.{batch, mean_of, rolls_back_open}
 use Rattle.batch_meaning.specs.Doing.{Held, Left}
 use Rattle.batch_meaning.specs.Progress.{SessionProgress}
 use Rattle.batch_meaning.specs.Raised.{Around}
+use Rattle.batch_meaning.specs.Rpc.{rpc}
 use Rattle.write_laws.specs.Sound.{Sound}
 use Rattle.sound_laws.specs.Stands.{Carries, Intact, Stands}
-use Rattle.text_laws.specs.Laws.{Everywhere, ReadsBack, TextReadsBack}
+use Rattle.text_laws.specs.Laws.{CallReadsBack, Everywhere, ReadsBack, TextReadsBack}
 use Rattle.sound_laws.specs.Tied.{Tied}
-use Rattle.sound_laws.specs.Runs.{IsServed}
+use Rattle.sound_laws.specs.Runs.{IsServed, Task, tree_of}
 
 -- ---- databases
 
@@ -40,9 +42,13 @@ StatementSound = (levels : ℕ) (statement : Statement) (around : Around) → Ev
 abbrev pub BatchSound : Type 0
 BatchSound = (read : ReadText) → TextReadsBack read → Carries (batch read)
 
--- behind it session and port agree on whether a transaction is open, if they did before it
-abbrev pub BatchAgrees : Type 0
-BatchAgrees = (read : ReadText) (old new : SessionProgress) (before part : List Exchange) → old.is_open ≡ (progress_of before).is_open → Held (batch read) old part tt new ⊎ Left (batch read) old part new
+-- and what a call by RPC asks
+abbrev pub CallSound : Type 0
+CallSound = (call : RpcCall) (read : ReadText) → CallReadsBack read → Carries (rpc call read)
+
+-- behind either session and port agree on whether a transaction is open, if they did before it
+abbrev pub TaskAgrees : Type 0
+TaskAgrees = (one : Task) (old new : SessionProgress) (before part : List Exchange) → old.is_open ≡ (progress_of before).is_open → Held (tree_of one) old part tt new ⊎ Left (tree_of one) old part new
     → new.is_open ≡ (progress_of (before ++ part)).is_open
 
 -- and the rollback of what it left open keeps what stands
@@ -74,7 +80,7 @@ pub record IsOfBatch (log : List Logged) (place : ℕ) : Type 0 where
   pub ended : exchange.reply ≡ Ended place
   pub one : length (committed_by exchange.op exchange.reply (progress_of (before ++ front))) ≡ 1
 
--- Where each commit from here on is one of a batch, each database is intact if the first is.
+-- Where each commit from here on is one that a connection has asked, each database is intact if the first is.
 abbrev pub LogSound : Type 0
 LogSound = (log : List Logged) (first : ℕ) → Intact (State (take first log)) → ((place : ℕ) → first ≤ place → place < length log → IsOfBatch log place)
     → (place : ℕ) → first ≤ place → place ≤ length log → Intact (State (take place log))

@@ -1,6 +1,6 @@
-//! Laws of soundness: what a statement or a batch asks, with the procedures and triggers that it runs, keeps what stands in its
-//! transaction, and each commit that it asks keeps its database firm (`write_laws`), and so sound; and so is each database that
-//! the commits of the log leave.
+//! Laws of soundness: what a statement, a batch or a call by RPC asks, with the procedures and triggers that it runs, keeps what
+//! stands in its transaction, and each commit that it asks keeps its database firm (`write_laws`), and so sound; and so is each
+//! database that the commits of the log leave.
 //!
 //! Read `specs/Tied.antt` first: what is asked of the exchanges of a session, and of its statements; then `specs/Stands.antt`:
 //! the database at a transaction's place, with the transaction's changes so far, is intact, and so it was at each of its live
@@ -8,7 +8,7 @@
 //! they cite say what they mean.
 #![tactic(auto)]
 
-ghost use Rattle.sound_laws.specs.Laws.{BatchAgrees, BatchSound, IntactSound, LogSound, RollbackSound, ShutStands, StatementSound, WholeLogSound};
+ghost use Rattle.sound_laws.specs.Laws.{BatchSound, CallSound, IntactSound, LogSound, RollbackSound, ShutStands, StatementSound, TaskAgrees, WholeLogSound};
 ghost use Rattle.sound_laws.specs.Runs.{RunSound};
 
 /// An intact database is sound.
@@ -29,14 +29,15 @@ pub fn law_statement_sound()
     ensures { StatementSound }
 {}
 
-/// So does what a batch asks, and the rollback of what it has left open.
+/// So does what a batch or a call by RPC asks, and the rollback of what it has left open.
 pub fn law_batch_sound()
     ensures batch { BatchSound }
-    ensures open { BatchAgrees }
+    ensures call { CallSound }
+    ensures open { TaskAgrees }
     ensures rollback { RollbackSound }
 {}
 
-/// Where each commit of the log is one of a session that serves batches, every database that its first commits leave is
+/// Where each commit of the log is one of a session that serves batches and calls, every database that its first commits leave is
 /// intact.
 pub fn law_log_sound()
     ensures from { LogSound }

@@ -61,7 +61,7 @@ use Rattle.session_state.proofs.Fitting.{told_fit}
 
 -- ---- values
 
-value_fits : (kind : SqlType) (value : Value) → is_kind kind ≡ true → IsOf kind value → FitsType kind value
+pub value_fits : (kind : SqlType) (value : Value) → is_kind kind ≡ true → IsOf kind value → FitsType kind value
 value_fits kind Null real of = tt
 value_fits TinyInt (Whole (pos n)) real of = let most : n ≤ 255 = leb-true n 255 (and_parts (nat_le 0 n) (nat_le n 255) of).1 in (record { le = subst T (sym (le-leb 0 n (omega arith))) tt }, record { le = subst T (sym (le-leb n 255 most)) tt })
 value_fits TinyInt (Whole (negsuc n)) real of = absurd cc
@@ -78,7 +78,7 @@ value_fits BitType (Whole number) real of = absurd cc
 value_fits (NText size) (Whole number) real of = absurd cc
 value_fits kind value real of = absurd of
 
-kind_fits : (kind : SqlType) → is_kind kind ≡ true → FitsKind kind
+pub kind_fits : (kind : SqlType) → is_kind kind ≡ true → FitsKind kind
 kind_fits (NText size) real = let small : size ≤ 4000 = leb-true size 4000 (and_parts (nat_le 1 size) (nat_le size 4000) real).1 in omega (arith, small)
 kind_fits kind real = tt
 

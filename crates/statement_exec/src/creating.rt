@@ -10,7 +10,7 @@ ghost use Rattle.clause_binder.specs.Scope.{is_long};
 ghost use Rattle.typed_nodes.specs.Nodes.{is_kind};
 ghost use Rattle.table_rows.specs.Definitions.{is_objects};
 ghost use Rattle.tsql_tree.specs.declared.definition.Definition.TheVariants.{Procedure, Trigger};
-ghost use Rattle.batch_meaning.specs.Writes.{creates, creates_definition, creates_table, is_odd_list, is_odd_parameter, unless_objects};
+ghost use Rattle.batch_meaning.specs.Writes.{creates, creates_definition, creates_table, is_odd_list, is_odd_parameter, is_odd_procedure, unless_objects};
 ghost use Rattle.statement_exec.specs.Created.{MayBePut, creates_trigger};
 
 use crate::discard::discard;
@@ -213,13 +213,13 @@ fn create_procedure<P: Port>(
     ensures ready { Ready session.new (P.past port.new) }
     ensures none { IfOk result (λ effect. effect.sets ≡ []) }
 {
-    may_be_put(alloc, is_outside(procedure), &procedure.name)?;
+    may_be_put(alloc, is_odd_procedure(procedure), &procedure.name)?;
     create_own(alloc, session, port, &procedure.name, text)
 }
 
 /// Whether a procedure has too long a name, too many parameters or an odd one.
-fn is_outside(procedure: &ProcedureTree) -> bool
-    ensures { result ≡ (is_long procedure.now.name || is_odd_list procedure.now.parameters) }
+pub fn is_odd_procedure(procedure: &ProcedureTree) -> bool
+    ensures { result ≡ is_odd_procedure procedure.now }
 {
     is_long(&procedure.name) || is_odd_list(procedure.parameters.as_slice())
 }

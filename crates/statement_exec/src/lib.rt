@@ -28,7 +28,7 @@ mod typed;
 mod working;
 
 pub use changing::{Change, Written, write};
-pub use creating::{create_definition, create_table};
+pub use creating::{create_definition, create_table, is_odd_procedure};
 pub use cursors::{close_cursor, declare_cursor, fetch, open_cursor, remove_cursor};
 pub use dropping::drop_object;
 pub use home::{close, enter, leave, relax, relax_again};

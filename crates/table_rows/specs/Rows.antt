@@ -1,7 +1,7 @@
 -- Transact-SQL reference, "CREATE TABLE": which rows are rows of a table. A row has a value for each column, NULL or of
 -- the column's type, and stands at its own key: the values of the PRIMARY KEY's columns, in the key's order. What else
 -- stands among a table's rows is read as no row. NOT NULL is no part of this: it is a constraint.
-use Rattle.std.specs.Prelude.{ℕ, Bool, true, false, ◌&&◌, nat_eq, nat_le, List, length, map, Some}
+use Rattle.std.specs.Prelude.{ℕ, Bool, true, false, ◌&&◌, nat_eq, nat_le, List, length, map, filter_map, Some}
 use Rattle.std.specs.Cmp.Lexicographic.{pointwise}
 use Rattle.std.specs.Ordering.{eq_by_cmp}
 use Rattle.value_types.specs.declared.sql_type.SqlType.{SqlType}
@@ -13,7 +13,7 @@ use Rattle.convert_rules.specs.Types.{is_in_range}
 use Rattle.tsql_tree.specs.declared.definition.ColumnTree.{ColumnTree}
 use Rattle.tsql_tree.specs.declared.definition.TableTree.{TableTree}
 use Rattle.bound_tree.specs.Setting.{value_at}
-use Rattle.clause_binder.specs.Scope.{key_places}
+use Rattle.clause_binder.specs.Scope.{key_places, place_in}
 
 -- NULL, or a value of the type: `IsOf` of `convert_rules` as a test
 abbrev pub is_value_of : SqlType → Value → Bool
@@ -26,6 +26,10 @@ is_value_of kind value = false
 -- a value for each column, NULL or of its type, and no more
 abbrev pub has_columns : List ColumnTree → List Value → Bool
 has_columns columns row = pointwise (λ column value. is_value_of column.kind value) columns row
+
+-- the places of the columns of these names
+abbrev pub places_of : TableTree → List (List ℕ) → List ℕ
+places_of shape names = filter_map (place_in shape.columns) names
 
 -- the values at places of a row
 abbrev pub values_at : List ℕ → List Value → List Value

@@ -5,19 +5,22 @@ use Rattle.std.specs.Int.{w16, w32, w64, to_le_bytes, cast_unsigned}
 use Rattle.std.proofs.lemmas.Bool.{eqb-true, eq-eqb, ne_eqb, leb-true, le-leb, or_cases, or_left, or_right, or_from, and_parts, and_from}
 use Rattle.std.proofs.lemmas.List.{append-nil}
 use Rattle.value_types.specs.Units.{le_bytes_of}
+use Rattle.value_types.specs.declared.sql_type.SqlType.{SqlType}
+use Rattle.value_types.specs.declared.value.Value.{Value}
 use Rattle.tds_tokens.specs.declared.columns.ColumnInfo.{ColumnInfo}
 use Rattle.tds_tokens.specs.declared.notice.Notice.{Notice}
 use Rattle.tds_tokens.specs.declared.token.DoneKind.{DoneKind}
 use Rattle.tds_tokens.specs.declared.token.Token.{Token}
-use Rattle.tds_tokens.specs.declared.token.Token.TheVariants.{LoginAck, EnvText, EnvBytes, Finished}
+use Rattle.tds_tokens.specs.declared.token.Token.TheVariants.{LoginAck, EnvText, EnvBytes, ReturnValue, Finished}
 use Rattle.tds_tokens.specs.Numbers.{done_tag}
-use Rattle.tds_tokens.specs.Spelling.{with_length, server_name, sql_tsql, b_varchar, b_varbyte, us_varchar, login_ack_bytes, notice_bytes, token_bytes}
+use Rattle.tds_tokens.specs.Spelling.{with_length, server_name, sql_tsql, b_varchar, b_varbyte, us_varchar, type_info, value_bytes, return_value_start, return_value_bytes, login_ack_bytes, notice_bytes, token_bytes}
 use Rattle.tds_tokens.specs.Fit.{FitsNotice}
 use Rattle.tds_tokens.specs.Ranges.{AreUnits, AreOctets, IsNotice, IsToken}
-use Rattle.tds_tokens.specs.Reading.{made, both, framed, byte_at, number_at, b_varchar_at, b_varbyte_at, login_ack_at, said_at, notice_at, env_of, env_at, finished_at}
+use Rattle.tds_tokens.specs.Reading.{made, both, behind, framed, typed_at, return_value_at, byte_at, number_at, b_varchar_at, b_varbyte_at, login_ack_at, said_at, notice_at, env_of, env_at, finished_at}
 use Rattle.tds_tokens.proofs.Lengths.{length-login_ack, length-env_text}
 use Rattle.tds_tokens.proofs.Readers.{IsBytes, IsBytes-rest, bind_some, Reads, Reads-both, Reads-made, Reads-is, made_takes, made_again, Reads-behind, framed_takes, framed_again, Reads-framed}
 use Rattle.tds_tokens.proofs.Numbers.{Reads-byte, Reads-16, Reads-64, Reads-32_big, Reads-signed32}
+use Rattle.tds_tokens.proofs.ValueLaws.{IsTyped, typed_bytes, Reads-typed}
 use Rattle.tds_tokens.proofs.Texts.{Reads-body, Reads-b_varchar, Reads-b_varbyte, Reads-us_varchar}
 
 -- the tag and the bytes are those of the token that was read, and of what is left
@@ -193,6 +196,42 @@ env_bytes_framed columns kind fresh former rest is =
     let within : (leb 7 kind && leb kind 10) ≡ true = and_from (leb 7 kind) (leb kind 10) (le-leb 7 kind is.0.0) (le-leb kind 10 is.0.1) in
     let short : length (kind ∷ b_varbyte fresh ++ b_varbyte former) < 2 ^ 16 = omega (arith, is.0.2, is.0.3, length-append fresh (b_varbyte former)) in
     framed_again env_at Reads-body (kind ∷ b_varbyte fresh ++ b_varbyte former) (EnvBytes kind fresh former) rest short (env_bytes_again kind fresh former neither within ((is.0.2, is.1.0), (is.0.3, is.1.1)))
+
+-- ---- RETURNVALUE
+
+abbrev ReturnParts : Type 0
+ReturnParts = ℕ × (List ℕ × (SqlType × Value))
+
+abbrev IsReturned : ReturnParts → Type 0
+IsReturned p = (p.0 < 2 ^ 16) × (((length p.1.0 < 2 ^ 8) × AreUnits p.1.0) × IsTyped p.1.1)
+
+-- the bytes behind the tag, grouped from behind
+abbrev returned : ReturnParts → List ℕ
+returned p = to_le_bytes w16 p.0 ++ (b_varchar p.1.0 ++ (return_value_start ++ typed_bytes p.1.1))
+
+Reads-returned : Reads returned IsReturned (both (number_at w16) (both b_varchar_at (behind return_value_start typed_at)))
+Reads-returned = Reads-both Reads-16 (Reads-both Reads-b_varchar (Reads-behind return_value_start Reads-typed))
+
+return_value_bytes-returned : (ordinal : ℕ) (name : List ℕ) (kind : SqlType) (value : Value) → return_value_bytes ordinal name kind value ≡ returned (ordinal, (name, (kind, value)))
+return_value_bytes-returned ordinal name kind value =
+    ap (λ l. to_le_bytes w16 ordinal ++ (length name ∷ l)) (from_behind (le_bytes_of name) return_value_start (type_info kind) (value_bytes kind value))
+
+pub return_value_tagged : (columns : List ColumnInfo) (bytes : List ℕ) (x : Token × List ℕ) → IsBytes bytes → return_value_at bytes ≡ Some x → IsTokenOf columns 0xAC bytes x
+unfolding return_value_at
+return_value_tagged columns bytes x fits e =
+    let t = made_takes (λ p. ReturnValue p.0 p.1.0 p.1.1.0 p.1.1.1) Reads-returned bytes x fits e in
+    let p = t.0 in
+    let is = t.3 in
+    let parts : bytes ≡ return_value_bytes p.0 p.1.0 p.1.1.0 p.1.1.1 ++ x.1 = t.2 ∙ ap (λ l. l ++ x.1) (sym (return_value_bytes-returned p.0 p.1.0 p.1.1.0 p.1.1.1)) in
+    subst (λ (token : Token). IsTokenOf columns 0xAC bytes (token, x.1)) t.1
+    (ap (λ l. 0xAC ∷ l) parts, ((is.1.0.0, is.1.1.0, is.1.1.1.0), (is.0, is.1.0.1, is.1.1.1.1)))
+
+pub return_value_again : (columns : List ColumnInfo) (ordinal : ℕ) (name : List ℕ) (kind : SqlType) (value : Value) (rest : List ℕ) → IsToken columns (ReturnValue ordinal name kind value)
+    → return_value_at (return_value_bytes ordinal name kind value ++ rest) ≡ Some (ReturnValue ordinal name kind value, rest)
+unfolding return_value_at
+return_value_again columns ordinal name kind value rest is =
+    ap (λ l. return_value_at (l ++ rest)) (return_value_bytes-returned ordinal name kind value)
+    ∙ made_again (λ p. ReturnValue p.0 p.1.0 p.1.1.0 p.1.1.1) Reads-returned (ordinal, (name, (kind, value))) rest (is.1.0, ((is.0.0, is.1.1), (is.0.1, (is.0.2, is.1.2))))
 
 -- ---- DONE, DONEPROC and DONEINPROC
 

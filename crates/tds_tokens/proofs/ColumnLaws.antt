@@ -54,7 +54,7 @@ type_again BigInt rest fits = refl
 type_again BitType rest fits = refl
 type_again (NText size) rest fits = text_type_again size rest fits
 
-Reads-type : Reads type_info FitsKind type_at
+pub Reads-type : Reads type_info FitsKind type_at
 Reads-type = record { takes = type_takes; again = type_again }
 
 abbrev pub IsColumn : ColumnInfo → Type 0

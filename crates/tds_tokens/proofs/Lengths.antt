@@ -4,11 +4,12 @@ use Rattle.std.specs.Int.{w16, w32, to_le_bytes, to_be_bytes}
 use Rattle.value_types.specs.Units.{le_bytes_of}
 use Rattle.value_types.specs.declared.sql_type.SqlType.{SqlType}
 use Rattle.value_types.specs.declared.sql_type.SqlType.TheVariants.{TinyInt, SmallInt, Int, BigInt, Bit as BitType, NText}
+use Rattle.value_types.specs.declared.value.Value.{Value}
 use Rattle.value_types.specs.declared.value.Value.TheVariants.{Text}
 use Rattle.tds_tokens.specs.declared.columns.ColumnInfo.{ColumnInfo}
 use Rattle.tds_tokens.specs.declared.notice.Notice.{Notice}
 use Rattle.tds_tokens.specs.declared.token.Token.TheVariants.{LoginAck, EnvText}
-use Rattle.tds_tokens.specs.Spelling.{b_varchar, type_info, value_bytes, column_bytes, notice_bytes, token_bytes}
+use Rattle.tds_tokens.specs.Spelling.{b_varchar, type_info, value_bytes, return_value_bytes, column_bytes, notice_bytes, token_bytes}
 use Rattle.tds_tokens.specs.Fit.{FitsType}
 
 -- a unit has two bytes
@@ -34,6 +35,10 @@ length-login_ack columns version program release =
 pub length-env_text : (columns : List ColumnInfo) (kind : ℕ) (fresh former : List ℕ) → length (token_bytes columns (EnvText kind fresh former)) ≡ 6 + 2 * length fresh + 2 * length former
 length-env_text columns kind fresh former =
     omega (arith, length-append (le_bytes_of fresh) (b_varchar former), length-le_bytes_of fresh, length-le_bytes_of former)
+
+pub length-return_value : (ordinal : ℕ) (name : List ℕ) (kind : SqlType) (value : Value)
+    → length (return_value_bytes ordinal name kind value) ≡ 10 + 2 * length name + length (type_info kind) + length (value_bytes kind value)
+length-return_value ordinal name kind value = simp length-append (omega (arith, length-le_bytes_of name))
 
 pub length-text : (kind : SqlType) (units : List ℕ) → FitsType kind (Text units) → length (value_bytes kind (Text units)) ≡ 2 + 2 * length units
 length-text TinyInt units fits = absurd fits

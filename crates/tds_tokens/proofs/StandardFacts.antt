@@ -6,7 +6,7 @@ use Rattle.value_types.specs.declared.sql_type.SqlType.TheVariants.{TinyInt, Sma
 use Rattle.value_types.specs.declared.value.Value.TheVariants.{Null, Whole, Bit, Text}
 use Rattle.tds_tokens.specs.declared.token.DoneKind.TheVariants.{Done, Proc, InProc}
 use Rattle.tds_tokens.specs.declared.token.Token.{Token}
-use Rattle.tds_tokens.specs.declared.token.Token.TheVariants.{LoginAck, Error, Info, EnvText, EnvBytes, Columns, Row, ReturnStatus, Finished}
+use Rattle.tds_tokens.specs.declared.token.Token.TheVariants.{LoginAck, Error, Info, EnvText, EnvBytes, Columns, Row, ReturnStatus, ReturnValue, Finished}
 use Rattle.tds_tokens.specs.Spelling.{TokenBytes, tokens_bytes}
 
 -- `SELECT 1`: one column of INT with no name, one row, and two DONE tokens
@@ -119,3 +119,14 @@ pub TokenBytes-every : TokenBytes every ≡
     ∷ 0x00 ∷ []
 unfolding tokens_bytes
 TokenBytes-every = refl
+
+-- OUTPUT parameters of a call: the third, a number, and the fourth, a text without a name that is NULL
+abbrev pub returned : List Token
+returned = ReturnValue 2 (codes "@n") Int (Whole (pos 1)) ∷ ReturnValue 3 [] (NText 2) Null ∷ []
+
+pub TokenBytes-returned : TokenBytes returned ≡
+    0xAC ∷ 0x02 ∷ 0x00 ∷ 0x02 ∷ 0x40 ∷ 0x00 ∷ 0x6E ∷ 0x00 ∷ 0x01 ∷ 0x00 ∷ 0x00 ∷ 0x00 ∷ 0x00 ∷ 0x01 ∷ 0x00 ∷ 0x26
+    ∷ 0x04 ∷ 0x04 ∷ 0x01 ∷ 0x00 ∷ 0x00 ∷ 0x00 ∷ 0xAC ∷ 0x03 ∷ 0x00 ∷ 0x00 ∷ 0x01 ∷ 0x00 ∷ 0x00 ∷ 0x00 ∷ 0x00 ∷ 0x01
+    ∷ 0x00 ∷ 0xE7 ∷ 0x04 ∷ 0x00 ∷ 0x09 ∷ 0x04 ∷ 0x00 ∷ 0x02 ∷ 0x00 ∷ 0xFF ∷ 0xFF ∷ []
+unfolding tokens_bytes
+TokenBytes-returned = refl

@@ -5,7 +5,7 @@ use Rattle.std.proofs.lemmas.List.{append-nil}
 use Rattle.std.proofs.lemmas.Option.{none-some}
 use Rattle.tds_tokens.specs.declared.columns.ColumnInfo.{ColumnInfo}
 use Rattle.tds_tokens.specs.declared.token.Token.{Token}
-use Rattle.tds_tokens.specs.declared.token.Token.TheVariants.{LoginAck, Error, Info, EnvText, EnvBytes, Columns, Row, ReturnStatus, Finished}
+use Rattle.tds_tokens.specs.declared.token.Token.TheVariants.{LoginAck, Error, Info, EnvText, EnvBytes, Columns, Row, ReturnStatus, ReturnValue, Finished}
 use Rattle.tds_tokens.specs.Spelling.{columns_after, token_bytes, tokens_bytes, TokenBytes}
 use Rattle.tds_tokens.specs.Fit.{FitTokens}
 use Rattle.tds_tokens.specs.Ranges.{IsToken, AreTokens}
@@ -24,6 +24,7 @@ token_bytes-some columns (EnvBytes kind fresh former) = omega arith
 token_bytes-some columns (Columns described) = omega arith
 token_bytes-some columns (Row values) = omega arith
 token_bytes-some columns (ReturnStatus status) = omega arith
+token_bytes-some columns (ReturnValue ordinal name kind value) = omega arith
 token_bytes-some columns (Finished kind status command rows) = omega arith
 
 -- no tokens, where there are no bytes
@@ -113,6 +114,7 @@ columns_of_place-more tokens (EnvText kind fresh former) place within = same_pla
 columns_of_place-more tokens (EnvBytes kind fresh former) place within = same_place tokens (EnvBytes kind fresh former) place within
 columns_of_place-more tokens (Row values) place within = same_place tokens (Row values) place within
 columns_of_place-more tokens (ReturnStatus status) place within = same_place tokens (ReturnStatus status) place within
+columns_of_place-more tokens (ReturnValue ordinal name kind value) place within = same_place tokens (ReturnValue ordinal name kind value) place within
 columns_of_place-more tokens (Finished kind status command rows) place within = same_place tokens (Finished kind status command rows) place within
 
 IsPlaceIn-wider : (tokens : List Token) (token : Token) (place : Option ℕ) → IsPlaceIn tokens place → IsPlaceIn (tokens ++ token ∷ []) place
@@ -128,6 +130,7 @@ IsPlaceIn-more tokens (EnvText kind fresh former) place within = IsPlaceIn-wider
 IsPlaceIn-more tokens (EnvBytes kind fresh former) place within = IsPlaceIn-wider tokens (EnvBytes kind fresh former) place within
 IsPlaceIn-more tokens (Row values) place within = IsPlaceIn-wider tokens (Row values) place within
 IsPlaceIn-more tokens (ReturnStatus status) place within = IsPlaceIn-wider tokens (ReturnStatus status) place within
+IsPlaceIn-more tokens (ReturnValue ordinal name kind value) place within = IsPlaceIn-wider tokens (ReturnValue ordinal name kind value) place within
 IsPlaceIn-more tokens (Finished kind status command rows) place within = IsPlaceIn-wider tokens (Finished kind status command rows) place within
 
 -- ---- the loop that reads

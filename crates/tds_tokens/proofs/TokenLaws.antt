@@ -8,7 +8,7 @@ use Rattle.tds_tokens.specs.declared.reading.tag.Tag.{Tag}
 use Rattle.tds_tokens.specs.declared.reading.tag.Tag.TheVariants as kinds
 use Rattle.tds_tokens.specs.declared.token.DoneKind.TheVariants.{Done, Proc, InProc}
 use Rattle.tds_tokens.specs.declared.token.Token.{Token}
-use Rattle.tds_tokens.specs.declared.token.Token.TheVariants.{LoginAck, Error, Info, EnvText, EnvBytes, Columns, Row, ReturnStatus, Finished}
+use Rattle.tds_tokens.specs.declared.token.Token.TheVariants.{LoginAck, Error, Info, EnvText, EnvBytes, Columns, Row, ReturnStatus, ReturnValue, Finished}
 use Rattle.tds_tokens.specs.Spelling.{token_bytes}
 use Rattle.tds_tokens.specs.Fit.{FitsKind}
 use Rattle.tds_tokens.specs.Ranges.{AreUnits, IsToken}
@@ -17,7 +17,7 @@ use Rattle.tds_tokens.proofs.Readers.{IsBytes, IsBytes-rest, bind_some, made_tak
 use Rattle.tds_tokens.proofs.Numbers.{Reads-byte, Reads-signed32}
 use Rattle.tds_tokens.proofs.ColumnLaws.{IsColumn, Reads-columns}
 use Rattle.tds_tokens.proofs.ValueLaws.{Reads-row}
-use Rattle.tds_tokens.proofs.Bodies.{IsTokenOf, login_ack_tagged, login_ack_framed, Reads-notice, env_tagged, env_text_framed, env_bytes_framed, finished_tagged, finished_again}
+use Rattle.tds_tokens.proofs.Bodies.{IsTokenOf, login_ack_tagged, login_ack_framed, Reads-notice, env_tagged, env_text_framed, env_bytes_framed, return_value_tagged, return_value_again, finished_tagged, finished_again}
 
 -- ---- tags
 
@@ -51,6 +51,7 @@ tag_again kinds.Env rest = refl
 tag_again kinds.Columns rest = refl
 tag_again kinds.Row rest = refl
 tag_again kinds.ReturnStatus rest = refl
+tag_again kinds.ReturnValue rest = refl
 tag_again (kinds.Finished Done) rest = refl
 tag_again (kinds.Finished Proc) rest = refl
 tag_again (kinds.Finished InProc) rest = refl
@@ -84,6 +85,7 @@ tagged_takes columns kinds.Row bytes x fits e =
 tagged_takes columns kinds.ReturnStatus bytes x fits e =
     let t = made_takes ReturnStatus Reads-signed32 bytes x fits e in
     subst (λ (token : Token). IsTokenOf columns 0x79 bytes (token, x.1)) t.1 (ap (λ l. 0x79 ∷ l) t.2, (tt, t.3))
+tagged_takes columns kinds.ReturnValue bytes x fits e = return_value_tagged columns bytes x fits e
 tagged_takes columns (kinds.Finished kind) bytes x fits e = finished_tagged columns kind bytes x fits e
 
 pub token_takes : (columns : List ColumnInfo) (bytes : List ℕ) (x : Token × List ℕ) → IsBytes bytes → token_at columns bytes ≡ Some x → (bytes ≡ token_bytes columns x.0 ++ x.1) × IsToken columns x.0
@@ -110,6 +112,8 @@ token_again columns (Columns described) rest is =
     token_step columns kinds.Columns _ ∙ made_again Columns Reads-columns described rest (is.0.0, columns_to described (is.0.1, is.1))
 token_again columns (Row values) rest is = token_step columns kinds.Row _ ∙ made_again Row (Reads-row columns) values rest is
 token_again columns (ReturnStatus status) rest is = token_step columns kinds.ReturnStatus _ ∙ made_again ReturnStatus Reads-signed32 status rest is.1
+token_again columns (ReturnValue ordinal name kind value) rest is =
+    token_step columns kinds.ReturnValue _ ∙ return_value_again columns ordinal name kind value rest is
 token_again columns (Finished kind status command rows) rest is = token_step columns (kinds.Finished kind) _ ∙ finished_again kind status command rows rest is.1
 
 -- no token's bytes begin another's

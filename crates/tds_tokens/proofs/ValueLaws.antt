@@ -11,13 +11,14 @@ use Rattle.value_types.specs.declared.value.Value.{Value}
 use Rattle.value_types.specs.declared.value.Value.TheVariants.{Null, Whole, Bit, Text}
 use Rattle.value_types.specs.Units.{le_bytes_of}
 use Rattle.tds_tokens.specs.declared.columns.ColumnInfo.{ColumnInfo}
-use Rattle.tds_tokens.specs.Spelling.{value_bytes, row_bytes}
-use Rattle.tds_tokens.specs.Fit.{FitsType, FitsColumns}
+use Rattle.tds_tokens.specs.Spelling.{type_info, value_bytes, row_bytes}
+use Rattle.tds_tokens.specs.Fit.{FitsKind, FitsType, FitsColumns}
 use Rattle.tds_tokens.specs.Ranges.{AreUnits, HasUnits}
-use Rattle.tds_tokens.specs.Reading.{◌>>=◌, strip, bit_at, text_at, filled_at, value_at, values_at}
+use Rattle.tds_tokens.specs.Reading.{◌>>=◌, strip, bit_at, text_at, type_at, filled_at, value_at, typed_at, values_at}
 use Rattle.tds_tokens.proofs.Readers.{IsBytes, IsBytes-rest, bind_some, option_or_takes, strip_takes, Reads, Reads-made, Reads-only, Reads-is, made_takes, made_again, Reads-behind, Reads-counted}
 use Rattle.tds_tokens.proofs.Numbers.{Reads-byte, Reads-signed16, Reads-signed32, Reads-signed64, Reads-half}
 use Rattle.tds_tokens.proofs.Texts.{ReadsCount-units}
+use Rattle.tds_tokens.proofs.ColumnLaws.{Reads-type}
 
 -- ---- bits and texts
 
@@ -141,6 +142,35 @@ value_again (NText size) Null rest is = refl
 value_again (NText size) (Whole z) rest is = absurd is.0
 value_again (NText size) (Bit bit) rest is = absurd is.0
 value_again (NText size) (Text units) rest is = text_again size units rest is
+
+-- ---- a type, and a value of it
+
+abbrev pub IsTyped : SqlType × Value → Type 0
+IsTyped p = FitsKind p.0 × IsValueOf p.0 p.1
+
+abbrev pub typed_bytes : SqlType × Value → List ℕ
+typed_bytes p = type_info p.0 ++ value_bytes p.0 p.1
+
+typed_takes : (bytes : List ℕ) (x : (SqlType × Value) × List ℕ) → IsBytes bytes → typed_at bytes ≡ Some x → (bytes ≡ typed_bytes x.0 ++ x.1) × IsTyped x.0
+unfolding typed_at
+typed_takes bytes x fits e =
+    let a = bind_some (type_at bytes) (λ kind. value_at kind.0 kind.1 >>= λ value. Some ((kind.0, value.0), value.1)) x e in
+    let b = bind_some (value_at a.0.0 a.0.1) (λ value. Some ((a.0.0, value.0), value.1)) x a.2 in
+    let t1 = Reads-type.takes bytes a.0 fits a.1 in
+    let t2 = value_takes a.0.0 a.0.1 b.0 (IsBytes-rest (type_info a.0.0) a.0.1 (subst IsBytes t1.0 fits)) b.1 in
+    let parts : bytes ≡ typed_bytes (a.0.0, b.0.0) ++ b.0.1 =
+    t1.0 ∙ ap (λ l. type_info a.0.0 ++ l) t2.0 ∙ sym (append_assoc (type_info a.0.0) (value_bytes a.0.0 b.0.0) b.0.1) in
+    let whole : (SqlType × Value) × List ℕ = ((a.0.0, b.0.0), b.0.1) in
+    subst (λ (y : (SqlType × Value) × List ℕ). (bytes ≡ typed_bytes y.0 ++ y.1) × IsTyped y.0) (same_Some whole x b.2) (parts, (t1.1, t2.1))
+
+typed_again : (p : SqlType × Value) (rest : List ℕ) → IsTyped p → typed_at (typed_bytes p ++ rest) ≡ Some (p, rest)
+unfolding typed_at
+typed_again p rest is =
+    ap typed_at (append_assoc (type_info p.0) (value_bytes p.0 p.1) rest)
+    ∙ rw (Reads-type.again p.0 (value_bytes p.0 p.1 ++ rest) is.0, value_again p.0 p.1 rest is.1) refl
+
+pub Reads-typed : Reads typed_bytes IsTyped typed_at
+Reads-typed = record { takes = typed_takes; again = typed_again }
 
 -- ---- rows
 

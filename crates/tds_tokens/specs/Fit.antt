@@ -10,7 +10,7 @@ use Rattle.value_types.specs.declared.value.Value.TheVariants.{Null, Whole, Bit,
 use Rattle.tds_tokens.specs.declared.notice.Notice.{Notice}
 use Rattle.tds_tokens.specs.declared.columns.ColumnInfo.{ColumnInfo}
 use Rattle.tds_tokens.specs.declared.token.Token.{Token}
-use Rattle.tds_tokens.specs.declared.token.Token.TheVariants.{LoginAck, Error, Info, EnvText, EnvBytes, Columns, Row, ReturnStatus, Finished}
+use Rattle.tds_tokens.specs.declared.token.Token.TheVariants.{LoginAck, Error, Info, EnvText, EnvBytes, Columns, Row, ReturnStatus, ReturnValue, Finished}
 use Rattle.tds_tokens.specs.Numbers.{env_database, env_packet_size, env_collation, env_rollback}
 use Rattle.tds_tokens.specs.Spelling.{notice_bytes, columns_after}
 
@@ -51,6 +51,7 @@ FitsToken columns (Info notice) = FitsNotice notice
 FitsToken columns (EnvText kind fresh former) = ((kind ≡ env_database) ⊎ (kind ≡ env_packet_size)) × (length fresh < 2 ^ 8) × (length former < 2 ^ 8)
 FitsToken columns (EnvBytes kind fresh former) = (env_collation ≤ kind) × (kind ≤ env_rollback) × (length fresh < 2 ^ 8) × (length former < 2 ^ 8)
 FitsToken columns (ReturnStatus status) = Unit {0}
+FitsToken columns (ReturnValue ordinal name kind value) = (length name < 2 ^ 8) × FitsKind kind × FitsType kind value
 FitsToken columns (Columns described) = (length described < 2 ^ 16) × All (λ column. FitsKind column.kind × (length column.name < 2 ^ 8)) described
 FitsToken columns (Row values) = FitsColumns columns values
 FitsToken columns (Finished kind status command rows) = Unit {0}

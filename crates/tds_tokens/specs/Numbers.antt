@@ -10,6 +10,10 @@ use Rattle.tds_tokens.specs.declared.token.DoneKind.TheVariants.{Done, Proc, InP
 abbrev pub returnstatus_tag : ℕ
 returnstatus_tag = 0x79
 
+-- RETURNVALUE (2.2.7.19)
+abbrev pub returnvalue_tag : ℕ
+returnvalue_tag = 0xAC
+
 -- COLMETADATA (2.2.7.4)
 abbrev pub colmetadata_tag : ℕ
 colmetadata_tag = 0x81
@@ -45,6 +49,12 @@ done_tag InProc = 0xFF
 -- the most units of a message that are sent (own)
 abbrev pub text_limit : ℕ
 text_limit = 2000
+
+-- ---- Status of a RETURNVALUE (2.2.7.19)
+
+-- the value is that of an OUTPUT parameter
+abbrev pub output_parameter : ℕ
+output_parameter = 0x01
 
 -- ---- Status of a DONE (2.2.7.6): a sum of those bits that hold
 

@@ -8,7 +8,7 @@ use Rattle.value_types.specs.declared.value.Value.TheVariants.{Null, Whole, Bit,
 use Rattle.tds_tokens.specs.declared.notice.Notice.{Notice}
 use Rattle.tds_tokens.specs.declared.columns.ColumnInfo.{ColumnInfo}
 use Rattle.tds_tokens.specs.declared.token.Token.{Token}
-use Rattle.tds_tokens.specs.declared.token.Token.TheVariants.{LoginAck, Error, Info, EnvText, EnvBytes, Columns, Row, ReturnStatus, Finished}
+use Rattle.tds_tokens.specs.declared.token.Token.TheVariants.{LoginAck, Error, Info, EnvText, EnvBytes, Columns, Row, ReturnStatus, ReturnValue, Finished}
 use Rattle.tds_tokens.specs.Spelling.{columns_after}
 use Rattle.tds_tokens.specs.Fit.{FitsToken}
 
@@ -46,6 +46,7 @@ IsInRange (EnvBytes kind fresh former) = AreOctets fresh × AreOctets former
 IsInRange (Columns described) = All (λ column. AreUnits column.name) described
 IsInRange (Row values) = All HasUnits values
 IsInRange (ReturnStatus status) = FitsSigned w32 status
+IsInRange (ReturnValue ordinal name kind value) = (ordinal < 2 ^ 16) × AreUnits name × HasUnits value
 IsInRange (Finished kind status command rows) = (status < 2 ^ 16) × (command < 2 ^ 16) × (rows < 2 ^ 64)
 
 -- there is such a token where the latest columns before it are these

@@ -17,11 +17,11 @@ use Rattle.tds_tokens.specs.declared.columns.ColumnInfo.{ColumnInfo}
 use Rattle.tds_tokens.specs.declared.token.DoneKind.{DoneKind}
 use Rattle.tds_tokens.specs.declared.token.DoneKind.TheVariants.{Done, Proc, InProc}
 use Rattle.tds_tokens.specs.declared.token.Token.{Token}
-use Rattle.tds_tokens.specs.declared.token.Token.TheVariants.{LoginAck, Error, Info, EnvText, EnvBytes, Columns, Row, ReturnStatus, Finished}
+use Rattle.tds_tokens.specs.declared.token.Token.TheVariants.{LoginAck, Error, Info, EnvText, EnvBytes, Columns, Row, ReturnStatus, ReturnValue, Finished}
 use Rattle.tds_tokens.specs.declared.reading.tag.Tag.{Tag}
 use Rattle.tds_tokens.specs.declared.reading.tag.Tag.TheVariants as kinds
-use Rattle.tds_tokens.specs.Spelling.{b_varchar, server_name, collation, nvarchartype, type_info, value_bytes, column_start, sql_tsql, columns_after}
-use Rattle.tds_tokens.specs.Numbers.{returnstatus_tag, colmetadata_tag, error_tag, info_tag, loginack_tag, row_tag, envchange_tag, done_tag, env_database, env_packet_size, env_collation, env_rollback}
+use Rattle.tds_tokens.specs.Spelling.{b_varchar, server_name, collation, nvarchartype, type_info, value_bytes, column_start, return_value_start, sql_tsql, columns_after}
+use Rattle.tds_tokens.specs.Numbers.{returnstatus_tag, returnvalue_tag, colmetadata_tag, error_tag, info_tag, loginack_tag, row_tag, envchange_tag, done_tag, env_database, env_packet_size, env_collation, env_rollback}
 
 -- a function of the code failed as reading does, unless memory ran out
 abbrev pub Fails : {Y : Type 0} → ReadFault → Option Y → Type 0
@@ -172,6 +172,10 @@ abbrev pub values_at : List ColumnInfo → List ℕ → Option (List Value × Li
 values_at [] bytes = Some ([], bytes)
 values_at (column ∷ columns) bytes = value_at column.kind bytes >>= λ first. values_at columns first.1 >>= λ others. Some (first.0 ∷ others.0, others.1)
 
+-- a type, and a value of it
+unfoldable pub typed_at : List ℕ → Option ((SqlType × Value) × List ℕ)
+typed_at bytes = type_at bytes >>= λ kind. value_at kind.0 kind.1 >>= λ value. Some ((kind.0, value.0), value.1)
+
 -- ---- tokens
 
 -- what stands behind a length of two bytes, all of it
@@ -216,10 +220,16 @@ env_at bytes = byte_at bytes >>= λ kind. env_of kind.0 kind.1
 unfoldable pub finished_at : DoneKind → List ℕ → Option (Token × List ℕ)
 finished_at kind bytes = made (λ p. Finished kind p.0 p.1.0 p.1.1) (both (number_at w16) (both (number_at w16) (number_at w64))) bytes
 
+-- RETURNVALUE: the parameter's place and name, and behind its start the type and the value
+unfoldable pub return_value_at : List ℕ → Option (Token × List ℕ)
+return_value_at bytes =
+    made (λ p. ReturnValue p.0 p.1.0 p.1.1.0 p.1.1.1) (both (number_at w16) (both b_varchar_at (behind return_value_start typed_at))) bytes
+
 -- the kinds of tokens
 abbrev pub tags : List Tag
 tags =
     kinds.ReturnStatus
+    ∷ kinds.ReturnValue
     ∷ kinds.Columns
     ∷ kinds.Error
     ∷ kinds.Info
@@ -234,6 +244,7 @@ tags =
 -- the byte with which a token of the kind begins
 abbrev pub tag_byte : Tag → ℕ
 tag_byte kinds.ReturnStatus = returnstatus_tag
+tag_byte kinds.ReturnValue = returnvalue_tag
 tag_byte kinds.Columns = colmetadata_tag
 tag_byte kinds.Error = error_tag
 tag_byte kinds.Info = info_tag
@@ -260,6 +271,7 @@ tagged_at columns kinds.Env bytes = framed env_at bytes
 tagged_at columns kinds.Columns bytes = made Columns columns_at bytes
 tagged_at columns kinds.Row bytes = made Row (values_at columns) bytes
 tagged_at columns kinds.ReturnStatus bytes = made ReturnStatus (signed_at w32) bytes
+tagged_at columns kinds.ReturnValue bytes = return_value_at bytes
 tagged_at columns (kinds.Finished kind) bytes = finished_at kind bytes
 
 -- a token, where the latest columns before it are these

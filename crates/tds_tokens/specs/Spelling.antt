@@ -11,8 +11,8 @@ use Rattle.value_types.specs.Units.{le_bytes_of}
 use Rattle.tds_tokens.specs.declared.notice.Notice.{Notice}
 use Rattle.tds_tokens.specs.declared.columns.ColumnInfo.{ColumnInfo}
 use Rattle.tds_tokens.specs.declared.token.Token.{Token}
-use Rattle.tds_tokens.specs.declared.token.Token.TheVariants.{LoginAck, Error, Info, EnvText, EnvBytes, Columns, Row, ReturnStatus, Finished}
-use Rattle.tds_tokens.specs.Numbers.{returnstatus_tag, colmetadata_tag, error_tag, info_tag, loginack_tag, row_tag, envchange_tag, done_tag}
+use Rattle.tds_tokens.specs.declared.token.Token.TheVariants.{LoginAck, Error, Info, EnvText, EnvBytes, Columns, Row, ReturnStatus, ReturnValue, Finished}
+use Rattle.tds_tokens.specs.Numbers.{returnstatus_tag, returnvalue_tag, output_parameter, colmetadata_tag, error_tag, info_tag, loginack_tag, row_tag, envchange_tag, done_tag}
 
 -- B_VARCHAR (2.2.5.2.2): a count of units in one byte, and the units
 abbrev pub b_varchar : List ℕ → List ℕ
@@ -85,6 +85,15 @@ column_start = 0 ∷ 0 ∷ 0 ∷ 0 ∷ 1 ∷ 0 ∷ []
 abbrev pub column_bytes : ColumnInfo → List ℕ
 column_bytes column = column_start ++ type_info column.kind ++ b_varchar column.name
 
+-- what stands before the type of a returned value: that it is an OUTPUT parameter's, and what stands before a column's
+abbrev pub return_value_start : List ℕ
+return_value_start = output_parameter ∷ column_start
+
+-- RETURNVALUE (2.2.7.19) behind its tag: the parameter's place and name, its start, the type and the value
+abbrev pub return_value_bytes : ℕ → List ℕ → SqlType → Value → List ℕ
+return_value_bytes ordinal name kind value =
+    to_le_bytes w16 ordinal ++ b_varchar name ++ return_value_start ++ type_info kind ++ value_bytes kind value
+
 -- ERROR (2.2.7.10) behind its length: number, state, class, text, server, procedure and line
 abbrev pub notice_bytes : Notice → List ℕ
 notice_bytes notice = to_le_bytes w32 (cast_unsigned w32 notice.number) ++ (notice.state ∷ notice.class ∷ [])
@@ -113,6 +122,7 @@ token_bytes columns (EnvBytes kind fresh former) = envchange_tag ∷ with_length
 token_bytes columns (Columns described) = colmetadata_tag ∷ to_le_bytes w16 (length described) ++ flat_map column_bytes described
 token_bytes columns (Row values) = row_tag ∷ row_bytes columns values
 token_bytes columns (ReturnStatus status) = returnstatus_tag ∷ to_le_bytes w32 (cast_unsigned w32 status)
+token_bytes columns (ReturnValue ordinal name kind value) = returnvalue_tag ∷ return_value_bytes ordinal name kind value
 token_bytes columns (Finished kind status command rows) =
     done_tag kind ∷ to_le_bytes w16 status ++ to_le_bytes w16 command ++ to_le_bytes w64 rows
 

@@ -16,7 +16,7 @@ mod values;
 use crate::columns::ColumnInfo;
 use crate::fault::{ReadFault, TokenFault};
 use crate::token::Token;
-use bodies::{env_framed, finished_at, login_ack_framed, notice_framed};
+use bodies::{env_framed, finished_at, login_ack_framed, notice_framed, return_value_at};
 use columns::columns_at;
 use fields::i32_at;
 use std::alloc::Global;
@@ -127,6 +127,7 @@ fn tagged_at<'a>(
             let (status, rest) = i32_at(bytes)?;
             Ok((Token::ReturnStatus(status), rest))
         }
+        Tag::ReturnValue => return_value_at(alloc, bytes),
         Tag::Finished(kind) => finished_at(kind, bytes),
     }
 }

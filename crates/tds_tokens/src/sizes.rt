@@ -23,6 +23,12 @@ pub(crate) fn token_size(columns: &[ColumnInfo], token: &Token) -> u64
         Token::Columns(described) => columns_size(described.as_slice()).saturating_add(3),
         Token::Row(row) => row_size(columns, row.as_slice()).saturating_add(1),
         Token::ReturnStatus(_) => 5,
+        Token::ReturnValue {
+            name,
+            kind,
+            value,
+            ..
+        } => return_value_size(name, *kind, value).saturating_add(1),
         Token::Finished { .. } => 13,
     }
 }
@@ -59,6 +65,16 @@ pub(crate) fn notice_size(notice: &Notice) -> u64
     text_size(&notice.text)
         .saturating_add(text_size(&notice.procedure))
         .saturating_add(24)
+}
+
+/// How many bytes a RETURNVALUE token has behind its tag.
+fn return_value_size(name: &Units, kind: SqlType, value: &Value) -> u64
+    ensures { result ≡ min (10 + 2 * length name.now + length (type_info kind) + length (value_bytes kind value.now)) (2 ^ 64 - 1) }
+{
+    text_size(name)
+        .saturating_add(type_size(kind))
+        .saturating_add(value_size(kind, value))
+        .saturating_add(10)
 }
 
 /// How many bytes columns have.

@@ -6,7 +6,7 @@ ghost use Rattle.tds_tokens.specs.Spelling.{columns_after};
 use crate::bytes::Bytes;
 use crate::columns::{ColumnInfo, ColumnList};
 use crate::notice::Notice;
-use value_types::{Row, Units};
+use value_types::{Row, SqlType, Units, Value};
 
 /// Which of the DONE tokens it is ([MS-TDS] 2.2.7.6 to 2.2.7.8).
 #[derive(Clone, Copy)]
@@ -59,6 +59,17 @@ pub enum Token {
     Row(Row),
     /// RETURNSTATUS (2.2.7.18): what a procedure returned.
     ReturnStatus(i32),
+    /// RETURNVALUE (2.2.7.19): the last value of an OUTPUT parameter.
+    ReturnValue {
+        /// The parameter's place in the call, from 0.
+        ordinal: u16,
+        /// Its name, or nothing.
+        name: Units,
+        /// Its type.
+        kind: SqlType,
+        /// Its value.
+        value: Value,
+    },
     /// DONE, DONEPROC or DONEINPROC (2.2.7.6 to 2.2.7.8).
     Finished {
         /// Which of the three.

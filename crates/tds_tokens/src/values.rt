@@ -48,7 +48,7 @@ pub(crate) fn put_values(out: &mut Vec<u8>, columns: &[ColumnInfo], values: &[Va
 }
 
 /// Appends a value as its column has it.
-fn put_value(out: &mut Vec<u8>, kind: SqlType, value: &Value)
+pub(crate) fn put_value(out: &mut Vec<u8>, kind: SqlType, value: &Value)
     requires fits { FitsType kind value.now }
     requires room { vec_len out.old + length (value_bytes kind value.now) ≤ vec_capacity out.old }
     ensures items { out.new.items ≡ out.old.items ++ value_bytes kind value.now }

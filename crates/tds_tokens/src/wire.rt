@@ -9,6 +9,9 @@ use value_types::{Memory, Units, units_of_le};
 /// The tag of RETURNSTATUS (2.2.7.18).
 pub(crate) const RETURNSTATUS: u8 = 0x79;
 
+/// The tag of RETURNVALUE (2.2.7.19).
+pub(crate) const RETURNVALUE: u8 = 0xAC;
+
 /// The tag of COLMETADATA (2.2.7.4).
 pub(crate) const COLMETADATA: u8 = 0x81;
 
@@ -59,6 +62,10 @@ pub(crate) static GEN_NULL: [u8; 1] = [0];
 
 /// What stands before a column's type: user type 0 and the flag fNullable (2.2.7.4).
 pub(crate) const COLUMN_START: [u8; 6] = [0, 0, 0, 0, 1, 0];
+
+/// What stands before the type of a returned value: that it is an OUTPUT parameter's, user type 0
+/// and the flag fNullable (2.2.7.19).
+pub(crate) const RETURN_VALUE_START: [u8; 7] = [1, 0, 0, 0, 0, 1, 0];
 
 /// The name that the server gives itself, `tsqld`, behind its count.
 pub(crate) const SERVER: [u8; 11] = [5, 0x74, 0, 0x73, 0, 0x71, 0, 0x6C, 0, 0x64, 0];

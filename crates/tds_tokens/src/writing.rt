@@ -4,8 +4,8 @@ ghost use Rattle.std.specs.Prelude.{◌≡◌, ◌+◌, ◌*◌, ◌-◌, ◌^�
 ghost use Rattle.std.specs.List.{flat_map};
 ghost use Rattle.std.specs.Int.{w16, w32, w64, to_le_bytes, cast_unsigned};
 ghost use Rattle.tds_tokens.specs.Numbers.{done_tag};
-ghost use Rattle.tds_tokens.specs.Spelling.{TokenBytes, token_bytes, login_ack_bytes, notice_bytes, column_bytes, row_bytes, b_varchar, b_varbyte, with_length};
-ghost use Rattle.tds_tokens.specs.Fit.{FitTokens, FitsToken, FitsNotice, FitsColumns, FitsKind};
+ghost use Rattle.tds_tokens.specs.Spelling.{TokenBytes, token_bytes, login_ack_bytes, notice_bytes, column_bytes, return_value_bytes, row_bytes, b_varchar, b_varbyte, with_length};
+ghost use Rattle.tds_tokens.specs.Fit.{FitTokens, FitsToken, FitsNotice, FitsColumns, FitsKind, FitsType};
 
 use crate::bytes::Bytes;
 use crate::columns::ColumnInfo;
@@ -16,12 +16,12 @@ use crate::room::{
 };
 use crate::sizes::{env_bytes_size, env_text_size, login_ack_size, notice_size, token_size};
 use crate::token::{DoneKind, Token};
-use crate::values::{put_type, put_values};
+use crate::values::{put_type, put_value, put_values};
 use crate::wire::{
     COLMETADATA, COLUMN_START, DONE, DONEINPROC, DONEPROC, ENVCHANGE, ERROR, INFO, LOGINACK,
-    RETURNSTATUS, ROW, SERVER, SQL_TSQL,
+    RETURN_VALUE_START, RETURNSTATUS, RETURNVALUE, ROW, SERVER, SQL_TSQL,
 };
-use value_types::{Memory, Units, Value};
+use value_types::{Memory, SqlType, Units, Value};
 
 /// How many bytes the tokens have. A number above 2^64 - 1 is given as that.
 pub fn bytes_of_tokens(tokens: &[Token]) -> u64
@@ -83,6 +83,12 @@ fn put_token(out: &mut Vec<u8>, columns: &[ColumnInfo], token: &Token)
         Token::Columns(described) => put_description(out, described.as_slice()),
         Token::Row(row) => put_row(out, columns, row.as_slice()),
         Token::ReturnStatus(status) => put_return_status(out, *status),
+        Token::ReturnValue {
+            ordinal,
+            name,
+            kind,
+            value,
+        } => put_return_value(out, *ordinal, name, *kind, value),
         Token::Finished {
             kind,
             status,
@@ -229,6 +235,24 @@ fn put_return_status(out: &mut Vec<u8>, status: i32)
 {
     append(out, &[RETURNSTATUS]);
     put_i32(out, status);
+}
+
+/// Appends RETURNVALUE.
+fn put_return_value(out: &mut Vec<u8>, ordinal: u16, name: &Units, kind: SqlType, value: &Value)
+    requires name { length name.now < 2 ^ 8 }
+    requires kind { FitsKind kind }
+    requires value { FitsType kind value.now }
+    requires room { vec_len out.old + (1 + length (return_value_bytes ordinal name.now kind value.now)) ≤ vec_capacity out.old }
+    ensures items { out.new.items ≡ out.old.items ++ RETURNVALUE ∷ return_value_bytes ordinal name.now kind value.now }
+    ensures len { vec_len out.new ≡ vec_len out.old + (1 + length (return_value_bytes ordinal name.now kind value.now)) }
+    ensures capacity { vec_capacity out.new ≡ vec_capacity out.old }
+{
+    append(out, &[RETURNVALUE]);
+    put_u16(out, ordinal);
+    put_b_varchar(out, name.as_slice());
+    append(out, &RETURN_VALUE_START);
+    put_type(out, kind);
+    put_value(out, kind, value);
 }
 
 /// Appends DONE, DONEPROC or DONEINPROC.

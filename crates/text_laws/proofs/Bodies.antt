@@ -6,20 +6,21 @@ use Rattle.std.proofs.Common.{ap, sym, ◌∙◌, subst, append_assoc}
 use Rattle.std.proofs.lemmas.List.{append-nil}
 use Rattle.tsql_tree.specs.declared.definition.Definition.{Definition}
 use Rattle.tsql_tree.specs.declared.definition.Definition.TheVariants.{Table, Procedure, Trigger}
+use Rattle.tsql_tree.specs.declared.statement.Batch.TheVariants as batch
 use Rattle.tsql_tree.specs.declared.statement.Form.{Form-F}
 use Rattle.tsql_tree.specs.declared.statement.Statement.{Statement}
 use Rattle.tsql_grammar.specs.declared.rule.Rule.TheVariants as r
 use Rattle.tsql_grammar.specs.Noted.{Noted, start, see}
 use Rattle.tsql_grammar.specs.PlainText.{plain_language}
-use Rattle.tsql_grammar.specs.Productions.{outside}
+use Rattle.tsql_grammar.specs.Productions.{Tree, outside}
 use Rattle.tsql_grammar.specs.Terminals.{Terminal, terminals}
-use Rattle.tsql_grammar.specs.Parsed.{lexemes_of}
+use Rattle.tsql_grammar.specs.Parsed.{end_of, lexemes_of}
 use Rattle.table_rows.specs.Definitions.{longest_text}
 use Rattle.grammar_laws.specs.Grammar.Symbol.{rule}
 use Rattle.grammar_laws.specs.BySymbols.{OfSymbols, Within}
 use Rattle.grammar_laws.proofs.Cuts.{cuts}
 use Rattle.binder.specs.Names.{Layer, form_of}
-use Rattle.text_laws.specs.Laws.{BodyReadsBack, DefinedText, Everywhere, KeptDefines, KeptDefinesAs, KeptReads, ReadsBack, ReadsBackAs, StaysAs}
+use Rattle.text_laws.specs.Laws.{BodyReadsBack, DefinedBatch, DefinedText, Everywhere, KeptDefines, KeptDefinesAs, KeptReads, ReadsBack, ReadsBackAs, StaysAs}
 use Rattle.text_laws.proofs.Calm.{not_so}
 use Rattle.text_laws.proofs.Alike.{P}
 use Rattle.text_laws.proofs.Leaving.{created_stays}
@@ -111,6 +112,32 @@ module _ (text : List ℕ) where
   definition_keeps (suc h) w of s t stands (None, vs, e, (u1, e1, k1, (u, v, m, parts, o, d))) sound = subst BodyKeeps (sym e)
       (after_keeps h (vs.0 ∷ []) u vs.1.0 (see s vs.0) m (stands ∙ e1 ∙ ap (λ (z : List Terminal). vs.0 ∷ z) (parts ∙ ap (λ (z : List Terminal). u ++ z) d.0 ∙ append-nil u)) o (subst (λ (z : Noted). z.fault ≡ None) d.1 sound))
 
+  definition_same : (n m : ℕ) (a b : Definition) (x y : List ℕ) → batch.Definition n a x ≡ batch.Definition m b y → a ≡ b
+  definition_same n m a b x y e = cc
+
+  -- that of a batch, behind its first lexeme
+  first_keeps : (h : ℕ) (front w : List Terminal) (create : Terminal) (after : Tree r.AfterFirstCreate) (n : ℕ) (s t : Noted) (m : ℕ) (of : Definition) (kept : List ℕ) → terminals (lexemes_of text) ≡ front ++ w
+      → Within (P text) h r.AfterFirstCreate w after s t → t.fault ≡ None → after create n ≡ batch.Definition m of kept → BodyKeeps of
+  first_keeps zero front w create after n s t m of kept stands d sound is = absurd d
+  first_keeps (suc h) front w create after n s t m of kept stands (None, vs, e, (u, v, k, parts, o, d)) sound is =
+      subst BodyKeeps (definition_same _ _ _ _ _ _ (sym (ap (λ z. z create n) e) ∙ is))
+      (procedure_keeps h front u vs.0 s k (stands ∙ ap (λ (z : List Terminal). front ++ z) (parts ∙ ap (λ (z : List Terminal). u ++ z) d.0 ∙ append-nil u)) o (subst (λ (z : Noted). z.fault ≡ None) d.1 sound))
+  first_keeps (suc h) front w create after n s t m of kept stands (Some None, vs, e, (u, v, k, parts, o, d)) sound is =
+      subst BodyKeeps (definition_same _ _ _ _ _ _ (sym (ap (λ z. z create n) e) ∙ is))
+      (trigger_keeps h front u vs.0 s k (stands ∙ ap (λ (z : List Terminal). front ++ z) (parts ∙ ap (λ (z : List Terminal). u ++ z) d.0 ∙ append-nil u)) o (subst (λ (z : Noted). z.fault ≡ None) d.1 sound))
+  first_keeps (suc h) front w create after n s t m of kept stands (Some (Some None), vs, e, d) sound is = absurd (let no : batch.Body _ ≡ batch.Definition m of kept = sym (ap (λ z. z create n) e) ∙ is in cc)
+  first_keeps (suc h) front w create after n s t m of kept stands (Some (Some (Some p)), vs, e, d) sound is = absurd p
+
+  batch_keeps : (h : ℕ) (w : List Terminal) (tree : Tree r.Batch) (n : ℕ) (s t : Noted) (m : ℕ) (of : Definition) (kept : List ℕ) → terminals (lexemes_of text) ≡ w → Within (P text) h r.Batch w tree s t → t.fault ≡ None → tree n ≡ batch.Definition m of kept → BodyKeeps of
+  batch_keeps zero w tree n s t m of kept stands d sound is = absurd d
+  batch_keeps (suc h) w tree n s t m of kept stands (None, vs, e, (u, e1, k1, (u2, v2, m2, e2, o2, d))) sound is =
+      let inside : w ≡ vs.0 ∷ u2 = e1 ∙ ap (λ (z : List Terminal). vs.0 ∷ z) (e2 ∙ ap (λ (z : List Terminal). u2 ++ z) d.0 ∙ append-nil u2) in
+      first_keeps h (vs.0 ∷ []) u2 vs.0 vs.1.0 n (see s vs.0) m2 m of kept (stands ∙ inside) o2 (subst (λ (z : Noted). z.fault ≡ None) d.1 sound) (sym (ap (λ z. z n) e) ∙ is)
+  batch_keeps (suc h) w tree n s t m of kept stands (Some None, vs, e, d) sound is = absurd (let no : batch.Body _ ≡ batch.Definition m of kept = sym (ap (λ z. z n) e) ∙ is in cc)
+  batch_keeps (suc h) w tree n s t m of kept stands (Some (Some None), vs, e, d) sound is = absurd (let no : batch.Body _ ≡ batch.Definition m of kept = sym (ap (λ z. z n) e) ∙ is in cc)
+  batch_keeps (suc h) w tree n s t m of kept stands (Some (Some (Some None)), vs, e, d) sound is = absurd (let no : batch.Body _ ≡ batch.Definition m of kept = sym (ap (λ z. z n) e) ∙ is in cc)
+  batch_keeps (suc h) w tree n s t m of kept stands (Some (Some (Some (Some p))), vs, e, d) sound is = absurd p
+
   all_back : length text ≤ longest_text → (body : List Statement) → All body → AllByRecursion (Everywhere ReadsBack) body
   all_back short body all = statements_back true body
       (all_more (Everywhere (KeptReads (length text) true)) (Everywhere (KeptDefines true)) (λ of each. everywhere_more (KeptReads (length text) true) (KeptDefines true) (λ of kept. defines (length text) true (form_of of) short kept) of each) body all)
@@ -125,3 +152,9 @@ defined_text name text definition is =
     let (t, reads, sound) = is.reads.reads in
     let (h, d) = cuts (plain_language text) r.Definition (terminals (lexemes_of text)) definition (start true) t reads in
     body_back text is.short definition (definition_keeps text h (terminals (lexemes_of text)) definition (start true) t refl d sound)
+
+pub defined_batch : DefinedBatch
+defined_batch text m definition kept (tree, stands, is) short =
+    let (t, reads, sound) = stands.reads in
+    let (h, d) = cuts (plain_language text) r.Batch (terminals (lexemes_of text)) tree (start true) t reads in
+    body_back text short definition (batch_keeps text h (terminals (lexemes_of text)) tree (end_of (lexemes_of text)) (start true) t m definition kept refl d sound (sym is))

@@ -9,10 +9,10 @@ use Rattle.tsql_grammar.specs.declared.fault.ParseFault.TheVariants as fault
 use Rattle.tsql_grammar.specs.Parsed.{BatchOf}
 use Rattle.table_rows.specs.Definitions.{defined_name, longest_text}
 use Rattle.text_laws.specs.Placeless.{AreLike}
-use Rattle.text_laws.specs.Laws.{KeepsDefinition, ServedText, TextReadsBack, are_declared}
+use Rattle.text_laws.specs.Laws.{CallReadsBack, KeepsDefinition, ServedCall, ServedText, TextReadsBack, are_declared}
 use Rattle.text_laws.proofs.Alone.{kept_definition}
 use Rattle.text_laws.proofs.Batches.{created_text}
-use Rattle.text_laws.proofs.Bodies.{statements_back}
+use Rattle.text_laws.proofs.Bodies.{defined_batch, statements_back}
 
 -- what is alike has one name
 one_name : (of own : Defined) → AreLike of own → defined_name own ≡ defined_name of
@@ -34,3 +34,9 @@ served_text units read (Ok (Body body), reads, are) short = subst TextReadsBack 
 served_text units read (Ok (Definition n of kept), reads, are) short = subst TextReadsBack (sym are) (keeps units n of kept reads short)
 served_text units read (Err (fault.Refused number line near), reads, (code, is, are)) short = subst TextReadsBack (sym are) tt
 served_text units read (Err fault.Memory, reads, are) short = absurd are
+
+pub served_call : ServedCall
+served_call units read (Ok (Body body), reads, are) short = subst CallReadsBack (sym are) tt
+served_call units read (Ok (Definition n of kept), reads, are) short = subst CallReadsBack (sym are) (defined_batch units n of kept reads short)
+served_call units read (Err (fault.Refused number line near), reads, (code, is, are)) short = subst CallReadsBack (sym are) tt
+served_call units read (Err fault.Memory, reads, are) short = absurd are

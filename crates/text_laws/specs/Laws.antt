@@ -7,6 +7,7 @@ use Rattle.tsql_lexer.specs.declared.lexeme.Spanned.{Spanned}
 use Rattle.tsql_lexer.specs.Reading.{lexing_of}
 use Rattle.tsql_tree.specs.declared.definition.Definition.{Definition}
 use Rattle.tsql_tree.specs.declared.definition.Definition.TheVariants.{Table, Procedure, Trigger}
+use Rattle.tsql_tree.specs.declared.statement.Batch.TheVariants as batch
 use Rattle.tsql_tree.specs.declared.statement.Batch.TheVariants.{Body}
 use Rattle.tsql_tree.specs.declared.statement.Form.{Form-F}
 use Rattle.tsql_tree.specs.declared.statement.Statement.{Statement, Statement-F, fold-Statement}
@@ -127,6 +128,10 @@ BodyReadsBack (Trigger trigger) = AllByRecursion (Everywhere ReadsBack) trigger.
 abbrev pub DefinedText : Type 0
 DefinedText = (name text : List ℕ) (definition : Definition) → Defines name text definition → BodyReadsBack definition
 
+-- and of what a text that is read as a batch defines
+abbrev pub DefinedBatch : Type 0
+DefinedBatch = (text : List ℕ) (line : ℕ) (definition : Definition) (kept : List ℕ) → BatchOf text (Ok (batch.Definition line definition kept)) → length text ≤ longest_text → BodyReadsBack definition
+
 -- what CREATE PROCEDURE or CREATE TRIGGER keeps defines the same, but for places: its lines count from its own first line
 abbrev pub KeepsDefinition : Definition → List ℕ → Type 0
 KeepsDefinition of kept = (own : Definition) × Defines (defined_name of) kept own × AreLike of own
@@ -140,3 +145,12 @@ TextReadsBack (text.Refused line code near) = Unit {0}
 -- a text that is not too long is read as what reads back
 abbrev pub ServedText : Type 0
 ServedText = (units : List ℕ) (read : ReadText) → ReadsAs units read → length units ≤ longest_text → TextReadsBack read
+
+-- So it is of what a text is read as for a call by RPC, which runs what the text defines itself.
+abbrev pub CallReadsBack : ReadText → Type 0
+CallReadsBack (text.Statements statements) = Unit {0}
+CallReadsBack (text.Defines line of kept) = BodyReadsBack of
+CallReadsBack (text.Refused line code near) = Unit {0}
+
+abbrev pub ServedCall : Type 0
+ServedCall = (units : List ℕ) (read : ReadText) → ReadsAs units read → length units ≤ longest_text → CallReadsBack read

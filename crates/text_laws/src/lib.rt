@@ -9,7 +9,7 @@
 //! such a table is never bound. That the text of a batch is not too long is no part of them.
 #![tactic(auto)]
 
-ghost use Rattle.text_laws.specs.Laws.{CreatedStays, CreatedReads, CreatedText, DefinedText, ServedText, SliceLexes};
+ghost use Rattle.text_laws.specs.Laws.{CreatedStays, CreatedReads, CreatedText, DefinedText, ServedCall, ServedText, SliceLexes};
 
 /// A slice of a text, from where one of its lexemes begins to where one ends, has the lexemes between, and no flaw.
 #[tactic(auto, using(crate::proofs::Slices::slice_lexes))]
@@ -43,4 +43,10 @@ pub fn law_defined_text()
 #[tactic(auto, using(crate::proofs::Served::served_text))]
 pub fn law_served_text()
     ensures { ServedText }
+{}
+
+/// So it is of the statements of the procedure or trigger that a text is read as for a call by RPC, if the text is not too long.
+#[tactic(auto, using(crate::proofs::Served::served_call))]
+pub fn law_served_call()
+    ensures { ServedCall }
 {}

@@ -9,7 +9,7 @@ use Rattle.value_types.specs.declared.value.Value.TheVariants.{Null, Whole, Bit,
 use Rattle.tds_packets.specs.declared.message.Message.{Message}
 use Rattle.tds_packets.specs.Stream.{Splits}
 use Rattle.tds_tokens.specs.declared.token.Token.{Token}
-use Rattle.tds_tokens.specs.declared.token.Token.TheVariants.{LoginAck, Error, Info, EnvText, EnvBytes, Columns, Row, ReturnStatus, Finished}
+use Rattle.tds_tokens.specs.declared.token.Token.TheVariants.{LoginAck, Error, Info, EnvText, EnvBytes, Columns, Row, ReturnStatus, ReturnValue, Finished}
 use Rattle.tds_tokens.specs.Ranges.{AreTokens}
 use Rattle.tds_tokens.specs.Spelling.{TokenBytes}
 
@@ -37,6 +37,7 @@ is_error (EnvBytes kind fresh former) = false
 is_error (Columns described) = false
 is_error (Row values) = false
 is_error (ReturnStatus status) = false
+is_error (ReturnValue ordinal name kind value) = false
 is_error (Finished kind status command rows) = false
 
 -- a reply to a transfer that was refused has an ERROR
@@ -71,6 +72,7 @@ row_number (EnvText kind fresh former) = None
 row_number (EnvBytes kind fresh former) = None
 row_number (Columns described) = None
 row_number (ReturnStatus status) = None
+row_number (ReturnValue ordinal name kind value) = None
 row_number (Finished kind status command rows) = None
 
 -- the number of a reply: that of the first row which has one

@@ -14,7 +14,7 @@ use Rattle.outside_io.specs.Bytes.{HasRisen}
 use Rattle.steps_command.specs.Command.{IsCutOff}
 use Rattle.steps_command.specs.Play.{Stage, first_manners}
 use Rattle.session_server.specs.declared.end.End.{End}
-use Rattle.session_server.specs.declared.end.End.TheVariants.{Closed, Cut, BadHeader, TooLong, OutOfPlace, BadPrelogin, LoginRefused, BadBatch, Spent, ReadFault, WriteFault, Memory}
+use Rattle.session_server.specs.declared.end.End.TheVariants.{Closed, Cut, BadHeader, TooLong, OutOfPlace, BadPrelogin, LoginRefused, BadBatch, BadRpc, Spent, ReadFault, WriteFault, Memory}
 use Rattle.session_server.specs.Conversation.{IsUnended}
 use Rattle.shared_port.specs.Asked.{EngineSeat}
 use Rattle.seat_server.specs.declared.tally.Tally.{Tally}
@@ -55,6 +55,7 @@ status_of (Cut at) = 5
 status_of (BadHeader at) = 5
 status_of (TooLong at) = 5
 status_of (OutOfPlace at kind) = 5
+status_of (BadRpc at why) = 5
 status_of (BadPrelogin fault) = 5
 status_of (LoginRefused number) = 5
 status_of (BadBatch fault) = 5

@@ -25,7 +25,7 @@ use Rattle.binder.specs.Statements.{bind, bind_form, made_by, names_outside, pla
 use Rattle.binder.specs.Tables.{all_columns, all_foreigns, all_keys, are_odd_columns, are_odd_keys, are_odd_names, checks_of, constraint_names, create_table, first_columns, foreign_columns, has_column, is_key, is_odd_foreign, is_odd_table, key_columns, kind_named, kinds_agree, parent_of, refers_to, same_found}
 use Rattle.step_model.specs.Database.{Database}
 use Rattle.table_rows.specs.Definitions.{defined_name}
-use Rattle.constraint_check.specs.Reads.{places_of}
+use Rattle.table_rows.specs.Rows.{places_of}
 use Rattle.constraint_check.proofs.Behind.{name_is}
 use Rattle.constraint_check.proofs.Lists.{all_left, all_right, all_two, among_any, among_both, from_among}
 use Rattle.batch_meaning.specs.Selecting.{bound_as}

@@ -24,6 +24,7 @@ use Rattle.constraint_check.specs.declared.check_read.CheckRead.{CheckRead}
 use Rattle.constraint_check.specs.Judged.{judge}
 use Rattle.constraint_check.specs.Laws.{KeysAreOne, Passes}
 use Rattle.constraint_check.specs.Reads.{shape_of}
+use Rattle.constraint_check.proofs.Judging.{judged_passes}
 use Rattle.constraint_check.proofs.Lists.{all_left, all_right}
 use Rattle.history_laws.proofs.Basics.{both}
 use Rattle.dml_exec.specs.declared.refusal.Refusal.{Refusal}
@@ -100,7 +101,7 @@ module _ (manner : Manner) (shapes : List TableTree) where
         (all_left (λ (x : Exchange). AnswersIn db x.op x.reply) h.first h.second (subst Answered h.parts answered)) (rows_held read.range h.first h.came h.held)
         (keys_have db shapes read.range.table fit) (told_one (key_width (shape_of read.range.table shapes)) read.range.start read.range.stop) in
         let same : h.came ≡ map (λ (at : Entry). at.1) came.0 = came.2 ∙ ap (map (λ (at : Entry). at.1)) (all_kept db shapes read.range.table fit came.0 (stand read.range came.0 came.1)) in
-        (came.0, came.1, ap (judge read) (sym same) ∙ not_broken read (judge read h.came) h.second h.more)
+        judged_passes db read came.0 one_key came.1 (ap (judge read) (sym same) ∙ not_broken read (judge read h.came) h.second h.more)
       where
         stand : (range : KeyRange) (entries : List Entry) → In db range.table range.start range.stop entries → AllByRecursion (λ (at : Entry). db range.table at.0 ≡ Some at.1) entries
         stand range entries is = more_of entries (recursion_from_All (λ (at : Entry). IsTrue (is_within range.start range.stop at.0) × (db range.table at.0 ≡ Some at.1)) entries is.rows_of_range)

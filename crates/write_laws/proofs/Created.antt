@@ -70,7 +70,7 @@ module _ (db : Database) (name text : List ℕ) (table : TableTree) where
     created = subst (λ (n : List ℕ). IsDefined after n (Table table)) (sym made.defines.named) (row_of name text, at_name (object_key name) (same_itself (object_key name)), (own_row made.defines))
 
     -- what was stays
-    stays : (of : List ℕ) (definition : Definition) → IsDefined db of definition → IsDefined after of definition
+    pub stays : (of : List ℕ) (definition : Definition) → IsDefined db of definition → IsDefined after of definition
     stays of definition before = by_test (same (object_key name) (object_key of)) refl
       where
         by_test : (b : Bool) → same (object_key name) (object_key of) ≡ b → IsDefined after of definition
@@ -78,7 +78,7 @@ module _ (db : Database) (name text : List ℕ) (table : TableTree) where
         by_test false apart = defined_by db after of definition (at_other (object_key of) apart) before
 
     -- of tables
-    was_table : (of : TableTree) → IsTableOf after of → (of ≡ table) ⊎ IsTableOf db of
+    pub was_table : (of : TableTree) → IsTableOf after of → (of ≡ table) ⊎ IsTableOf db of
     was_table of now = elim (was made.defines of.name (Table of) now) [
       | inl new ↦ inl (let both : Table of ≡ Table table = new in cc)
       | inr before ↦ inr before

@@ -31,11 +31,27 @@ use Rattle.constraint_check.proofs.Spots.{is_eq-then}
 abbrev pub is_table : List ℕ → TableName → Bool
 is_table name table = is_eq (table_cmp (rows_table name) table)
 
+-- tables compare equal by their names and parts
+equal_parts : (table other : TableName) → is_eq (table_cmp table other) ≡ (same_units table.object other.object && is_eq (nat_cmp table.part other.part))
+equal_parts table other = is_eq-then (slice_cmp nat_cmp table.object other.object) (nat_cmp table.part other.part) ∙ ap (λ (b : Bool). b && is_eq (nat_cmp table.part other.part)) (sym (texts_ties table.object other.object))
+
 table_parts : (name : List ℕ) (table : TableName) → is_table name table ≡ (same_units name table.object && is_eq (nat_cmp 0 table.part))
-table_parts name table = is_eq-then (slice_cmp nat_cmp name table.object) (nat_cmp 0 table.part) ∙ ap (λ (b : Bool). b && is_eq (nat_cmp 0 table.part)) (sym (texts_ties name table.object))
+table_parts name table = equal_parts (rows_table name) table
+
+-- parts of another name are other ones
+pub objects_apart : (table other : TableName) → same_units table.object other.object ≡ false → is_eq (table_cmp table other) ≡ false
+objects_apart table other apart = equal_parts table other ∙ ap (λ (b : Bool). b && is_eq (nat_cmp table.part other.part)) apart
+
+one_number : (a b : ℕ) → is_eq (nat_cmp a b) ≡ true → a ≡ b
+one_number a b is = ranked a b Equal (sym ((Equal-is (nat_cmp a b)).0 is))
 
 first_part : (part : ℕ) → is_eq (nat_cmp 0 part) ≡ true → part ≡ 0
-first_part part is = sym (ranked 0 part Equal (sym ((Equal-is (nat_cmp 0 part)).0 is)))
+first_part part is = sym (one_number 0 part is)
+
+-- tables that compare equal are of one part
+pub parts_equal : (table other : TableName) → is_eq (table_cmp table other) ≡ true → table.part ≡ other.part
+parts_equal table other is =
+    one_number table.part other.part (and_parts (same_units table.object other.object) (is_eq (nat_cmp table.part other.part)) (sym (equal_parts table other) ∙ is)).1
 
 named_by : (object : List ℕ) (part : ℕ) (name : List ℕ) → object ≡ name → part ≡ 0 → (record { object = object; part = part }) ≡ rows_table name
 named_by object part name same whole = ap (λ (n : ℕ). record { object = object; part = n }) whole ∙ ap rows_table same

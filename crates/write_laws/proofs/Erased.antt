@@ -43,10 +43,10 @@ module _ (db : Database) (name : List ℕ) where
   here : (key : List Value) → after (rows_table objects_name) key ≡ (if same (object_key name) key then None else db (rows_table objects_name) key)
   here key = ap (λ (b : Bool). if b && same (object_key name) key then None else db (rows_table objects_name) key) (table_itself objects_name)
 
-  at_name : (key : List Value) → same (object_key name) key ≡ true → after (rows_table objects_name) key ≡ None
+  pub at_name : (key : List Value) → same (object_key name) key ≡ true → after (rows_table objects_name) key ≡ None
   at_name key at = here key ∙ ap (λ (b : Bool). if b then None else db (rows_table objects_name) key) at
 
-  at_other : (key : List Value) → same (object_key name) key ≡ false → after (rows_table objects_name) key ≡ db (rows_table objects_name) key
+  pub at_other : (key : List Value) → same (object_key name) key ≡ false → after (rows_table objects_name) key ≡ db (rows_table objects_name) key
   at_other key apart = here key ∙ ap (λ (b : Bool). if b then None else db (rows_table objects_name) key) apart
 
   there : (of : TableName) → is_table objects_name of ≡ false → (key : List Value) → after of key ≡ db of key

@@ -14,6 +14,8 @@ pub mod Ranges  -- the rows of a range
 pub mod Ranged  -- the rows of a range among those of the table
 pub mod Walks  -- rows that were found one fetch behind another, and one whole key
 pub mod Images  -- images
+pub mod Told  -- the fetch of each row that was read
+pub mod TargetStands  -- a row that was fetched to be written is the one at its transaction's place
 pub mod Currents  -- the rows of a range that was not held
 pub mod Checks  -- reads that gave no error
 pub mod Tables  -- what is read for changes is of tables that are there
@@ -41,4 +43,5 @@ pub mod Erased  -- where one is erased
 pub mod Drops  -- what DROP TABLE plans
 pub mod Bound  -- a table whose CREATE TABLE is bound
 pub mod Whole  -- what statements keep is all that is to be kept
+pub mod Indexed  -- index parts where definitions come and go
 mod NameFacts  -- worked names

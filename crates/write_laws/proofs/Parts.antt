@@ -122,8 +122,11 @@ one_with_all (change ∷ changes) db one = one_with_all changes (with_change db 
 pub one_state : (log : List Logged) → KeysAreOne (State log)
 one_state log = one_with_all (flat_map (λ (commit : Logged). commit.changes) log) nothing (λ table key other is. refl)
 
+pub one_view : (log : List Logged) (p : ℕ) (before : List Exchange) → KeysAreOne (view log p before)
+one_view log p before = one_with_all (map change_of (progress_of before).own) (State (take p log)) (one_state (take p log))
+
 pub one_place : (log : List Logged) (before later : List Exchange) → KeysAreOne (at_place log before later)
-one_place log before later = let p = place_of (length log) later in one_with_all (map change_of (progress_of before).own) (State (take p log)) (one_state (take p log))
+one_place log before later = one_view log (place_of (length log) later) before
 
 pub own_stays : (part : List Exchange) (stand : Progress) → AllByRecursion IsFetched part → (progress_from stand part).own ≡ stand.own
 own_stays [] stand all = refl

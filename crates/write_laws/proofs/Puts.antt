@@ -57,13 +57,13 @@ module _ (db : Database) (name text : List ℕ) (put : Definition) (firm : Firm 
           inl (one_thing now.0 name definition put (subst (λ (n : List ℕ). IsDefinitionOf n now.0 (Some definition)) names now.2) own)
       by_test false apart = inr (defined_by after db of definition (sym (at_other (object_key of) apart)) now)
 
-  was_table : (of : TableTree) → IsTableOf after of → IsTableOf db of
+  pub was_table : (of : TableTree) → IsTableOf after of → IsTableOf db of
   was_table of now = elim (was of.name (Table of) now) [
     | inl new ↦ absurd (subst (CanBeDefined db) (sym new) made.can)
     | inr before ↦ before
   ]
 
-  stays : (of : List ℕ) (definition : Definition) → IsDefined db of definition → IsDefined after of definition
+  pub stays : (of : List ℕ) (definition : Definition) → IsDefined db of definition → IsDefined after of definition
   stays of definition before = by_test (same (object_key name) (object_key of)) refl
     where
       by_test : (b : Bool) → same (object_key name) (object_key of) ≡ b → IsDefined after of definition

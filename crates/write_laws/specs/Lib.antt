@@ -3,7 +3,10 @@ pub mod Planning  -- PlannedRight: what a write plans is right by itself; Planne
 pub mod Reads  -- at_place, IsRead: what is read of a range, in the database at the transaction's place
 pub mod Once  -- WroteOnce: a transaction that wrote once
 pub mod Reading  -- RangeRead, CommitLeaves: the laws of what a transaction reads, and of what its commit leaves
+pub mod Told  -- RowsTold, TargetsRead: the fetch of each row that was read, and of each that a write is planned on
+pub mod Targets  -- TargetStands, ToldStands: a row that was fetched to be written is the one at its transaction's place
 pub mod Sound  -- Sound: what of a database is to be kept; Firm: what statements keep
 pub mod Keeping  -- FirmSound, FirmEmpty, FirmWritten, FirmDropped, FirmCreated: each change that statements make keeps it
 pub mod Found  -- FoundTables: the tables that are read are those that are defined
+pub mod Indexed  -- Indexed: what is to be kept of index parts, which no table has yet; IndexedCreated, IndexedDropped: definitions keep it
 pub mod Plans  -- FirmPlanned, FirmDropPlanned, BoundStands: what a write and DROP TABLE plan keeps it; what CREATE TABLE asks

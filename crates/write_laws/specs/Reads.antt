@@ -25,9 +25,9 @@ use Rattle.step_model.specs.Exchange.{CanReply, Exchange}
 use Rattle.step_model.specs.Fits.{place_of, view}
 use Rattle.step_model.specs.Log.{Commit as Logged}
 use Rattle.step_model.specs.Ranges.{Keeps, Rows}
-use Rattle.table_rows.specs.Rows.{row_fits, same_key}
+use Rattle.table_rows.specs.Rows.{places_of, row_fits, same_key}
 use Rattle.constraint_check.specs.Integrity.{Stands}
-use Rattle.constraint_check.specs.Reads.{places_of, rows_table, shape_of}
+use Rattle.constraint_check.specs.Reads.{rows_table, shape_of}
 use Rattle.dml_exec.specs.Reading.{GivenRows, TableRead, behind_gone, fits}
 
 -- what the database has at the place of a transaction, of which `later` is left, with its own changes so far

@@ -15,11 +15,11 @@ use Rattle.clause_binder.specs.Scope.{key_places, max_columns}
 use Rattle.binder.specs.Statements.{bind_checks}
 use Rattle.step_model.specs.Database.{Database}
 use Rattle.table_rows.specs.Definitions.{IsDefinitionOf, is_objects, object_key, objects_name}
-use Rattle.table_rows.specs.Rows.{row_fits, same_key}
+use Rattle.table_rows.specs.Rows.{places_of, row_fits, same_key}
 use Rattle.constraint_check.specs.Integrity.{HasParents, IsKept, IsUnique, Stands, has_false}
 use Rattle.constraint_check.specs.Laws.{KeysAreOne}
 use Rattle.constraint_check.specs.Local.{null_in}
-use Rattle.constraint_check.specs.Reads.{places_of, rows_table}
+use Rattle.constraint_check.specs.Reads.{rows_table}
 
 -- ---- what is defined
 

@@ -13,8 +13,11 @@
 
 ghost use Rattle.write_laws.specs.Planning.{PlannedFits, PlannedKept, PlannedRight, RowsRead, ShapeNamed};
 ghost use Rattle.write_laws.specs.Reading.{ChecksRead, CommitLeaves, FetchesLeave, FirstsFresh, ImagesFetch, ImagesRead, KeyTold, LoggedCommits, NetLeaves, NextState, OnceLeaves, OncePasses, PartAnswers, PlacesAreOne, PlannedKeys, RangeOfWhole, RangeRead, ReadsReady, RowsCurrent, StatesAreOne, WalkRead, WritesLeave, WritesPass};
+ghost use Rattle.write_laws.specs.Told.{RowsTold, TargetsRead};
+ghost use Rattle.write_laws.specs.Targets.{TargetStands, ToldStands};
 ghost use Rattle.write_laws.specs.Keeping.{KeysSized, FirmCreated, FirmDropped, FirmEmpty, FirmErased, FirmPut, FirmSound, FirmWritten, TablesReady, UntriggeredCreated, UntriggeredDropped, UntriggeredEmpty, UntriggeredWritten};
 ghost use Rattle.write_laws.specs.Found.{FoundDefined, FoundDefinitions, FoundTables};
+ghost use Rattle.write_laws.specs.Indexed.{IndexedCreated, IndexedDropped, IndexedEmpty, IndexedErased, IndexedPut, OwnBehind};
 ghost use Rattle.write_laws.specs.Plans.{BoundStands, PlannedReadable, FirmDropPlanned, FirmPlanned, UntriggeredPlanned};
 
 // ---- what a write plans
@@ -59,6 +62,20 @@ pub fn law_kept()
 pub fn law_range_read()
     ensures held { RangeRead }
     ensures current { RowsCurrent }
+{}
+
+/// Each row that was read of a range was told by a fetch of it, with its key; and so was each of those that an UPDATE or DELETE is
+/// planned on, by a fetch with U.
+pub fn law_told()
+    ensures rows { RowsTold }
+    ensures targets { TargetsRead }
+{}
+
+/// A row that was fetched with U, or with its range, and then written in the same statement, is what the database has at its key at
+/// the transaction's place, with what the transaction had changed by then; so is each that was told so among what was read.
+pub fn law_target_stands()
+    ensures one { TargetStands }
+    ensures told { ToldStands }
 {}
 
 /// What a range of a table has is what stands in it of all that the table has.
@@ -211,4 +228,21 @@ pub fn law_firm_drop_planned()
 /// A table whose CREATE TABLE is bound over definitions of a firm database can stand there.
 pub fn law_bound_stands()
     ensures { BoundStands }
+{}
+
+// ---- index parts, which no table has yet
+
+/// The own rows behind changes are those behind the changes of own rows.
+pub fn law_own_rows()
+    ensures { OwnBehind }
+{}
+
+/// A database without rows has no index part, and so none that is not as it is to be; each part stays exact where definitions come
+/// and go, and where all rows of all parts of a table are erased with its definition.
+pub fn law_indexed()
+    ensures empty { IndexedEmpty }
+    ensures created { IndexedCreated }
+    ensures put { IndexedPut }
+    ensures erased { IndexedErased }
+    ensures dropped { IndexedDropped }
 {}

@@ -2,7 +2,7 @@
 
 ghost use Rattle.std.specs.Prelude.{◌≡◌};
 ghost use Rattle.tds_tokens.specs.Spelling.{b_varchar, server_name};
-ghost use Rattle.tds_tokens.specs.Reading.{Gives, strip, at_end, framed, login_ack_at, notice_at, said_at, env_at, env_of, finished_at};
+ghost use Rattle.tds_tokens.specs.Reading.{Gives, strip, at_end, framed, login_ack_at, notice_at, said_at, env_at, env_of, finished_at, return_value_at};
 
 use crate::env::{ENV_COLLATION, ENV_DATABASE, ENV_PACKET_SIZE, ENV_ROLLBACK};
 use crate::fault::ReadFault;
@@ -10,8 +10,9 @@ use crate::notice::Notice;
 use crate::reading::fields::{
     after, b_varbyte, b_varchar, body_at, i32_at, u8_at, u16_at, u32_be_at, u64_at, us_varchar,
 };
+use crate::reading::values::typed_at;
 use crate::token::{DoneKind, Token};
-use crate::wire::{SERVER, SQL_TSQL};
+use crate::wire::{RETURN_VALUE_START, SERVER, SQL_TSQL};
 use std::alloc::Global;
 use value_types::Units;
 
@@ -146,6 +147,24 @@ fn env_of(alloc: Global, kind: u8, bytes: &[u8]) -> Result<(Token, &[u8]), ReadF
         }
         _ => Err(ReadFault::Absent),
     }
+}
+
+/// A RETURNVALUE token behind its tag.
+#[tactic(auto, unfolding(crate::specs::Reading::return_value_at))]
+pub(super) fn return_value_at(alloc: Global, bytes: &[u8]) -> Result<(Token, &[u8]), ReadFault>
+    ensures { Gives (λ x. (x.0, x.1.now)) result (return_value_at bytes.now) }
+{
+    let (ordinal, rest) = u16_at(bytes)?;
+    let (name, rest) = b_varchar(alloc, rest)?;
+    let rest = after(&RETURN_VALUE_START, rest)?;
+    let ((kind, value), rest) = typed_at(alloc, rest)?;
+    let token = Token::ReturnValue {
+        ordinal,
+        name,
+        kind,
+        value,
+    };
+    Ok((token, rest))
 }
 
 /// A DONE, DONEPROC or DONEINPROC token behind its tag.

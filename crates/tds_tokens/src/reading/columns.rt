@@ -51,7 +51,7 @@ fn column_at(alloc: Global, bytes: &[u8]) -> Result<(ColumnInfo, &[u8]), ReadFau
 
 /// A type.
 #[tactic(auto, unfolding(crate::specs::Reading::type_at))]
-fn type_at(bytes: &[u8]) -> Result<(SqlType, &[u8]), ReadFault>
+pub(super) fn type_at(bytes: &[u8]) -> Result<(SqlType, &[u8]), ReadFault>
     ensures { Gives (λ x. (x.0, x.1.now)) result (type_at bytes.now) }
 {
     if let Some(rest) = behind(&[INTNTYPE, 1], bytes) {

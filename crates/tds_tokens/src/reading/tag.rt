@@ -7,7 +7,8 @@ use crate::fault::ReadFault;
 use crate::reading::fields::u8_at;
 use crate::token::DoneKind;
 use crate::wire::{
-    COLMETADATA, DONE, DONEINPROC, DONEPROC, ENVCHANGE, ERROR, INFO, LOGINACK, RETURNSTATUS, ROW,
+    COLMETADATA, DONE, DONEINPROC, DONEPROC, ENVCHANGE, ERROR, INFO, LOGINACK, RETURNSTATUS,
+    RETURNVALUE, ROW,
 };
 
 /// What kind of token it is, as far as its first byte tells.
@@ -20,6 +21,7 @@ pub(super) enum Tag {
     Columns,
     Row,
     ReturnStatus,
+    ReturnValue,
     Finished(DoneKind),
 }
 
@@ -41,6 +43,7 @@ fn tag_of(byte: u8) -> Option<Tag>
 {
     match byte {
         RETURNSTATUS => Some(Tag::ReturnStatus),
+        RETURNVALUE => Some(Tag::ReturnValue),
         COLMETADATA => Some(Tag::Columns),
         ERROR => Some(Tag::Error),
         INFO => Some(Tag::Info),

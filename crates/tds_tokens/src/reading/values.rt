@@ -1,10 +1,11 @@
 //! Reading the values of a row.
 
 ghost use Rattle.std.specs.Prelude.{◌≡◌};
-ghost use Rattle.tds_tokens.specs.Reading.{Gives, bit_at, text_at, filled_at, value_at, values_at};
+ghost use Rattle.tds_tokens.specs.Reading.{Gives, bit_at, text_at, filled_at, typed_at, value_at, values_at};
 
 use crate::columns::ColumnInfo;
 use crate::fault::ReadFault;
+use crate::reading::columns::type_at;
 use crate::reading::fields::{after, behind, half_at, i16_at, i32_at, i64_at, u8_at, units_of};
 use crate::values::null_of;
 use std::alloc::Global;
@@ -26,6 +27,16 @@ pub(super) fn row_at<'a>(
         rest = behind;
     }
     Ok((Row::from(values), rest))
+}
+
+/// A type, and a value of it.
+#[tactic(auto, unfolding(crate::specs::Reading::typed_at))]
+pub(super) fn typed_at(alloc: Global, bytes: &[u8]) -> Result<((SqlType, Value), &[u8]), ReadFault>
+    ensures { Gives (λ x. (x.0, x.1.now)) result (typed_at bytes.now) }
+{
+    let (kind, rest) = type_at(bytes)?;
+    let (value, rest) = value_at(alloc, kind, rest)?;
+    Ok(((kind, value), rest))
 }
 
 /// A value of the type, which may be NULL.

@@ -1,23 +1,24 @@
 use Rattle.std.proofs.Common.{Err, refl, ap, ◌∙◌}
 use Rattle.tds_tokens.specs.Spelling.{TokenBytes}
 use Rattle.session_server.specs.Response.{tabular}
-use Rattle.session_server.specs.Talk.{batch_response}
+use Rattle.session_server.specs.Talk.{batch_response, runs}
+use Rattle.value_types.specs.Units.{units_of}
 use Rattle.batch_meaning.proofs.Composed.{does_over, does_reads, does_then, does_out, does_leave}
 use Rattle.session_server.proofs.Handled.{bears_tokens, unread_handled, left_handled}
 use Rattle.session_server.proofs.message.respond_to_batch.Goals as goal
 
 pub returns-in_err-read-clause-handled : goal.returns-in_err-read-clause-handled
-returns-in_err-read-clause-handled g c = unread_handled _ c.args.channel.spid c.args.channel.packet_size _ _ c.from_residual.result c.from_residual.ensures.0
+returns-in_err-read-clause-handled g c = unread_handled _ c.args.channel.spid (runs c.args.channel.packet_size (units_of c.args.text.now)) tt _ c.from_residual.result c.from_residual.ensures.0
 
 pub returns-in_err-run_batch-clause-handled : goal.returns-in_err-run_batch-clause-handled
 unfolding batch_response
 returns-in_err-run_batch-clause-handled g c =
-    left_handled c.args.channel.spid c.args.channel.packet_size _ _ c.from_residual-in_err-run_batch.result c.from_residual-in_err-run_batch.ensures.0 c.in_ok-read.ensures.read (does_leave _ _ (Err c.in_err-run_batch.field-0.0) refl c.in_err-run_batch.ensures.does)
+    left_handled c.args.channel.spid (runs c.args.channel.packet_size (units_of c.args.text.now)) tt _ c.from_residual-in_err-run_batch.result c.from_residual-in_err-run_batch.ensures.0 c.in_ok-read.ensures.read (does_leave _ _ (Err c.in_err-run_batch.field-0.0) refl c.in_err-run_batch.ensures.does)
 
 pub returns-in_err-response-clause-handled : goal.returns-in_err-response-clause-handled
 unfolding batch_response
 returns-in_err-response-clause-handled g c =
-    left_handled c.args.channel.spid c.args.channel.packet_size _ _ c.from_residual-in_err-response.result c.from_residual-in_err-response.ensures.0 c.in_ok-read.ensures.read (does_then _ _ c.in_ok-run_batch.ensures.does (does_out (Err c.in_err-response.field-0.0) refl refl))
+    left_handled c.args.channel.spid (runs c.args.channel.packet_size (units_of c.args.text.now)) tt _ c.from_residual-in_err-response.result c.from_residual-in_err-response.ensures.0 c.in_ok-read.ensures.read (does_then _ _ c.in_ok-run_batch.ensures.does (does_out (Err c.in_err-response.field-0.0) refl refl))
 
 pub returns-clause-handled : goal.returns-clause-handled
 unfolding batch_response

@@ -1,3 +1,4 @@
+use Rattle.std.proofs.Common.{arith}
 use Rattle.outside_io.specs.Bytes.{Takes}
 use Rattle.session_server.proofs.Lined.{takes_still}
 use Rattle.session_server.proofs.Turns.{ended_stopped, ended_unmade, ended_unsent, ended_behind, ended_alone, turned}
@@ -20,3 +21,7 @@ returns-in-Responds-clause-turned g c = turned c.args.config.now c.args.spid c.a
 
 pub returns-clause-ended : goal.returns-clause-ended
 returns-clause-ended g c = ended_alone c.args.config.now c.args.spid c.args.reader.now c.args.state (Takes g.L.Source.left g.L.Source.given c.args.line.now c.next_message.new.line) (g.L.Source.left c.next_message.new.line) c.next_message.ensures.unwritten c.in_ok-message.ensures.next.0 c.in_ok-message.ensures.next.1 c.in_ok-message.message c.in_ok-message.ensures.next.3 (rw c.in-Ends.is at c.in_ok-response.ensures.handled)
+
+-- a message is no longer than messages may be
+pub handle-requires-clause-short : goal.handle-requires-clause-short
+handle-requires-clause-short g c = omega (arith, c.in_ok-message.ensures.next.3.limit)

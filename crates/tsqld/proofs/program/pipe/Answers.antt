@@ -1,5 +1,5 @@
 use Rattle.std.proofs.Common.{ap, ◌∙◌}
-use Rattle.tsqld.specs.Program.{house_seats, status_of}
+use Rattle.tsqld.specs.Program.{status_of}
 use Rattle.tsqld.proofs.Runs.{ends_well}
 use Rattle.tsqld.proofs.program.pipe.Goals as goal
 
