@@ -42,7 +42,7 @@ table_parts name table = equal_parts (rows_table name) table
 pub objects_apart : (table other : TableName) → same_units table.object other.object ≡ false → is_eq (table_cmp table other) ≡ false
 objects_apart table other apart = equal_parts table other ∙ ap (λ (b : Bool). b && is_eq (nat_cmp table.part other.part)) apart
 
-one_number : (a b : ℕ) → is_eq (nat_cmp a b) ≡ true → a ≡ b
+pub one_number : (a b : ℕ) → is_eq (nat_cmp a b) ≡ true → a ≡ b
 one_number a b is = ranked a b Equal (sym ((Equal-is (nat_cmp a b)).0 is))
 
 first_part : (part : ℕ) → is_eq (nat_cmp 0 part) ≡ true → part ≡ 0

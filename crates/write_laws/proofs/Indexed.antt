@@ -38,7 +38,7 @@ use Rattle.write_laws.proofs.Puts as puts
 -- ---- tables and parts
 
 -- a part that is none of the own rows is none of the own rows of any table
-part_apart : (name : List ℕ) (table : TableName) → nat_eq table.part 0 ≡ false → is_table name table ≡ false
+pub part_apart : (name : List ℕ) (table : TableName) → nat_eq table.part 0 ≡ false → is_table name table ≡ false
 part_apart name table other = by_test (is_table name table) refl
   where
     by_test : (b : Bool) → is_table name table ≡ b → b ≡ false
@@ -46,7 +46,7 @@ part_apart name table other = by_test (is_table name table) refl
     by_test false is = refl
 
 -- an index part is none of the own rows
-not_own : (shape : TableTree) (part : ℕ) (places : List ℕ) → part_places shape part ≡ Some places → nat_eq part 0 ≡ false
+pub not_own : (shape : TableTree) (part : ℕ) (places : List ℕ) → part_places shape part ≡ Some places → nat_eq part 0 ≡ false
 not_own shape zero places is = absurd (let no : None ≡ Some places = is in cc)
 not_own shape (suc part) places is = by_test (nat_eq (suc part) 0) refl
   where
@@ -94,7 +94,7 @@ own_behind db (change ∷ changes) = own_behind (with_change db (change_of chang
 -- ---- parts that are as they were
 
 -- of rows and a part that are the same
-exact_too : (index_row : OfRow) (rows index rows_too index_too : Part) → ((key : List Value) → rows_too key ≡ rows key) → ((key : List Value) → index_too key ≡ index key) → IsExact index_row rows index → IsExact index_row rows_too index_too
+pub exact_too : (index_row : OfRow) (rows index rows_too index_too : Part) → ((key : List Value) → rows_too key ≡ rows key) → ((key : List Value) → index_too key ≡ index key) → IsExact index_row rows index → IsExact index_row rows_too index_too
 exact_too index_row rows index rows_too index_too same_rows same_index exact = record {
   stands = λ x row is. let there = exact.stands x row (sym (same_index x) ∙ is) in (there.0, there.1, same_rows there.0 ∙ there.2, there.3, there.4);
   whole = λ key base is. same_index (index_row base) ∙ exact.whole key base (sym (same_rows key) ∙ is);

@@ -14,7 +14,7 @@ use Rattle.constraint_check.specs.Reads.{rows_table}
 use Rattle.write_laws.proofs.Keys.{tied_long}
 use Rattle.write_laws.specs.Keeping.{KeysSized}
 
-same_long : (a b : List Value) → same_key a b ≡ true → length a ≡ length b
+pub same_long : (a b : List Value) → same_key a b ≡ true → length a ≡ length b
 same_long a b is = tied_long a b ((Equal-is (key_cmp a b)).0 is)
 
 -- a row that fits stands at a key of so many values
@@ -24,7 +24,7 @@ fits_long shape key row fits =
     sym (same_long (key_of shape row) key own.1) ∙ length-map (key_places (Some shape)) (value_at row)
 
 -- what is so of each row is so of a key with one
-of_row : (P : Type 0) (o : Option (List Value)) → ((row : List Value) → o ≡ Some row → P) → IsSome o → P
+pub of_row : (P : Type 0) (o : Option (List Value)) → ((row : List Value) → o ≡ Some row → P) → IsSome o → P
 of_row P None so some = absurd (let both : false ≡ true = some in cc)
 of_row P (Some row) so some = so row refl
 

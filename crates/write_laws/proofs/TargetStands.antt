@@ -41,7 +41,7 @@ with_same (change ∷ changes) db other table key same = with_same changes (with
 -- ---- numbers
 
 -- where a transaction goes on its place is that of what is left
-place_past : (behind : ℕ) (between later : List Exchange) → NoneEnds between → place_of behind (between ++ later) ≡ place_of behind later
+pub place_past : (behind : ℕ) (between later : List Exchange) → NoneEnds between → place_of behind (between ++ later) ≡ place_of behind later
 place_past behind [] later none = refl
 place_past behind (e ∷ between) later none = not_ended e.reply (place_of behind (between ++ later)) none.0 ∙ place_past behind between later none.1
 
@@ -108,11 +108,11 @@ no_relax (x ∷ part) all = (by_op x.op all.0.0, no_relax part all.1)
     by_op (Fetch table start stop hold lock) is = refl
     by_op op is = absurd is
 
-both_relax : (xs ys : List Exchange) → NoRelax xs → NoRelax ys → NoRelax (xs ++ ys)
+pub both_relax : (xs ys : List Exchange) → NoRelax xs → NoRelax ys → NoRelax (xs ++ ys)
 both_relax [] ys first second = second
 both_relax (x ∷ xs) ys first second = (first.0, both_relax xs ys first.1 second)
 
-both_end : (xs ys : List Exchange) → NoneEnds xs → NoneEnds ys → NoneEnds (xs ++ ys)
+pub both_end : (xs ys : List Exchange) → NoneEnds xs → NoneEnds ys → NoneEnds (xs ++ ys)
 both_end [] ys first second = second
 both_end (x ∷ xs) ys first second = (first.0, both_end xs ys first.1 second)
 

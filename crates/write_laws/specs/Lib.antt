@@ -9,4 +9,7 @@ pub mod Sound  -- Sound: what of a database is to be kept; Firm: what statements
 pub mod Keeping  -- FirmSound, FirmEmpty, FirmWritten, FirmDropped, FirmCreated: each change that statements make keeps it
 pub mod Found  -- FoundTables: the tables that are read are those that are defined
 pub mod Indexed  -- Indexed: what is to be kept of index parts, which no table has yet; IndexedCreated, IndexedDropped: definitions keep it
+pub mod Rewrites  -- PlannedOf, TakenTold: a write as rows that change, and how those that it takes were told
+pub mod Made  -- MadeLeave, TakenStand: changes that were made, one exchange each, and what they leave
+pub mod Indexing  -- IndexedWritten, IndexFree, IndexStands: index parts where rows of a table change
 pub mod Plans  -- FirmPlanned, FirmDropPlanned, BoundStands: what a write and DROP TABLE plan keeps it; what CREATE TABLE asks

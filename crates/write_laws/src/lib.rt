@@ -18,6 +18,9 @@ ghost use Rattle.write_laws.specs.Targets.{TargetStands, ToldStands};
 ghost use Rattle.write_laws.specs.Keeping.{KeysSized, FirmCreated, FirmDropped, FirmEmpty, FirmErased, FirmPut, FirmSound, FirmWritten, TablesReady, UntriggeredCreated, UntriggeredDropped, UntriggeredEmpty, UntriggeredWritten};
 ghost use Rattle.write_laws.specs.Found.{FoundDefined, FoundDefinitions, FoundTables};
 ghost use Rattle.write_laws.specs.Indexed.{IndexedCreated, IndexedDropped, IndexedEmpty, IndexedErased, IndexedPut, OwnBehind};
+ghost use Rattle.write_laws.specs.Indexing.{IndexFree, IndexStands, IndexedWritten};
+ghost use Rattle.write_laws.specs.Made.{FreeFresh, MadeLeave, TakenStand, WritesMake};
+ghost use Rattle.write_laws.specs.Rewrites.{ChangesAreDeeds, PlannedOf, TakenApart, TakenTold};
 ghost use Rattle.write_laws.specs.Plans.{BoundStands, PlannedReadable, FirmDropPlanned, FirmPlanned, UntriggeredPlanned};
 
 // ---- what a write plans
@@ -245,4 +248,30 @@ pub fn law_indexed()
     ensures put { IndexedPut }
     ensures erased { IndexedErased }
     ensures dropped { IndexedDropped }
+{}
+
+/// What a write plans is what is done at the keys of rows that change; those that it takes are some of its target's image, and each was
+/// told at its own key, no two at one.
+pub fn law_rewrites()
+    ensures deeds { ChangesAreDeeds }
+    ensures planned { PlannedOf }
+    ensures told { TakenTold }
+    ensures apart { TakenApart }
+{}
+
+/// Changes that were asked one after another were made by an exchange each. If insertions into index parts come to free keys, all do,
+/// and the database behind them is the one before behind the changes; and each row that was taken stood there.
+pub fn law_made()
+    ensures made { WritesMake }
+    ensures leave { MadeLeave }
+    ensures fresh { FreeFresh }
+    ensures stand { TakenStand }
+{}
+
+/// Each index part is exact behind the changes of a table's rows and of its index rows; none of these is inserted where one is, and
+/// each that goes or is replaced stands.
+pub fn law_indexing()
+    ensures written { IndexedWritten }
+    ensures free { IndexFree }
+    ensures stands { IndexStands }
 {}

@@ -1,0 +1,11 @@
+use Rattle.write_laws.proofs.Indexing.{index_free, index_stands, indexed_written}
+use Rattle.write_laws.proofs.law_indexing.Goals as goal
+
+pub returns-clause-written : goal.returns-clause-written
+returns-clause-written c = indexed_written
+
+pub returns-clause-free : goal.returns-clause-free
+returns-clause-free c = index_free
+
+pub returns-clause-stands : goal.returns-clause-stands
+returns-clause-stands c = index_stands
