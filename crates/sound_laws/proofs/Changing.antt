@@ -60,7 +60,7 @@ use Rattle.sound_laws.proofs.Bringing.{brings_bind, brings_mono, brings_over, br
 use Rattle.sound_laws.proofs.Targets.{IsTarget, shape_itself}
 use Rattle.sound_laws.proofs.Steps.{IsStill}
 use Rattle.sound_laws.proofs.Trees.{StandsWith, WritesNothing, front_place, reads_bind}
-use Rattle.sound_laws.proofs.Writing.{MayWrite, applies_bring}
+use Rattle.sound_laws.proofs.Writing.{MayWrite, applies_when}
 
 pub fits_still : (effect : Effect) → WritesNothing (if_it_fits effect)
 unfolding if_it_fits
@@ -202,7 +202,7 @@ module _ (session : ℕ) (begin log : List Logged) (mine : List Exchange) (tied 
         (λ mark. brings_over log mine (Stands log) (Ok (record { effect = fitting; mark = mark; fires = fires; fired = fired })) Done (λ before later is stands. stands)) (λ failure before later is stands. stands)
       where
         by_room : (enough : Bool) → Brings log mine (StandsWith log (MayPut definitions planned)) (if enough then applies (tables_of definitions) planned else fails no_memory) (λ (put : Result ℕ Failure). Stands log)
-        by_room true = applies_bring session begin log mine tied (tables_of definitions) planned
+        by_room true = applies_when session begin log mine tied (tables_of definitions) planned
         by_room false = brings_over log mine (StandsWith log (MayPut definitions planned)) (Err (plain no_memory)) (λ (put : Result ℕ Failure). Stands log) (λ before later is from. from.0)
 
     -- what only reads on the way leaves that
@@ -254,7 +254,7 @@ module _ (session : ℕ) (begin log : List Logged) (mine : List Exchange) (tied 
   -- changes that are checked by no shapes
   put_alone : (planned : List Planned) → Brings log mine (StandsWith log (λ db. MayWrite db [] planned)) (applies [] planned >>= λ put. over (Ok no_effect)) Dropped
   put_alone planned =
-      brings_bind log mine (StandsWith log (λ db. MayWrite db [] planned)) (applies [] planned) (λ (put : Result ℕ Failure). Stands log) (λ put. over (Ok no_effect)) Dropped (applies_bring session begin log mine tied [] planned)
+      brings_bind log mine (StandsWith log (λ db. MayWrite db [] planned)) (applies [] planned) (λ (put : Result ℕ Failure). Stands log) (λ put. over (Ok no_effect)) Dropped (applies_when session begin log mine tied [] planned)
       (λ put. brings_over log mine (Stands log) (Ok no_effect) Dropped (λ before later is stands. stands)) (λ failure before later is stands. stands)
 
   module _ (around : Around) (shape : TableTree) where
@@ -328,5 +328,5 @@ module _ (session : ℕ) (begin log : List Logged) (mine : List Exchange) (tied 
       by_room : (enough : Bool) → Brings log mine From (if enough then applies [] (definition_erased name ∷ []) else fails no_memory) (λ (put : Result ℕ Failure). Stands log)
       by_room true = brings_mono log mine (StandsWith log (λ db. MayWrite db [] (definition_erased name ∷ []))) From (applies [] (definition_erased name ∷ [])) (λ (put : Result ℕ Failure). Stands log) (λ (put : Result ℕ Failure). Stands log)
           (λ before later is from. (from.0, λ intact. record { parents = tt; rows = tt; intact = λ passes. firm_erased (at_place log before later) name (from.0 intact).now (from.1 intact) })) (λ a before later is stands. stands)
-          (applies_bring session begin log mine tied [] (definition_erased name ∷ []))
+          (applies_when session begin log mine tied [] (definition_erased name ∷ []))
       by_room false = brings_over log mine From (Err (plain no_memory)) (λ (put : Result ℕ Failure). Stands log) (λ before later is from. from.0)

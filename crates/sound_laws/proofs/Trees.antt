@@ -116,9 +116,13 @@ fetch_base log before part later only = ap (λ (n : ℕ). State (take n log)) (p
 pub front_place : (log : List Logged) (before part later : List Exchange) → AskOnly IsFetch part → at_place log before (part ++ later) ≡ at_place log before later
 front_place log before part later only = ap (λ (base : Database). With base (map change_of (progress_of before).own)) (fetch_base log before part later only)
 
--- What stands, and a fact of the database at the transaction's place, where that is intact.
+-- What stands, and a fact of the exchanges so far and of those that are to come, where the database at the transaction's place is intact.
+abbrev pub StandsBy : List Logged → (List Exchange → List Exchange → Type 0) → List Exchange → List Exchange → Type 0
+StandsBy log F before later = Stands log before later × (Intact (base_of log later) → F before later)
+
+-- so it is of a fact of that database
 abbrev pub StandsWith : List Logged → (Database → Type 0) → List Exchange → List Exchange → Type 0
-StandsWith log F before later = Stands log before later × (Intact (base_of log later) → F (at_place log before later))
+StandsWith log F = StandsBy log (λ before later. F (at_place log before later))
 
 pub reads_still : {A : Type 0} (tree : Doing A) → Reads tree → WritesNothing tree
 reads_still tree only = only_more IsTouch IsFetch IsStill fetch_still tree only
@@ -126,14 +130,15 @@ reads_still tree only = only_more IsTouch IsFetch IsStill fetch_still tree only
 pub reads_commits : {A : Type 0} (tree : Doing A) → Reads tree → Only AnyStep NoCommit tree
 reads_commits tree only = only_more IsTouch IsFetch NoCommit fetch_commits tree only
 
--- by what was read more is known of that database
+-- by what was read more is known
 module _ (session : ℕ) (begin log : List Logged) (mine : List Exchange) (tied : Tied session begin log mine) where
-  -- what is found out by a tree that only fetches, of the database at the transaction's place
-  abbrev pub Finds : {A : Type 0} → (Database → Type 0) → Doing A → (A → Database → Type 0) → Type 0
-  Finds {A} F tree G = (before part later : List Exchange) (p new : SessionProgress) (a : A) → mine ≡ before ++ (part ++ later) → Held tree p part a new → Intact (at_place log before (part ++ later)) → F (at_place log before (part ++ later)) → G a (at_place log before (part ++ later))
+  -- what is found out by a tree that only fetches
+  abbrev pub FindsBy : {A : Type 0} → (List Exchange → List Exchange → Type 0) → Doing A → (A → List Exchange → List Exchange → Type 0) → Type 0
+  FindsBy {A} F tree G = (before part later : List Exchange) (p new : SessionProgress) (a : A) → mine ≡ before ++ (part ++ later) → Held tree p part a new → AskOnly IsFetch part → Intact (at_place log before (part ++ later))
+      → F before (part ++ later) → G a (before ++ part) later
 
-  pub reads_bring : {A : Type 0} (F : Database → Type 0) (tree : Doing A) (G : A → Database → Type 0) → Reads tree → Finds F tree G → Brings log mine (StandsWith log F) tree (λ a. StandsWith log (G a))
-  reads_bring F tree G only finds before part later p is agree from =
+  pub reads_bring_by : {A : Type 0} (F : List Exchange → List Exchange → Type 0) (tree : Doing A) (G : A → List Exchange → List Exchange → Type 0) → Reads tree → FindsBy F tree G → Brings log mine (StandsBy log F) tree (λ a. StandsBy log (G a))
+  reads_bring_by F tree G only finds before part later p is agree from =
       let on = still_brings session begin log mine tied tree (reads_still tree only) before part later p is agree from.0 in (
         on.0,
         λ result new held. let was = on.1 result new held in
@@ -142,24 +147,37 @@ module _ (session : ℕ) (begin log : List Logged) (mine : List Exchange) (tied 
               (
                 was.1,
                 λ intact. let there : Intact (base_of log (part ++ later)) = subst Intact (sym (fetch_base log before part later fetches)) intact in
-                    subst (G result) (sym (fetch_place log before part later fetches)) (finds before part later p new result is held (from.0 there).now (from.1 there)),
+                    finds before part later p new result is held fetches (from.0 there).now (from.1 there),
               ),
             ),
       )
 
   -- where it did not fail
+  abbrev pub FindsOkBy : {A : Type 0} → (List Exchange → List Exchange → Type 0) → Doing (Result A Failure) → (A → List Exchange → List Exchange → Type 0) → Type 0
+  FindsOkBy {A} F tree G = (before part later : List Exchange) (p new : SessionProgress) (a : A) → mine ≡ before ++ (part ++ later) → Held tree p part (Ok a) new → AskOnly IsFetch part → Intact (at_place log before (part ++ later))
+      → F before (part ++ later) → G a (before ++ part) later
+
+  abbrev OnOk : {A : Type 0} → (A → List Exchange → List Exchange → Type 0) → Result A Failure → List Exchange → List Exchange → Type 0
+  OnOk G (Ok a) before later = G a before later
+  OnOk G (Err failure) before later = Unit {0}
+
+  pub reads_bind_by : {A B : Type 0} (F : List Exchange → List Exchange → Type 0) (tree : Doing (Result A Failure)) (G : A → List Exchange → List Exchange → Type 0) (go : A → Doing (Result B Failure)) → Reads tree → FindsOkBy F tree G
+      → ((a : A) → Brings log mine (StandsBy log (G a)) (go a) (λ (b : Result B Failure). Stands log)) → Brings log mine (StandsBy log F) (tree >>= go) (λ (b : Result B Failure). Stands log)
+  reads_bind_by {A} {B} F tree G go only finds on =
+      brings_bind log mine (StandsBy log F) tree (λ came. StandsBy log (OnOk G came)) go (λ (b : Result B Failure). Stands log) (reads_bring_by F tree (OnOk G) only by_came) on (λ failure before later is was. was.0)
+    where
+      by_came : (before part later : List Exchange) (p new : SessionProgress) (came : Result A Failure) → mine ≡ before ++ (part ++ later) → Held tree p part came new → AskOnly IsFetch part → Intact (at_place log before (part ++ later))
+          → F before (part ++ later) → OnOk G came (before ++ part) later
+      by_came before part later p new (Ok a) is held fetches intact fact = finds before part later p new a is held fetches intact fact
+      by_came before part later p new (Err failure) is held fetches intact fact = tt
+
+  -- ---- of the database at the transaction's place
+
   abbrev pub FindsOk : {A : Type 0} → (Database → Type 0) → Doing (Result A Failure) → (A → Database → Type 0) → Type 0
   FindsOk {A} F tree G = (before part later : List Exchange) (p new : SessionProgress) (a : A) → mine ≡ before ++ (part ++ later) → Held tree p part (Ok a) new → Intact (at_place log before (part ++ later)) → F (at_place log before (part ++ later)) → G a (at_place log before (part ++ later))
 
-  abbrev OnOk : {A : Type 0} → (A → Database → Type 0) → Result A Failure → Database → Type 0
-  OnOk G (Ok a) db = G a db
-  OnOk G (Err failure) db = Unit {0}
-
   pub reads_bind : {A B : Type 0} (F : Database → Type 0) (tree : Doing (Result A Failure)) (G : A → Database → Type 0) (go : A → Doing (Result B Failure)) → Reads tree → FindsOk F tree G
       → ((a : A) → Brings log mine (StandsWith log (G a)) (go a) (λ (b : Result B Failure). Stands log)) → Brings log mine (StandsWith log F) (tree >>= go) (λ (b : Result B Failure). Stands log)
-  reads_bind {A} {B} F tree G go only finds on =
-      brings_bind log mine (StandsWith log F) tree (λ came. StandsWith log (OnOk G came)) go (λ (b : Result B Failure). Stands log) (reads_bring F tree (OnOk G) only by_came) on (λ failure before later is was. was.0)
-    where
-      by_came : (before part later : List Exchange) (p new : SessionProgress) (came : Result A Failure) → mine ≡ before ++ (part ++ later) → Held tree p part came new → Intact (at_place log before (part ++ later)) → F (at_place log before (part ++ later)) → OnOk G came (at_place log before (part ++ later))
-      by_came before part later p new (Ok a) is held intact fact = finds before part later p new a is held intact fact
-      by_came before part later p new (Err failure) is held intact fact = tt
+  reads_bind F tree G go only finds on =
+      reads_bind_by (λ before later. F (at_place log before later)) tree (λ a before later. G a (at_place log before later)) go only
+      (λ before part later p new a is held fetches intact fact. subst (G a) (sym (fetch_place log before part later fetches)) (finds before part later p new a is held intact fact)) on

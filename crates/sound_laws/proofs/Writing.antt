@@ -40,9 +40,10 @@ use Rattle.statement_paths.proofs.Apart.{holds_apart}
 use Rattle.statement_paths.proofs.Only.{AnyStep, NoCommit, Only, only_gives, quiet_commits, says_quiet}
 use Rattle.sound_laws.specs.Stands.{Intact, Brings, Stands, StandsAt, base_of}
 use Rattle.sound_laws.specs.Tied.{Tied}
+use Rattle.sound_laws.proofs.Bringing.{brings_mono}
 use Rattle.sound_laws.proofs.Here.{place_past}
 use Rattle.sound_laws.proofs.Steps.{AllMarked, IsStill, after_one, back_stands, marks_stand, one_stands}
-use Rattle.sound_laws.proofs.Trees.{StandsWith, quiet_brings}
+use Rattle.sound_laws.proofs.Trees.{StandsBy, StandsWith, quiet_brings}
 
 -- ---- what a dialog ends and asks
 
@@ -153,6 +154,11 @@ pub record MayWrite (db : Database) (shapes : List TableTree) (planned : List Pl
   pub rows : AllByRecursion (RowsFit (behind db planned)) shapes
   pub intact : AllByRecursion (Passes (behind db planned)) (reads_for planned shapes) → Intact (behind db planned)
 
+-- They may be made behind these exchanges: where that is what comes next, the database behind them is intact, too.
+abbrev pub MayMake : List Logged → List TableTree → List Planned → List Exchange → List Exchange → Type 0
+MayMake log shapes planned before later = (manner : Manner) (part rest : List Exchange) (mark : ℕ) → later ≡ part ++ rest → Said manner (writes shapes planned) part (Ok (written.Done mark))
+    → Intact (at_place log before later) → Intact (at_place log (before ++ part) rest)
+
 -- what a dialog came to, seen otherwise
 said_on : {A B : Type 0} (manner : Manner) (dialog : Dialog A) (seen : A → B) (part : List Exchange) (a : A) → Said manner dialog part a → Said manner (dialog then λ a. over (seen a)) part (seen a)
 unfolding Said ◌then◌
@@ -169,23 +175,19 @@ attempt_wrote manner shapes planned part attempt held = said_on manner (attempts
 
 module _ (session : ℕ) (begin log : List Logged) (mine : List Exchange) (tied : Tied session begin log mine) (manner : Manner) (shapes : List TableTree) (planned : List Planned) where
   module _ (before part later : List Exchange) (is : mine ≡ before ++ (part ++ later)) (attempt : Attempt) (held : Said manner (attempts shapes planned) part attempt)
-      (from : StandsWith log (λ db. MayWrite db shapes planned) before (part ++ later)) where
+      (from : StandsBy log (MayMake log shapes planned) before (part ++ later)) where
     goes_on : NoneEnds part
     goes_on = held_goes manner (attempts shapes planned) part attempt held
 
     base_past : base_of log (part ++ later) ≡ base_of log later
     base_past = ap (λ (n : ℕ). State (take n log)) (place_past (length log) part later goes_on)
 
-    place_before : at_place log before (part ++ later) ≡ at_place log before later
-    place_before = ap (λ (base : Database). With base (map change_of (progress_of before).own)) base_past
-
     -- the changes were made, and their checks passed
     was_made : (mark : ℕ) → attempt.came ≡ Ok (written.Done mark) → MarksStand log (before ++ part) later → Stands log (before ++ part) later
     was_made mark done marks intact =
         let wrote : Said manner (writes shapes planned) part (Ok (written.Done mark)) = subst (λ (came : Result Written Refusal). Said manner (writes shapes planned) part came) done (attempt_wrote manner shapes planned part attempt held) in
-        let may : MayWrite (at_place log before later) shapes planned = subst (λ (db : Database). MayWrite db shapes planned) place_before (from.1 (subst Intact (sym base_past) intact)) in
-        let passes = writes_pass log mine before part later manner shapes planned mark is tied.ranges wrote may.rows may.parents in
-        record { now = subst Intact (sym (writes_leave log before part later manner shapes planned mark wrote)) (may.intact passes); marks = marks intact }
+        let there : Intact (base_of log (part ++ later)) = subst Intact (sym base_past) intact in
+        record { now = from.1 there manner part later mark refl wrote (from.0 there).now; marks = marks intact }
 
   -- the end of an attempt, behind changes and checks
   ends_stand : (before part later : List Exchange) (mark : ℕ) (came : Result (Unit {0}) _) (attempt : Attempt) → mine ≡ before ++ (part ++ later) → MarksStand log before (part ++ later) → Said manner (ends mark came) part attempt
@@ -204,7 +206,7 @@ module _ (session : ℕ) (begin log : List Logged) (mine : List Exchange) (tied 
 
   -- an attempt at changes that may be made keeps what stands
   pub attempt_stands : (before part later : List Exchange) → mine ≡ before ++ (part ++ later) → (attempt : Attempt) → Said manner (attempts shapes planned) part attempt
-      → StandsWith log (λ db. MayWrite db shapes planned) before (part ++ later) → Stands log (before ++ part) later
+      → StandsBy log (MayMake log shapes planned) before (part ++ later) → Stands log (before ++ part) later
   unfolding attempts Said
   attempt_stands before [] later is attempt held from = absurd held
   attempt_stands before (x ∷ part) later is attempt held from = by_reply x.reply refl held.2 held.3
@@ -246,16 +248,32 @@ unless_asks (Err why) = tt
 
 module _ (session : ℕ) (begin log : List Logged) (mine : List Exchange) (tied : Tied session begin log mine) (shapes : List TableTree) (planned : List Planned) where
   -- changes that may be made are asked, and checked
-  pub applies_bring : Brings log mine (StandsWith log (λ db. MayWrite db shapes planned)) (applies shapes planned) (λ (result : Result ℕ Failure). Stands log)
+  pub applies_bring : Brings log mine (StandsBy log (MayMake log shapes planned)) (applies shapes planned) (λ (result : Result ℕ Failure). Stands log)
   unfolding applies
-  applies_bring = quiet_brings log mine (StandsWith log (λ db. MayWrite db shapes planned)) (applies shapes planned) (λ (result : Result ℕ Failure). Stands log)
+  applies_bring = quiet_brings log mine (StandsBy log (MayMake log shapes planned)) (applies shapes planned) (λ (result : Result ℕ Failure). Stands log)
       (tt, only_gives AnyStep NoCommit (attempts shapes planned) (λ attempt. unless_broken attempt.came) (says_quiet NoCommit (attempts shapes planned) quiet_commits) (λ attempt. unless_asks attempt.came)) came
     where
       came : (before part later : List Exchange) (p new : SessionProgress) (result : Result ℕ Failure) → mine ≡ before ++ (part ++ later) → Held (applies shapes planned) p part result new
-          → StandsWith log (λ db. MayWrite db shapes planned) before (part ++ later) → Stands log (before ++ part) later
+          → StandsBy log (MayMake log shapes planned) before (part ++ later) → Stands log (before ++ part) later
       came before part later p new result is held from =
           let on = holds_apart (attempts shapes planned) (λ attempt. unless_broken attempt.came) p new part result held in
           let whole : part ≡ on.front = on.parts ∙ ap (λ (xs : List Exchange). on.front ++ xs) (unless_apart on.came.came _ new on.back result on.rest) ∙ append-nil on.front in
           subst (λ (xs : List Exchange). Stands log (before ++ xs) later) (sym whole)
           (attempt_stands session begin log mine tied _ shapes planned before on.front later (is ∙ ap (λ (xs : List Exchange). before ++ (xs ++ later)) whole) on.came on.held
-          (subst (λ (xs : List Exchange). StandsWith log (λ db. MayWrite db shapes planned) before (xs ++ later)) whole from))
+          (subst (λ (xs : List Exchange). StandsBy log (MayMake log shapes planned) before (xs ++ later)) whole from))
+
+  -- where rows can be read behind them for their checks, and these keep all intact
+  may_make : (before later : List Exchange) → mine ≡ before ++ later → MayWrite (at_place log before later) shapes planned → MayMake log shapes planned before later
+  may_make before later is may manner part rest mark split wrote intact =
+      let whole : mine ≡ before ++ (part ++ rest) = is ∙ ap (λ (xs : List Exchange). before ++ xs) split in
+      let place : at_place log before later ≡ at_place log before rest =
+      ap (at_place log before) split
+      ∙ ap (λ (n : ℕ). With (State (take n log)) (map change_of (progress_of before).own)) (place_past (length log) part rest (held_goes manner (writes shapes planned) part (Ok (written.Done mark)) wrote)) in
+      let there : MayWrite (at_place log before rest) shapes planned = subst (λ (db : Database). MayWrite db shapes planned) place may in
+      let passes = writes_pass log mine before part rest manner shapes planned mark whole tied.ranges wrote there.rows there.parents in
+      subst Intact (sym (writes_leave log before part rest manner shapes planned mark wrote)) (there.intact passes)
+
+  pub applies_when : Brings log mine (StandsWith log (λ db. MayWrite db shapes planned)) (applies shapes planned) (λ (result : Result ℕ Failure). Stands log)
+  applies_when =
+      brings_mono log mine (StandsBy log (MayMake log shapes planned)) (StandsWith log (λ db. MayWrite db shapes planned)) (applies shapes planned) (λ (result : Result ℕ Failure). Stands log) (λ (result : Result ℕ Failure). Stands log)
+      (λ before later is from. (from.0, λ intact. may_make before later is (from.1 intact))) (λ a before later is stands. stands) applies_bring
