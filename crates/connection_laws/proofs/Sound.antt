@@ -17,9 +17,9 @@ use Rattle.engine_core.specs.Solo.{asked_by}
 use Rattle.engine_core.proofs.Fitting.{run_known}
 use Rattle.write_laws.specs.Reading.{HasCommit}
 use Rattle.write_laws.proofs.Logged.{logged_commits}
-use Rattle.write_laws.proofs.Empty.{firm_empty}
 use Rattle.sound_laws.specs.Stands.{Intact}
 use Rattle.sound_laws.specs.Tied.{Tied}
+use Rattle.sound_laws.proofs.Logs.{intact_empty}
 use Rattle.sound_laws.proofs.Runs.{run_sound}
 use Rattle.sound_laws.proofs.Serving.{all_keep}
 use Rattle.connection_laws.specs.Laws.{AreConnections, ConnectionSound, ConnectionsKeep, ConnectionsSound, HistorySound, IsConnection}
@@ -78,7 +78,7 @@ module _ (log : List Logged) (mine : ℕ → List Exchange) (tied : (session : �
       subst (λ (n : ℕ). Intact (State (take n log))) next after
 
   every_place : (place : ℕ) → Intact (State (take place log))
-  every_place zero = firm_empty
+  every_place zero = intact_empty
   every_place (suc place) = by_commit (slice_get log place) refl (every_place place)
     where
       by_commit : (o : Option Logged) → slice_get log place ≡ o → Intact (State (take place log)) → Intact (State (take (suc place) log))

@@ -20,19 +20,19 @@ pub fn law_served_connection()
     ensures served { ConnectionServed }
 {}
 
-/// Each commit of a session that has served connections, one behind another, keeps its database firm, and so sound.
+/// Each commit of a session that has served connections, one behind another, keeps its database intact, and so sound.
 pub fn law_connections_keep()
     ensures { ConnectionsKeep }
 {}
 
 /// Where the exchanges of each session fit one log, and are those of connections, every database that the first commits of the
-/// log leave is firm, and so sound.
+/// log leave is intact, and so sound.
 pub fn law_history_sound()
     ensures { HistorySound }
 {}
 
 /// In every run of any sessions that have served connections, one behind another, every database that the first commits of
-/// the log leave is firm, and so sound.
+/// the log leave is intact, and so sound.
 pub fn law_connections_sound()
     ensures { ConnectionsSound }
 {}

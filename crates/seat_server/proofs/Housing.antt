@@ -15,7 +15,7 @@ use Rattle.engine_core.specs.Machine.{Ask, mine_in}
 use Rattle.engine_core.specs.Machine.{KnowsSteps}
 use Rattle.shared_port.specs.Asked.{EngineSeat}
 use Rattle.shared_port.specs.SharedPort.{IsIdle}
-use Rattle.write_laws.specs.Sound.{Firm}
+use Rattle.sound_laws.specs.Stands.{Intact}
 use Rattle.connection_laws.specs.Laws.{AreConnections}
 use Rattle.connection_laws.proofs.Sound.{history_sound}
 use Rattle.seat_server.specs.Served.{Course, Follow, HasServed, IsCourse, new_seat}
@@ -60,8 +60,8 @@ module _ (engine : Engine) (number : ℕ) where
       })
       by_number (inr differ) rest = rw (apart seat.number number differ) (rest differ)
 
-pub all_firm : (engine : Engine) (seats : List EngineSeat) → All (AgreesSeat engine) seats → All HasServed seats → ((number : ℕ) → All (λ seat. seat.number ≢ number) seats → KnowsSteps engine number []) → (place : ℕ) → Firm (State (take place engine.log))
-all_firm engine seats agree served others place =
+pub all_intact : (engine : Engine) (seats : List EngineSeat) → All (AgreesSeat engine) seats → All HasServed seats → ((number : ℕ) → All (λ seat. seat.number ≢ number) seats → KnowsSteps engine number []) → (place : ℕ) → Intact (State (take place engine.log))
+all_intact engine seats agree served others place =
     let each : (number : ℕ) → Stands engine number (steps_at number seats) = λ number. stands engine number seats agree served (others number) in
     let fits : (number : ℕ) → Fits number [] engine.log (mine_in (steps_at number seats)) = λ number. (each number).known.0.accords.fits in
     history_sound engine.log (λ number. mine_in (steps_at number seats)) (λ number. record {

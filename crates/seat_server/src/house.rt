@@ -5,7 +5,8 @@ ghost use Rattle.std.specs.Vec.{vec_capacity};
 ghost use Rattle.std.specs.List.{All};
 ghost use Rattle.step_model.specs.Log.{State};
 ghost use Rattle.history_laws.specs.Knows.{Knows};
-ghost use Rattle.write_laws.specs.Sound.{Sound, Firm};
+ghost use Rattle.write_laws.specs.Indexed.{Sound};
+ghost use Rattle.sound_laws.specs.Stands.{Intact};
 ghost use Rattle.outside_io.specs.Bytes.{Takes};
 ghost use Rattle.session_server.specs.Conversation.{Completes, CountsFault};
 ghost use Rattle.seat_server.specs.Served.{ServedConnection};
@@ -71,7 +72,7 @@ impl House {
         ensures seats { All (KnowsSeat result) self.seats }
         ensures others { (number : ℕ) → All (λ s. s.number ≢ number) self.seats → Knows result number [] }
         ensures sound { (place : ℕ) → Sound (State (take place result.log)) }
-        ensures firm { (place : ℕ) → Firm (State (take place result.log)) }
+        ensures intact { (place : ℕ) → Intact (State (take place result.log)) }
     {
         let House {
             desk,

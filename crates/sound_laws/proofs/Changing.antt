@@ -1,5 +1,5 @@
 -- What a write and DROP ask keeps what stands: they plan on what they have read in the database at their transaction's place.
-use Rattle.std.proofs.Common.{◌≡◌, ℕ, Bool, true, false, if◌then◌else◌, List, [], ◌∷◌, ◌++◌, length, Option, Some, None, Result, Ok, Err, refl, sym, ap, subst, ◌∙◌, append-nil}
+use Rattle.std.proofs.Common.{◌≡◌, ℕ, Bool, true, false, if◌then◌else◌, List, [], ◌∷◌, ◌++◌, length, map, Option, Some, None, Result, Ok, Err, refl, sym, ap, subst, ◌∙◌, append-nil}
 use Rattle.std.specs.Prelude.{nat_lt}
 use Rattle.std.specs.Option.{ForSome}
 use Rattle.tsql_tree.specs.declared.definition.Definition.{Definition}
@@ -17,12 +17,13 @@ use Rattle.step_model.specs.Dialog.{Held as Said}
 use Rattle.step_model.specs.Exchange.{Exchange}
 use Rattle.step_model.specs.Log.{Commit as Logged}
 use Rattle.step_model.specs.Ranges.{Rows, no_memory}
+use Rattle.constraint_check.specs.Laws.{behind}
 use Rattle.constraint_check.specs.Reads.{all_rows, rows_table, shape_of}
 use Rattle.table_rows.specs.Definitions.{tables_of}
 use Rattle.dml_exec.specs.declared.refusal.Level.{Level}
 use Rattle.dml_exec.specs.declared.refusal.Level.TheVariants.{Serializable}
 use Rattle.dml_exec.specs.declared.refusal.Refusal.{Refusal}
-use Rattle.dml_exec.specs.Planning.{table_written}
+use Rattle.dml_exec.specs.Planning.{erasure, table_written}
 use Rattle.dml_exec.specs.Reading.{GivenRows, TableRead, fetches_any, fits, images_of, none_given, reads_of}
 use Rattle.dml_exec.proofs.ReadTables.{target_whole}
 use Rattle.write_laws.specs.Planning.{HaveColumns, rows_before}
@@ -47,12 +48,15 @@ use Rattle.statement_paths.proofs.Only.{AnyStep, IsTouch, only_comes, only_if, o
 use Rattle.statement_paths.proofs.Still.{Reads}
 use Rattle.statement_paths.proofs.Working.{at_level_reads, images_read as images_fetched}
 use Rattle.write_laws.specs.Keeping.{AreDefinitions, IsNoTable}
+use Rattle.write_laws.specs.Indexed.{own_rows}
 use Rattle.write_laws.specs.Plans.{IsDropPlanned, IsPlanned}
 use Rattle.write_laws.specs.Sound.{IsTableOf}
-use Rattle.write_laws.proofs.Drops.{firm_drop_planned}
+use Rattle.write_laws.proofs.Drops.{firm_drop_planned, of_table as erased_rows, plan as drop_plan}
 use Rattle.write_laws.proofs.Erased.{firm_erased}
+use Rattle.write_laws.proofs.Indexed.{indexed_erased}
 use Rattle.write_laws.proofs.KeySizes.{keys_sized}
-use Rattle.write_laws.proofs.PlannedWrites.{firm_planned, planned_readable}
+use Rattle.write_laws.proofs.Owned.{AreOwn, dropped_own, firm_own, indexed_own, passes_behind, read_own, rows_behind, table_own}
+use Rattle.write_laws.proofs.PlannedWrites.{firm_planned, of_table as written_rows, planned_readable, shape as shape_written}
 use Rattle.sound_laws.specs.Stands.{Intact, Brings, Stands}
 use Rattle.sound_laws.specs.Tied.{Tied}
 use Rattle.sound_laws.proofs.Defined.{definitions_hold}
@@ -142,9 +146,9 @@ module _ (session : ℕ) (begin log : List Logged) (mine : List Exchange) (tied 
   -- ---- what is read for both
 
   all_defined : (before part later : List Exchange) (p new : SessionProgress) (definitions : List Definition) → mine ≡ before ++ (part ++ later) → Held reads_definitions p part (Ok definitions) new
-      → Intact (at_place log before (part ++ later)) → AreDefinitions (at_place log before (part ++ later)) definitions
+      → Intact (at_place log before (part ++ later)) → AreDefinitions (own_rows (at_place log before (part ++ later))) definitions
   all_defined before part later p new definitions is held intact =
-      definitions_hold log mine before part later p.settings.manner definitions tied.ranges is (definitions_apart p.settings.manner p new part definitions refl held) intact
+      definitions_hold log mine before part later p.settings.manner definitions tied.ranges is (definitions_apart p.settings.manner p new part definitions refl held) intact.firm
 
   -- ---- a write
 
@@ -163,17 +167,21 @@ module _ (session : ℕ) (begin log : List Logged) (mine : List Exchange) (tied 
 
     -- the table that is written, and all definitions
     abbrev Known : List Definition → Database → Type 0
-    Known definitions db = IsTarget around named write db × AreDefinitions db definitions
+    Known definitions db = IsTarget around named write db × AreDefinitions (own_rows db) definitions
 
     may_write : (definitions : List Definition) (images : List Rows) (planned : List Planned) (p : SessionProgress) (db : Database) → Intact db → Known definitions db → HaveAll named write images
         → planned_over around p named write images ≡ Ok planned → MayPut definitions planned db
     may_write definitions images planned p db intact known columns plans =
-        let plan : IsPlanned around p db named write images planned = record { defined = λ of found. (known.0 of found).0; read = columns; plans = plans } in
-        let readable = planned_readable around p db (tables_of definitions) named write images planned intact known.1.tables plan in
+        let plan : IsPlanned around p (own_rows db) named write images planned = record { defined = λ of found. (known.0 of found).0; read = columns; plans = plans } in
+        let readable = planned_readable around p (own_rows db) (tables_of definitions) named write images planned intact.firm known.1.tables plan in
+        let own : AreOwn planned = table_own (shape_written around p (own_rows db) named write images planned intact.firm plan).name planned (written_rows around p (own_rows db) named write images planned intact.firm plan) in
         record {
           parents = readable.parents;
-          rows = readable.rows;
-          intact = λ passes. firm_planned around p db (tables_of definitions) named write images planned intact known.1.tables plan passes;
+          rows = rows_behind db planned (tables_of definitions) own readable.rows;
+          intact = λ passes. record {
+            firm = firm_own db planned own (firm_planned around p (own_rows db) (tables_of definitions) named write images planned intact.firm known.1.tables plan (passes_behind db planned (tables_of definitions) own passes));
+            indexed = indexed_own db planned intact.indexed own;
+          };
         }
 
     abbrev Applying : List Definition → List Planned → Effect → List TriggerTree → Fired → Doing (Result Written Failure)
@@ -260,18 +268,28 @@ module _ (session : ℕ) (begin log : List Logged) (mine : List Exchange) (tied 
   module _ (around : Around) (shape : TableTree) where
     -- all definitions, and the table among them
     abbrev There : List Definition → Database → Type 0
-    There definitions db = IsTableOf db shape × AreDefinitions db definitions
+    There definitions db = IsTableOf db shape × AreDefinitions (own_rows db) definitions
 
     may_drop : (definitions : List Definition) (images : List Rows) (planned : List Planned) (p : SessionProgress) (db : Database) → Intact db → There definitions db → unless_referred shape.name (tables_of definitions) ≡ Ok tt
         → IsImage db (Some shape) shape.name images → dropped around p definitions shape shape.name images ≡ Ok planned → MayWrite db [] planned
     may_drop definitions images planned p db intact there free image plans =
-        let plan : IsDropPlanned around p db definitions shape image.0 planned = record {
+        let plan : IsDropPlanned around p (own_rows db) definitions shape image.0 planned = record {
           defined = there.0;
-          read = image.2;
+          read = read_own db (fits (Some shape)) shape.name image.0 image.2;
           unreferred = free;
           plans = sym (ap (dropped around p definitions shape shape.name) image.1) ∙ plans;
         } in
-        record { parents = tt; rows = tt; intact = λ passes. firm_drop_planned around p db definitions shape image.0 planned intact there.1 plan }
+        let erased : List Planned = map (erasure (rows_table shape.name) (key_places (Some shape))) image.0 in
+        let own : AreOwn planned = subst AreOwn (sym (drop_plan around p (own_rows db) definitions shape image.0 planned intact.firm plan))
+        (dropped_own definitions shape.name erased (table_own shape.name erased (erased_rows around p (own_rows db) definitions shape image.0 planned intact.firm plan))) in
+        record {
+          parents = tt;
+          rows = tt;
+          intact = λ passes. record {
+            firm = firm_own db planned own (firm_drop_planned around p (own_rows db) definitions shape image.0 planned intact.firm there.1 plan);
+            indexed = indexed_own db planned intact.indexed own;
+          };
+        }
 
     abbrev Fetching : Doing (Result (List Rows) Failure)
     Fetching = with_room (reads_at none_given Serializable [] (shape ∷ []) (bound.Write (whole shape.name)))
@@ -304,7 +322,7 @@ module _ (session : ℕ) (begin log : List Logged) (mine : List Exchange) (tied 
               there,
               whole_read before part later p.settings.manner shape images is
                   (image_apart none_given Serializable [] (shape ∷ []) (bound.Write (whole shape.name)) p new part images (room_apart (reads_at none_given Serializable [] (shape ∷ []) (bound.Write (whole shape.name))) p new part images held))
-                  ((keys_sized (at_place log before (part ++ later)) intact).1 shape there.0.0),
+                  ((keys_sized (own_rows (at_place log before (part ++ later))) intact.firm).1 shape there.0.0),
             ))
             (on_images definitions)
 
@@ -325,8 +343,14 @@ module _ (session : ℕ) (begin log : List Logged) (mine : List Exchange) (tied 
       From : List Exchange → List Exchange → Type 0
       From = StandsWith log (λ db. IsNoTable db name)
 
+      erased_intact : (db : Database) → Intact db → IsNoTable db name → Intact (behind db (definition_erased name ∷ []))
+      erased_intact db intact none = record {
+        firm = firm_own db (definition_erased name ∷ []) (refl, tt) (firm_erased (own_rows db) name intact.firm none);
+        indexed = indexed_erased db name intact.firm intact.indexed none;
+      }
+
       by_room : (enough : Bool) → Brings log mine From (if enough then applies [] (definition_erased name ∷ []) else fails no_memory) (λ (put : Result ℕ Failure). Stands log)
       by_room true = brings_mono log mine (StandsWith log (λ db. MayWrite db [] (definition_erased name ∷ []))) From (applies [] (definition_erased name ∷ [])) (λ (put : Result ℕ Failure). Stands log) (λ (put : Result ℕ Failure). Stands log)
-          (λ before later is from. (from.0, λ intact. record { parents = tt; rows = tt; intact = λ passes. firm_erased (at_place log before later) name (from.0 intact).now (from.1 intact) })) (λ a before later is stands. stands)
+          (λ before later is from. (from.0, λ intact. record { parents = tt; rows = tt; intact = λ passes. erased_intact (at_place log before later) (from.0 intact).now (from.1 intact) })) (λ a before later is stands. stands)
           (applies_when session begin log mine tied [] (definition_erased name ∷ []))
       by_room false = brings_over log mine From (Err (plain no_memory)) (λ (put : Result ℕ Failure). Stands log) (λ before later is from. from.0)

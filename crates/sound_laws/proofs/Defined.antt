@@ -24,9 +24,11 @@ use Rattle.write_laws.proofs.Walks.{walk_read}
 use Rattle.statement_paths.specs.Paths.{AddsBy, AreDefined}
 use Rattle.write_laws.specs.Found.{Entry, ReadAs}
 use Rattle.write_laws.specs.Keeping.{AreDefinitions}
+use Rattle.write_laws.specs.Indexed.{own_rows}
 use Rattle.write_laws.specs.Sound.{Firm}
 use Rattle.write_laws.proofs.Found.{found_definitions}
 use Rattle.write_laws.proofs.KeySizes.{keys_sized}
+use Rattle.write_laws.proofs.Owned.{in_own}
 use Rattle.sound_laws.proofs.Here.{hold_fetches}
 use Rattle.sound_laws.proofs.Trees.{front_place}
 
@@ -82,11 +84,12 @@ module _ (manner : Manner) (all : List Definition) where
       by_reply reply adds goes = absurd adds
 
 pub definitions_hold : (log : List Logged) (mine front part rest : List Exchange) (manner : Manner) (all : List Definition) → ranges_hold log mine
-    → mine ≡ front ++ (part ++ rest) → AreDefined manner First [] part all → Firm (at_place log front (part ++ rest)) → AreDefinitions (at_place log front (part ++ rest)) all
+    → mine ≡ front ++ (part ++ rest) → AreDefined manner First [] part all → Firm (own_rows (at_place log front (part ++ rest))) → AreDefinitions (own_rows (at_place log front (part ++ rest))) all
 definitions_hold log mine front part rest manner all ranges is defined firm =
     let holds = defined_holds manner all part First [] defined in
     let there : at_place log front (part ++ rest) ≡ at_place log front rest = front_place log front part rest (hold_fetches part holds) in
     let read = all_read manner all part First [] defined in
     let rows : In (at_place log front rest) objects First Last read.entries = walk_read log mine front part rest 1 objects First Last S read.entries is ranges read.walks
-    (subst (λ (db : Database). KeysHave 1 db objects) there (keys_sized (at_place log front (part ++ rest)) firm).0) in
-    found_definitions (at_place log front (part ++ rest)) read.entries all firm (subst (λ (db : Database). In db objects First Last read.entries) (sym there) rows) read.reads
+    (subst (λ (db : Database). KeysHave 1 db objects) there (keys_sized (own_rows (at_place log front (part ++ rest))) firm).0) in
+    found_definitions (own_rows (at_place log front (part ++ rest))) read.entries all firm
+    (in_own (at_place log front (part ++ rest)) objects_name First Last read.entries (subst (λ (db : Database). In db objects First Last read.entries) (sym there) rows)) read.reads

@@ -1,5 +1,5 @@
 -- Where a procedure or trigger is created, or not, what stands goes on: what is put defines it, and a trigger's table is there.
-use Rattle.std.proofs.Common.{◌≡◌, ◌||◌, ℕ, not, Bool, true, false, if◌then◌else◌, List, Option, Some, None, Result, refl, subst}
+use Rattle.std.proofs.Common.{◌≡◌, ◌||◌, ℕ, not, Bool, true, false, if◌then◌else◌, List, [], ◌∷◌, Option, Some, None, Result, refl, subst}
 use Rattle.std.specs.Cmp.Lexicographic.{bytes_decides}
 use Rattle.value_types.specs.Units.{same_units}
 use Rattle.tsql_tree.specs.declared.definition.Definition.{Definition}
@@ -20,9 +20,13 @@ use Rattle.batch_meaning.specs.Selecting.{Effect, not_bound_so}
 use Rattle.batch_meaning.specs.Values.{outside_limits}
 use Rattle.batch_meaning.specs.Working.{own}
 use Rattle.batch_meaning.specs.Writes.{creates, creates_definition, is_odd_list, puts_definition, where_table}
-use Rattle.write_laws.specs.Keeping.{CanBeDefined}
+use Rattle.write_laws.specs.Indexed.{own_rows}
+use Rattle.write_laws.specs.Keeping.{CanBeDefined, IsPut}
 use Rattle.write_laws.specs.Sound.{HasTable}
+use Rattle.write_laws.proofs.Indexed.{indexed_put}
+use Rattle.write_laws.proofs.Owned.{firm_own}
 use Rattle.write_laws.proofs.Puts.{firm_put}
+use Rattle.statement_paths.specs.Paths.{definition_put}
 use Rattle.statement_paths.proofs.Only.{AnyStep, only_naming}
 use Rattle.text_laws.specs.Laws.{KeepsDefinition}
 use Rattle.text_laws.specs.Placeless.{AreLike}
@@ -38,8 +42,8 @@ use Rattle.sound_laws.proofs.Trees.{StandsWith, WritesNothing, carries_still}
 
 -- ---- what may be put
 
--- what may be defined is so whatever its places are
-can_like : (db : Database) (of own : Definition) → AreLike of own → CanBeDefined db of → CanBeDefined db own
+-- what may be defined is so whatever its places are, and beside own rows alone
+can_like : (db : Database) (of own : Definition) → AreLike of own → CanBeDefined db of → CanBeDefined (own_rows db) own
 can_like db (Procedure of) (Procedure own) like can = tt
 can_like db (Trigger of) (Trigger own) like can = subst (HasTable db) like.table can
 can_like db (Table of) own like can = absurd like
@@ -49,7 +53,12 @@ can_like db (Trigger of) (Table own) like can = absurd like
 can_like db (Trigger of) (Procedure own) like can = absurd like
 
 may_put : (db : Database) (of : Definition) (text : List ℕ) → KeepsDefinition of text → is_objects (defined_name of) ≡ false → CanBeDefined db of → Intact db → MayCreate (defined_name of) text db
-may_put db of text keeps other can intact free = firm_put db (defined_name of) text keeps.0 intact (record { free = free; defines = keeps.1; other = other; can = can_like db of keeps.0 keeps.2 can })
+may_put db of text keeps other can intact free =
+    let put : IsPut (own_rows db) (defined_name of) text keeps.0 = record { free = free; defines = keeps.1; other = other; can = can_like db of keeps.0 keeps.2 can } in
+    record {
+      firm = firm_own db (definition_put (defined_name of) text ∷ []) (refl, tt) (firm_put (own_rows db) (defined_name of) text keeps.0 intact.firm put);
+      indexed = indexed_put db (defined_name of) text keeps.0 intact.firm intact.indexed put;
+    }
 
 module _ (of : Definition) (text : List ℕ) (keeps : KeepsDefinition of text) (session : ℕ) (begin log : List Logged) (mine : List Exchange) (tied : Tied session begin log mine) where
   abbrev Made : Result Effect Failure → List Exchange → List Exchange → Type 0

@@ -1,14 +1,21 @@
 -- Where each commit is one of a batch, each database of the log is intact; and so it is sound.
 use Rattle.std.proofs.Common.{◌≡◌, ℕ, zero, suc, ◌+◌, ◌-◌, ◌≤◌, ◌<◌, List, length, take, subst, arith}
+use Rattle.step_model.specs.Database.{nothing}
 use Rattle.step_model.specs.Log.{Commit as Logged, State}
-use Rattle.write_laws.proofs.Empty.{firm_empty}
+use Rattle.write_laws.specs.Indexed.{own_rows}
+use Rattle.write_laws.proofs.Indexed.{indexed_empty}
+use Rattle.write_laws.proofs.Owned.{firm_nothing}
 use Rattle.write_laws.proofs.Whole.{firm_sound}
 use Rattle.sound_laws.specs.Laws.{IntactSound, IsOfBatch, LogSound, WholeLogSound}
 use Rattle.sound_laws.specs.Stands.{Intact}
 use Rattle.sound_laws.proofs.Serving.{served_keep}
 
 pub intact_sound : IntactSound
-intact_sound db intact = firm_sound db intact
+intact_sound db intact = record { rows = firm_sound (own_rows db) intact.firm; indexed = intact.indexed }
+
+-- so is one without rows
+pub intact_empty : Intact nothing
+intact_empty = record { firm = firm_nothing; indexed = indexed_empty }
 
 -- one commit more
 one_more : (log : List Logged) (place : ℕ) → IsOfBatch log place → Intact (State (take place log)) → Intact (State (take (place + 1) log))
@@ -34,4 +41,4 @@ log_sound log first intact each place low high =
 
 pub whole_log_sound : WholeLogSound
 whole_log_sound log each place high =
-    log_sound log 0 firm_empty (λ place low. each place) place (omega arith) high
+    log_sound log 0 intact_empty (λ place low. each place) place (omega arith) high

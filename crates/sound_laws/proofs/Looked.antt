@@ -16,6 +16,7 @@ use Rattle.write_laws.proofs.Changes.{all_both}
 use Rattle.statement_paths.specs.Asked.{AskOnly}
 use Rattle.write_laws.specs.Reads.{HoldsIt}
 use Rattle.statement_paths.specs.Paths.{AreLookedUp, IsFound, IsFoundBy, IsLookedUp}
+use Rattle.write_laws.specs.Indexed.{own_rows}
 use Rattle.write_laws.specs.Sound.{IsDefined, Firm}
 use Rattle.write_laws.proofs.Found.{found_defined}
 
@@ -59,7 +60,7 @@ looked_holds manner known_names (name ∷ names) so_far definitions exchanges (f
     ]))
 
 -- what one finds is defined
-module _ (db : Database) (firm : Firm db) (known_names : KnownNames) where
+module _ (db : Database) (firm : Firm (own_rows db)) (known_names : KnownNames) where
   abbrev AllThere : List Definition → Type 0
   AllThere definitions = AllByRecursion (IsThere db known_names) definitions
 
@@ -74,7 +75,7 @@ module _ (db : Database) (firm : Firm db) (known_names : KnownNames) where
 
   found_by : (name : List ℕ) (reply : Reply) (found : Option Definition) → AnswersIn db (definition_fetch name) reply → IsFound reply found → IsThereIf found
   found_by name (replies.Row key row at) None answer is = tt
-  found_by name (replies.Row key row at) (Some definition) answer is = inl (found_defined db key row definition firm answer.1 is)
+  found_by name (replies.Row key row at) (Some definition) answer is = inl (found_defined (own_rows db) key row definition firm answer.1 is)
   found_by name (replies.Gone key at) found answer is = subst IsThereIf (sym is) tt
   found_by name (replies.End at) found answer is = subst IsThereIf (sym is) tt
   found_by name reply found answer is = absurd is
@@ -111,10 +112,10 @@ IsDefinedIf db None = Unit {0}
 IsDefinedIf db (Some definition) = DefinedIn db definition
 
 -- where it stands for nothing else, what was found for it is defined
-module _ (db : Database) (firm : Firm db) where
+module _ (db : Database) (firm : Firm (own_rows db)) where
   by_reply : (name : List ℕ) (reply : Reply) (found : Option Definition) → AnswersIn db (definition_fetch name) reply → IsFound reply found → IsDefinedIf db found
   by_reply name (replies.Row key row at) None answer is = tt
-  by_reply name (replies.Row key row at) (Some definition) answer is = found_defined db key row definition firm answer.1 is
+  by_reply name (replies.Row key row at) (Some definition) answer is = found_defined (own_rows db) key row definition firm answer.1 is
   by_reply name (replies.Gone key at) found answer is = subst (IsDefinedIf db) (sym is) tt
   by_reply name (replies.End at) found answer is = subst (IsDefinedIf db) (sym is) tt
   by_reply name reply found answer is = absurd is

@@ -120,7 +120,7 @@ module _ (session : ℕ) (begin log : List Logged) (mine : List Exchange) (tied 
         binds = (comes_apart (bound_over definitions mid.vars statement) mid next first of bound).1;
         none = λ asks. none_found p.settings.manner known_names (looked_up statement) [] definitions front names asks tt;
         first = first_none p.settings.manner known_names (looked_up statement) definitions front names;
-        there = looked_there (at_place log before (part ++ later)) intact known_names p.settings.manner (looked_up statement) [] definitions front names answered tt;
+        there = looked_there (at_place log before (part ++ later)) intact.firm known_names p.settings.manner (looked_up statement) [] definitions front names answered tt;
       })
 
   -- what goes on by what a statement is bound to may count on that
@@ -144,4 +144,4 @@ module _ (session : ℕ) (begin log : List Logged) (mine : List Exchange) (tied 
           let holds = by_holds p.settings.manner known name part found by in
           let there : at_place log before (part ++ later) ≡ at_place log before later = front_place log before part later (hold_fetches part holds) in
           let answered : Answered (at_place log before (part ++ later)) part = subst (λ (db : Database). Answered db part) (sym there) (answers log mine before part later is tied.ranges holds) in
-          (fact, name_defined (at_place log before (part ++ later)) intact p.settings.manner name known part found none by answered)
+          (fact, name_defined (at_place log before (part ++ later)) intact.firm p.settings.manner name known part found none by answered)

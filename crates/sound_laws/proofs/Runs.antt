@@ -16,11 +16,11 @@ use Rattle.history_laws.proofs.Laws.{law_runs}
 use Rattle.write_laws.specs.Reading.{HasCommit}
 use Rattle.write_laws.proofs.Commits.{commit_leaves}
 use Rattle.write_laws.proofs.States.{every_state}
-use Rattle.write_laws.proofs.Empty.{firm_empty}
 use Rattle.sound_laws.specs.Runs.{RunSound, ServeTasks}
 use Rattle.sound_laws.specs.Stands.{Intact}
 use Rattle.sound_laws.specs.Tied.{Tied}
 use Rattle.sound_laws.proofs.Coming.{runs_come}
+use Rattle.sound_laws.proofs.Logs.{intact_empty}
 use Rattle.sound_laws.proofs.Serving.{all_keep}
 
 module _ (asked : List Asked) (engine : Engine) (run : Run opening asked engine) (serve : ServeTasks asked) where
@@ -48,4 +48,4 @@ module _ (asked : List Asked) (engine : Engine) (run : Run opening asked engine)
       (subst (λ (n : ℕ). Intact (State (take (place + n) engine.log))) (ap length so_many) after)
 
 pub run_sound : RunSound
-run_sound asked engine run serve place = every_state asked engine run Intact firm_empty (kept asked engine run serve) place
+run_sound asked engine run serve place = every_state asked engine run Intact intact_empty (kept asked engine run serve) place

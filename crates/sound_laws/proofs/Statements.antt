@@ -42,12 +42,16 @@ use Rattle.batch_meaning.specs.Writes.{Written, change_bound, changes, creates, 
 use Rattle.statement_paths.proofs.Only.{AnyStep, IsTouch, only_bind, only_comes, only_if, only_naming, only_room, only_then}
 use Rattle.statement_paths.proofs.Working.{images_read as images_fetched}
 use Rattle.statement_paths.specs.Asked.{IsFetch}
+use Rattle.statement_paths.specs.Paths.{definition_put}
 use Rattle.write_laws.specs.Reads.{at_place}
 use Rattle.write_laws.specs.Sound.{IsTableOf}
 use Rattle.write_laws.proofs.Bound.{bound_stands}
-use Rattle.write_laws.specs.Keeping.{IsNoTable}
+use Rattle.write_laws.specs.Indexed.{own_rows}
+use Rattle.write_laws.specs.Keeping.{IsCreated, IsNoTable}
 use Rattle.write_laws.proofs.Created.{firm_created}
 use Rattle.write_laws.proofs.Erased.{no_table}
+use Rattle.write_laws.proofs.Indexed.{indexed_created}
+use Rattle.write_laws.proofs.Owned.{firm_own}
 use Rattle.sound_laws.specs.Stands.{Carries, Intact, Keeps, Brings, Stands, base_of}
 use Rattle.text_laws.specs.Laws.{ReadsBackAs}
 use Rattle.sound_laws.specs.Tied.{Tied}
@@ -296,7 +300,7 @@ module _ (around : Around) where
 
     other_on : (definition : Definition) → ((shape : TableTree) → definition ≡ Table shape → ⊥) → defined_name definition ≡ name → Brings log mine (Found (Some definition)) (drops_definition around name) Dropped
     other_on definition other named = brings_mono log mine (StandsWith log (λ db. IsNoTable db name)) (Found (Some definition)) (drops_definition around name) Dropped Dropped
-        (λ before later is from. (from.0, λ intact. subst (IsNoTable (at_place log before later)) named (no_table (at_place log before later) (from.0 intact).now (defined_name definition) definition (from.1 intact).1 other))) (λ a before later is stands. stands)
+        (λ before later is from. (from.0, λ intact. subst (IsNoTable (at_place log before later)) named (no_table (own_rows (at_place log before later)) (from.0 intact).now.firm (defined_name definition) definition (from.1 intact).1 other))) (λ a before later is stands. stands)
         (erases_bring session begin log mine tied around name)
 
     found_on : (kind : DropKind) (found : Option Definition) → Brings log mine (Found found) (drops_found around kind name found) Dropped
@@ -338,12 +342,16 @@ may_create : (db : Database) (around : Around) (statement : Statement) (table : 
 may_create db around statement table text shapes of form back other prepared intact free =
     let defines : Defines table.name text (Table table) = back prepared.definitions prepared.vars of prepared.binds in
     let defined = all_more (IsThere db (known_by around statement)) (DefinedIn db) (λ definition there. elim there [ inl is ↦ is | inr known ↦ absurd (create_unknown around statement table text form definition known) ]) prepared.definitions prepared.there in
-    firm_created db table.name text table intact (record {
+    let created : IsCreated (own_rows db) table.name text table = record {
       free = free;
       defines = defines;
       other = other;
-      stands = bound_stands db prepared.definitions prepared.vars statement table text of intact defined form prepared.binds;
-    })
+      stands = bound_stands (own_rows db) prepared.definitions prepared.vars statement table text of intact.firm defined form prepared.binds;
+    } in
+    record {
+      firm = firm_own db (definition_put table.name text ∷ []) (refl, tt) (firm_created (own_rows db) table.name text table intact.firm created);
+      indexed = indexed_created db table.name text table intact.firm intact.indexed created;
+    }
 
 -- where nothing was looked up, in any other database too
 elsewhere : (db other : Database) (around : Around) (statement : Statement) (shapes : List TableTree) (of : Bound) → asks_any (known_by around statement) (looked_up statement) ≡ false → IsPrepared around statement shapes of db → IsPrepared around statement shapes of other

@@ -14,14 +14,16 @@ use Rattle.step_model.specs.Own.{Progress, progress_of}
 use Rattle.constraint_check.specs.Laws.{behind}
 use Rattle.batch_meaning.specs.Doing.{Doing, Held, Left}
 use Rattle.batch_meaning.specs.Progress.{SessionProgress}
+use Rattle.write_laws.specs.Indexed.{Indexed, own_rows}
 use Rattle.write_laws.specs.Sound.{Firm}
 use Rattle.sound_laws.specs.Tied.{Tied}
 
 -- ---- a database
 
--- what statements keep
-abbrev pub Intact : Database → Type 0
-Intact db = Firm db
+-- What statements keep: the tables' own rows are firm, and the index parts follow them.
+pub record Intact (db : Database) : Type 0 where
+  pub firm : Firm (own_rows db)
+  pub indexed : Indexed db
 
 -- ---- what stands
 

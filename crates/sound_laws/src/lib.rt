@@ -1,6 +1,6 @@
 //! Laws of soundness: what a statement, a batch or a call by RPC asks, with the procedures and triggers that it runs, keeps what
-//! stands in its transaction, and each commit that it asks keeps its database firm (`write_laws`), and so sound; and so is each
-//! database that the commits of the log leave.
+//! stands in its transaction, and each commit that it asks keeps its database intact, and so sound; and so is each database that
+//! the commits of the log leave.
 //!
 //! Read `specs/Tied.antt` first: what is asked of the exchanges of a session, and of its statements; then `specs/Stands.antt`:
 //! the database at a transaction's place, with the transaction's changes so far, is intact, and so it was at each of its live

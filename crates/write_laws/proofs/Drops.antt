@@ -46,7 +46,7 @@ use Rattle.write_laws.proofs.Plans.{as_planned, made_of}
 
 -- ---- lists
 
-all_kept : {A : Type 0} (p : A → Bool) (xs : List A) → AllByRecursion (λ x. p x ≡ true) xs → filter p xs ≡ xs
+pub all_kept : {A : Type 0} (p : A → Bool) (xs : List A) → AllByRecursion (λ x. p x ≡ true) xs → filter p xs ≡ xs
 all_kept p [] all = refl
 all_kept p (x ∷ xs) all = rw (all.0, all_kept p xs all.1) refl
 

@@ -57,7 +57,7 @@ not_own shape (suc part) places is = by_test (nat_eq (suc part) 0) refl
 -- ---- own rows behind changes
 
 -- tables with own rows are others than parts
-parts_apart : (table other : TableName) (b : Bool) → nat_eq table.part 0 ≡ b → nat_eq other.part 0 ≡ (if b then false else true) → is_eq (table_cmp table other) ≡ false
+pub parts_apart : (table other : TableName) (b : Bool) → nat_eq table.part 0 ≡ b → nat_eq other.part 0 ≡ (if b then false else true) → is_eq (table_cmp table other) ≡ false
 parts_apart table other b is not = by_test (is_eq (table_cmp table other)) refl
   where
     clash : (b : Bool) → b ≡ (if b then false else true) → ⊥

@@ -44,6 +44,7 @@ pub mod Drops  -- what DROP TABLE plans
 pub mod Bound  -- a table whose CREATE TABLE is bound
 pub mod Whole  -- what statements keep is all that is to be kept
 pub mod Indexed  -- index parts where definitions come and go
+pub mod Owned  -- the own rows of a database
 pub mod Rewrites  -- a write as rows that change
 pub mod Made  -- changes that were made, one exchange each
 pub mod Indexing  -- index parts where rows change

@@ -1,7 +1,7 @@
--- Own: what is to be kept of index parts, which no table has yet: each part has exactly the index rows of its table's rows, and there is no
--- other part. The database of all own rows is one for itself, of which soundness is said. A database without rows is indexed so, and
--- stays so by each change of definitions; by DROP TABLE where its changes erase all rows of all parts. That a write keeps it is said in `index_laws`, of maps.
-use Rattle.std.specs.Prelude.{◌≡◌, ℕ, zero, suc, Bool, true, false, nat_eq, IsTrue, IsSome, List, [], ◌∷◌, ◌++◌, filter, map, slice_get, if◌then◌else◌, Option, None, Some}
+-- Own: what is to be kept of index parts: each part has exactly the index rows of its table's rows, and there is no other part. The
+-- database of all own rows is one for itself; of it is said what more a sound database keeps. A database without rows is indexed so, and
+-- stays so by each change of definitions; by DROP TABLE where its changes erase all rows of all parts. `Indexing` says that a write keeps it.
+use Rattle.std.specs.Prelude.{◌≡◌, ℕ, zero, suc, Bool, true, false, nat_eq, IsTrue, IsSome, List, [], ◌∷◌, ◌++◌, filter, slice_get, if◌then◌else◌, Option, None, Some}
 use Rattle.std.specs.List.{AllByRecursion, list_any}
 use Rattle.std.specs.Option.{option_map}
 use Rattle.value_types.specs.declared.table_name.TableName.{TableName}
@@ -19,13 +19,13 @@ use Rattle.constraint_check.specs.Reads.{is_erase, rows_table}
 use Rattle.batch_meaning.specs.Changing.{definition_erased}
 use Rattle.statement_paths.specs.Paths.{definition_put}
 use Rattle.write_laws.specs.Keeping.{IsCreated, IsNoTable, IsPut, with_definition}
-use Rattle.write_laws.specs.Sound.{Firm, IsTableOf}
+use Rattle.write_laws.specs.Sound.{Firm, IsTableOf, SoundRows}
 
 -- ---- the parts of a table
 
--- the columns of each index part, in their order: those of each UNIQUE, and then of each FOREIGN KEY
-abbrev pub index_columns : TableTree → List (List (List ℕ))
-index_columns shape = map (λ unique. unique.columns) shape.uniques ++ map (λ foreign. foreign.columns) shape.foreigns
+-- the columns of the constraints that have an index part, in the order of the parts: no constraint has one yet
+unfoldable pub index_columns : TableTree → List (List (List ℕ))
+index_columns shape = []
 
 -- the places of the values of an index row in the table's row: those of the columns, and then those of its own key
 abbrev pub index_places : TableTree → List (List ℕ) → List ℕ
@@ -50,6 +50,11 @@ index_part shape part = record { object = shape.name; part = part }
 pub record Indexed (db : Database) : Type 0 where
   pub exact : (shape : TableTree) (part : ℕ) (places : List ℕ) → IsTableOf db shape → part_places shape part ≡ Some places → IsExact (values_at places) (db (rows_table shape.name)) (db (index_part shape part))
   pub parts : (table : TableName) (key row : List Value) → db table key ≡ Some row → nat_eq table.part 0 ≡ false → (shape : TableTree) × IsTableOf db shape × (table.object ≡ shape.name) × IsSome (part_places shape table.part)
+
+-- What of a database is to be kept: its tables' own rows keep what is to be kept of them, and its index parts follow those rows.
+pub record Sound (db : Database) : Type 0 where
+  pub rows : SoundRows (own_rows db)
+  pub indexed : Indexed db
 
 -- ---- changes
 

@@ -23,7 +23,7 @@ use Rattle.write_laws.specs.Planning.{AreOneEach}
 use Rattle.batch_meaning.specs.Changing.{definition_erased, is_referred}
 use Rattle.statement_paths.specs.Paths.{definition_put}
 use Rattle.write_laws.specs.Reads.{HaveParents, KeysHave}
-use Rattle.write_laws.specs.Sound.{HasParentTable, HasTable, RefersTo, IsDefined, IsTableOf, Sound, Firm}
+use Rattle.write_laws.specs.Sound.{HasParentTable, HasTable, RefersTo, IsDefined, IsTableOf, SoundRows, Firm}
 
 -- ---- tables that are given
 
@@ -63,7 +63,7 @@ KeysSized = (db : Database) → Firm db → KeysHave 1 db (rows_table objects_na
 -- ---- soundness
 
 abbrev pub FirmSound : Type 0
-FirmSound = (db : Database) → Firm db → Sound db
+FirmSound = (db : Database) → Firm db → SoundRows db
 
 -- ---- no rows
 

@@ -73,11 +73,11 @@ HasParentTables db shape = AllByRecursion (HasParentTable db shape) shape.foreig
 abbrev pub ReadsAsOne : List Value → List Value → Type 0
 ReadsAsOne key row = (name : List ℕ) × (definition : Definition) × IsTrue (same_key (object_key name) key) × IsDefinitionOf name row (Some definition)
 
--- What of a database is to be kept. Each row of `objects` reads as a definition of its name; each other row is one of a table that is
+-- What of a database's own rows is to be kept. Each row of `objects` reads as a definition of its name; each other row is one of a table that is
 -- defined, and has its columns' types and its own key, breaks no NOT NULL and makes no CHECK false. UNIQUE holds, and NULLs are equal
 -- there; each FOREIGN KEY without a NULL has its parent's row; and the parent table of each FOREIGN KEY is defined, as is the table of
 -- each trigger.
-pub record Sound (db : Database) : Type 0 where
+pub record SoundRows (db : Database) : Type 0 where
   pub definitions : (key row : List Value) → db (rows_table objects_name) key ≡ Some row → ReadsAsOne key row
   pub known : (table : TableName) (key row : List Value) → db table key ≡ Some row → IsKnown db table
   pub fits : (shape : TableTree) (key row : List Value) → IsTableOf db shape → Stands db shape key row → IsTrue (row_fits shape 0 key row)

@@ -4,11 +4,11 @@
 //!
 //! Read `specs/Planning.antt` first: what a write plans. Then `specs/Reads.antt` and those behind it: what was read, in the
 //! database at the transaction's place. Then `specs/Sound.antt` and those behind it: each row of `objects` is a definition, each
-//! other row is one of a table that is defined, and such a table keeps its constraints (`Sound`), with what more it takes that
-//! each change keeps that (`Firm`). The functions do nothing: each one's contract is a law of the plans and dialogs that
-//! `dml_exec` means, of what CREATE and DROP plan, of what fits a log, and of runs of the engine (`step_model`). They ask nothing
-//! of their caller; only the definitions that they cite say what they mean. That a statement asks such parts is no part of this
-//! crate, nor is that a port's exchanges are those of a run.
+//! other row is one of a table that is defined, and such a table keeps its constraints (`SoundRows`), with what more it takes that
+//! each change keeps that (`Firm`); and index parts have what they are to have (`Indexed`, `Sound`). The functions do nothing:
+//! each one's contract is a law of the plans and dialogs that `dml_exec` means, of what CREATE and DROP plan, of what fits a log,
+//! and of runs of the engine (`step_model`). They ask nothing of their caller; only the definitions that they cite say what they
+//! mean. That a statement asks such parts is no part of this crate, nor is that a port's exchanges are those of a run.
 #![tactic(auto)]
 
 ghost use Rattle.write_laws.specs.Planning.{PlannedFits, PlannedKept, PlannedRight, RowsRead, ShapeNamed};

@@ -2,9 +2,9 @@ use Rattle.std.proofs.Common.{◌≡◌, ◌≢◌, List, take, sym, ap, subst}
 use Rattle.std.specs.List.{All}
 use Rattle.step_model.specs.Log.{State}
 use Rattle.shared_port.specs.Asked.{EngineSeat}
-use Rattle.write_laws.proofs.Whole.{firm_sound}
+use Rattle.sound_laws.proofs.Logs.{intact_sound}
 use Rattle.seat_server.specs.House.{KnowsSeat}
-use Rattle.seat_server.proofs.Housing.{all_firm, knows_seats}
+use Rattle.seat_server.proofs.Housing.{all_intact, knows_seats}
 use Rattle.seat_server.proofs.house.House.close.Goals as goal
 
 pub returns-clause-seats : goal.returns-clause-seats
@@ -19,7 +19,7 @@ returns-clause-others c =
 
 pub returns-clause-sound : goal.returns-clause-sound
 returns-clause-sound c =
-    λ place. firm_sound (State (take place c.close.result.log)) (all_firm c.close.result c.self.inside.seats.items c.close.ensures.seats c.self.invariant.1.served c.close.ensures.others place)
+    λ place. intact_sound (State (take place c.close.result.log)) (all_intact c.close.result c.self.inside.seats.items c.close.ensures.seats c.self.invariant.1.served c.close.ensures.others place)
 
-pub returns-clause-firm : goal.returns-clause-firm
-returns-clause-firm c = λ place. all_firm c.close.result c.self.inside.seats.items c.close.ensures.seats c.self.invariant.1.served c.close.ensures.others place
+pub returns-clause-intact : goal.returns-clause-intact
+returns-clause-intact c = λ place. all_intact c.close.result c.self.inside.seats.items c.close.ensures.seats c.self.invariant.1.served c.close.ensures.others place
