@@ -19,6 +19,7 @@ ghost use Rattle.write_laws.specs.Keeping.{KeysSized, FirmCreated, FirmDropped, 
 ghost use Rattle.write_laws.specs.Found.{FoundDefined, FoundDefinitions, FoundTables};
 ghost use Rattle.write_laws.specs.Indexed.{IndexedCreated, IndexedDropped, IndexedEmpty, IndexedErased, IndexedPut, OwnBehind};
 ghost use Rattle.write_laws.specs.Indexing.{IndexFree, IndexStands, IndexedWritten};
+ghost use Rattle.write_laws.specs.Checking.{PartsPass};
 ghost use Rattle.write_laws.specs.Made.{FreeFresh, MadeLeave, TakenStand, WritesMake};
 ghost use Rattle.write_laws.specs.Rewrites.{ChangesAreDeeds, PlannedOf, TakenApart, TakenTold};
 ghost use Rattle.write_laws.specs.Plans.{BoundStands, PlannedReadable, FirmDropPlanned, FirmPlanned, UntriggeredPlanned};
@@ -274,4 +275,9 @@ pub fn law_indexing()
     ensures written { IndexedWritten }
     ensures free { IndexFree }
     ensures stands { IndexStands }
+{}
+
+/// What passes of index parts that are exact passes of all rows.
+pub fn law_checking()
+    ensures { PartsPass }
 {}

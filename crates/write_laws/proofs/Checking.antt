@@ -1,0 +1,163 @@
+-- What passes of exact index parts passes of all rows.
+use Rattle.std.proofs.Common.{◌≡◌, refl, sym, ap, ◌∙◌, subst, ℕ, zero, suc, Bool, true, false, if◌then◌else◌, IsTrue, List, [], ◌∷◌, ◌++◌, length, map, filter, Option, Some, None}
+use Rattle.std.specs.List.{AllByRecursion, flat_map}
+use Rattle.std.proofs.lemmas.Bool.{and_parts}
+use Rattle.value_types.specs.Units.{same_units}
+use Rattle.value_types.specs.declared.table_name.TableName.{TableName}
+use Rattle.value_types.specs.declared.value.Value.{Value}
+use Rattle.tsql_tree.specs.declared.definition.ForeignTree.{ForeignTree}
+use Rattle.tsql_tree.specs.declared.definition.KeyTree.{KeyTree}
+use Rattle.tsql_tree.specs.declared.definition.TableTree.{TableTree}
+use Rattle.bound_tree.specs.Setting.{value_at}
+use Rattle.clause_binder.specs.Scope.{key_places}
+use Rattle.step_model.specs.declared.change.Planned.{Planned}
+use Rattle.step_model.specs.declared.range.KeyRange.{KeyRange}
+use Rattle.step_model.specs.declared.range.Start.TheVariants.{First, At}
+use Rattle.step_model.specs.declared.range.Stop.TheVariants.{Last, Within}
+use Rattle.step_model.specs.Database.{Database, is_within}
+use Rattle.step_model.specs.Own.{row_of}
+use Rattle.index_laws.specs.Parts.{IsExact, same}
+use Rattle.index_laws.specs.Whole.{IndexPart}
+use Rattle.index_laws.proofs.Found.{same_back, same_on}
+use Rattle.index_laws.proofs.Whole.{index_within, tells}
+use Rattle.table_rows.specs.Rows.{has_columns, key_of, places_of, same_key, values_at}
+use Rattle.constraint_check.specs.declared.check_read.CheckRead.{CheckRead}
+use Rattle.constraint_check.specs.Laws.{Agrees, Passes}
+use Rattle.constraint_check.specs.Reads.{child_reads, is_gone, is_key, of_both, of_key, of_row, parent_read, parent_reads, parent_reads_of, reads_for, rows_table, shape_of, unique_read, unique_reads}
+use Rattle.write_laws.specs.Checking.{ArePartsFrom, HasParts, PartsPass, all_parents, all_uniques, first_foreign, index_rows, parent_part, parent_parts, parents_of_key, places_from, reads_by_parts, unique_part, unique_parts}
+use Rattle.write_laws.specs.Indexed.{index_part, index_places}
+use Rattle.write_laws.specs.Reads.{RowsFit}
+use Rattle.write_laws.proofs.Changes.{all_both}
+use Rattle.write_laws.proofs.Written.{of_found}
+
+-- ---- lists
+
+all_front : {A : Type 0} (P : A → Type 0) (xs ys : List A) → AllByRecursion P (xs ++ ys) → AllByRecursion P xs
+all_front P [] ys all = tt
+all_front P (x ∷ xs) ys all = (all.0, all_front P xs ys all.1)
+
+all_back : {A : Type 0} (P : A → Type 0) (xs ys : List A) → AllByRecursion P (xs ++ ys) → AllByRecursion P ys
+all_back P [] ys all = all
+all_back P (x ∷ xs) ys all = all_back P xs ys all.1
+
+-- what is so of what one function gives is so of what another does
+all_over : {A B : Type 0} (P : B → Type 0) (f g : A → List B) → ((x : A) → AllByRecursion P (f x) → AllByRecursion P (g x)) → (xs : List A) → AllByRecursion P (flat_map f xs) → AllByRecursion P (flat_map g xs)
+all_over P f g one [] all = tt
+all_over P f g one (x ∷ xs) all = all_both P (g x) (flat_map g xs) (one x (all_front P (f x) (flat_map f xs) all)) (all_over P f g one xs (all_back P (f x) (flat_map f xs) all))
+
+-- ---- places
+
+one_on : (value : Value) (row : List Value) (place count : ℕ) → values_at (places_from (suc place) count) (value ∷ row) ≡ values_at (places_from place count) row
+one_on value row place zero = refl
+one_on value row place (suc count) = ap (λ (l : List Value). value_at row place ∷ l) (one_on value row (suc place) count)
+
+-- the first values of an index row are those of its columns
+columns_first : (places key : List ℕ) (row : List Value) → values_at (places_from 0 (length places)) (values_at (places ++ key) row) ≡ values_at places row
+columns_first [] key row = refl
+columns_first (place ∷ places) key row = ap (λ (l : List Value). value_at row place ∷ l) (one_on (value_at row place) (values_at (places ++ key) row) 0 (length places) ∙ columns_first places key row)
+
+-- ---- one table
+
+module _ (db : Database) (shape : TableTree) (fit : RowsFit db shape) where
+  -- a row stands at its own key
+  own : (at row : List Value) → db (rows_table shape.name) at ≡ Some row → same (key_of shape row) at ≡ true
+  own at row stands = (and_parts (has_columns shape.columns row) (same_key (key_of shape row) at) (fit at row stands)).1
+
+  abbrev Range : Bool → ℕ → List Value → KeyRange
+  Range b part values = if b then (record { table = index_part shape part; start = At values; stop = Within values }) else (record { table = index_part shape part; start = First; stop = Last })
+
+  abbrev StandsIn : KeyRange → List Value → Type 0
+  StandsIn range x = IsTrue (is_within range.start range.stop x) × (db range.table x ≡ Some x)
+
+  in_range : (b : Bool) (part : ℕ) (values x : List Value) → is_within (At values) (Within values) x ≡ true → db (index_part shape part) x ≡ Some x → StandsIn (Range b part values) x
+  in_range true part values x within stands = (within, stands)
+  in_range false part values x within stands = (refl, stands)
+
+  module _ (part : ℕ) (columns : List (List ℕ)) (exact : IsExact (values_at (index_places shape columns)) (db (rows_table shape.name)) (db (index_part shape part))) where
+    abbrev places : List ℕ
+    places = places_of shape columns
+
+    abbrev index_row : List Value → List Value
+    index_row row = values_at (index_places shape columns) row
+
+    numbered : IndexPart
+    numbered = record { number = part; places = places }
+
+    -- a row with these values has its index row among those that are read
+    index_stands : (values at row : List Value) → db (rows_table shape.name) at ≡ Some row → same (values_at places row) values ≡ true → StandsIn (index_rows shape part values) (index_row row)
+    index_stands values at row stands has = in_range (is_key values) part values (index_row row) (index_within (key_places (Some shape)) numbered row values has) (exact.whole at row stands)
+
+    -- which has them, too
+    index_has : (values row : List Value) → same (values_at places row) values ≡ true → same (values_at (places_from 0 (length places)) (index_row row)) values ≡ true
+    index_has values row has = ap (λ (l : List Value). same l values) (columns_first places (key_places (Some shape)) row) ∙ has
+
+  unique_one : (row : List Value) (part : ℕ) (key : KeyTree) → IsExact (values_at (index_places shape key.columns)) (db (rows_table shape.name)) (db (index_part shape part)) → Passes db (unique_part shape row part key) → Passes db (unique_read shape row key)
+  unique_one row part key exact passes at other base also one two =
+      let wanted : List Value = values_at (places_of shape key.columns) row in
+      let alike = passes (index_row part key.columns exact base) (index_row part key.columns exact also) (index_row part key.columns exact base) (index_row part key.columns exact also) (agrees at base one) (agrees other also two) in
+      same_on at (key_of shape base) other (same_back (key_of shape base) at (own at base one.1))
+      (same_on (key_of shape base) (key_of shape also) other (tells (key_places (Some shape)) (numbered part key.columns exact) base also alike) (own other also two.1))
+    where
+      agrees : (at base : List Value) → Agrees db (unique_read shape row key) at base → Agrees db (unique_part shape row part key) (values_at (index_places shape key.columns) base) (values_at (index_places shape key.columns) base)
+      agrees at base one =
+          let wanted : List Value = values_at (places_of shape key.columns) row in
+          let stands = index_stands part key.columns exact wanted at base one.1 one.2 in
+          (stands.0, stands.1, index_has part key.columns exact wanted base one.2)
+
+  parent_one : (key : List Value) (part : ℕ) (foreign : ForeignTree) → IsExact (values_at (index_places shape foreign.columns)) (db (rows_table shape.name)) (db (index_part shape part)) → Passes db (parent_part key shape part foreign) → Passes db (parent_read key shape foreign)
+  parent_one key part foreign exact none at row one =
+      let stands = index_stands part foreign.columns exact key at row one.1 one.2 in
+      none (values_at (index_places shape foreign.columns) row) (values_at (index_places shape foreign.columns) row) (stands.0, stands.1, index_has part foreign.columns exact key row one.2)
+
+  uniques_pass : (row : List Value) (part : ℕ) (keys : List KeyTree) → ArePartsFrom db shape (λ (key : KeyTree). key.columns) part keys → AllByRecursion (Passes db) (unique_parts shape row part keys) → AllByRecursion (Passes db) (map (unique_read shape row) keys)
+  uniques_pass row part [] exact all = tt
+  uniques_pass row part (key ∷ keys) exact all = (unique_one row part key exact.0 all.0, uniques_pass row (suc part) keys exact.1 all.1)
+
+  parents_pass : (table : TableName) (key : List Value) (part : ℕ) (foreigns : List ForeignTree) → ArePartsFrom db shape (λ (foreign : ForeignTree). foreign.columns) part foreigns → AllByRecursion (Passes db) (parent_parts table key shape part foreigns)
+      → AllByRecursion (Passes db) (map (parent_read key shape) (filter (λ foreign. same_units foreign.parent table.object) foreigns))
+  parents_pass table key part [] exact all = tt
+  parents_pass table key part (foreign ∷ foreigns) exact all = by_test (same_units foreign.parent table.object) all
+    where
+      by_test : (b : Bool) → AllByRecursion (Passes db) (if b then parent_part key shape part foreign ∷ parent_parts table key shape (suc part) foreigns else parent_parts table key shape (suc part) foreigns)
+          → AllByRecursion (Passes db) (map (parent_read key shape) (if b then foreign ∷ filter (λ foreign. same_units foreign.parent table.object) foreigns else filter (λ foreign. same_units foreign.parent table.object) foreigns))
+      by_test true all = (parent_one key part foreign exact.0 all.0, parents_pass table key (suc part) foreigns exact.1 all.1)
+      by_test false all = parents_pass table key (suc part) foreigns exact.1 all
+
+-- ---- all tables
+
+module _ (db : Database) where
+  all_pass : (table : TableName) (key : List Value) (shapes : List TableTree) → AllByRecursion (RowsFit db) shapes → AllByRecursion (HasParts db) shapes → AllByRecursion (Passes db) (flat_map (all_parents table key) shapes)
+      → AllByRecursion (Passes db) (parent_reads shapes table key)
+  all_pass table key [] fit parts all = tt
+  all_pass table key (shape ∷ shapes) fit parts all =
+      all_both (Passes db) (parent_reads_of table key shape) (parent_reads shapes table key)
+      (parents_pass db shape fit.0 table key (first_foreign shape) shape.foreigns parts.0.foreigns (all_front (Passes db) (all_parents table key shape) (flat_map (all_parents table key) shapes) all))
+      (all_pass table key shapes fit.1 parts.1 (all_back (Passes db) (all_parents table key shape) (flat_map (all_parents table key) shapes) all))
+
+  module _ (shapes : List TableTree) (fit : AllByRecursion (RowsFit db) shapes) (parts : AllByRecursion (HasParts db) shapes) where
+    row_passes : (change : Planned) → AllByRecursion (Passes db) (of_row all_uniques shapes change) → AllByRecursion (Passes db) (of_row unique_reads shapes change)
+    row_passes change all = by_both (shape_of change.table shapes) refl (row_of change.deed) all
+      where
+        by_both : (o : Option TableTree) → shape_of change.table shapes ≡ o → (row : Option (List Value)) → AllByRecursion (Passes db) (of_both all_uniques o row) → AllByRecursion (Passes db) (of_both unique_reads o row)
+        by_both None is row all = tt
+        by_both (Some shape) is None all = tt
+        by_both (Some shape) is (Some row) all = uniques_pass db shape (of_found (RowsFit db) change.table shapes shape is fit) row 1 shape.uniques (of_found (HasParts db) change.table shapes shape is parts).uniques all
+
+    key_passes : (changes : List Planned) (change : Planned) → AllByRecursion (Passes db) (parents_of_key shapes changes change) → AllByRecursion (Passes db) (of_key shapes changes change)
+    key_passes changes change all = by_test (is_gone changes change) all
+      where
+        by_test : (b : Bool) → AllByRecursion (Passes db) (if b then flat_map (all_parents change.table change.key) shapes else []) → AllByRecursion (Passes db) (if b then parent_reads shapes change.table change.key else [])
+        by_test true all = all_pass change.table change.key shapes fit parts all
+        by_test false all = tt
+
+pub parts_pass : PartsPass
+parts_pass db shapes changes fit parts all =
+    let P : CheckRead → Type 0 = Passes db in
+    let uniques : List CheckRead = flat_map (of_row all_uniques shapes) changes in
+    let children : List CheckRead = flat_map (of_row (child_reads shapes) shapes) changes in
+    let parents : List CheckRead = flat_map (parents_of_key shapes changes) changes in
+    let behind = all_back P uniques (children ++ parents) all in
+    all_both P (flat_map (of_row unique_reads shapes) changes) (children ++ flat_map (of_key shapes changes) changes)
+    (all_over P (of_row all_uniques shapes) (of_row unique_reads shapes) (row_passes db shapes fit parts) changes (all_front P uniques (children ++ parents) all))
+    (all_both P children (flat_map (of_key shapes changes) changes) (all_front P children parents behind)
+    (all_over P (parents_of_key shapes changes) (of_key shapes changes) (key_passes db shapes fit parts changes) changes (all_back P children parents behind)))
