@@ -24,6 +24,7 @@ use Rattle.table_rows.specs.Rows.{has_columns, key_of, places_of, same_key, valu
 use Rattle.constraint_check.specs.declared.check_read.CheckRead.{CheckRead}
 use Rattle.constraint_check.specs.Laws.{Agrees, Passes}
 use Rattle.constraint_check.specs.Reads.{child_reads, is_gone, is_key, of_both, of_key, of_row, parent_read, parent_reads, parent_reads_of, reads_for, rows_table, shape_of, unique_read, unique_reads}
+use Rattle.constraint_check.proofs.Lists.{all_left, all_right}
 use Rattle.write_laws.specs.Checking.{ArePartsFrom, HasParts, PartsPass, all_parents, all_uniques, first_foreign, index_rows, parent_part, parent_parts, parents_of_key, places_from, reads_by_parts, unique_part, unique_parts}
 use Rattle.write_laws.specs.Indexed.{index_part, index_places}
 use Rattle.write_laws.specs.Reads.{RowsFit}
@@ -32,18 +33,10 @@ use Rattle.write_laws.proofs.Written.{of_found}
 
 -- ---- lists
 
-all_front : {A : Type 0} (P : A → Type 0) (xs ys : List A) → AllByRecursion P (xs ++ ys) → AllByRecursion P xs
-all_front P [] ys all = tt
-all_front P (x ∷ xs) ys all = (all.0, all_front P xs ys all.1)
-
-all_back : {A : Type 0} (P : A → Type 0) (xs ys : List A) → AllByRecursion P (xs ++ ys) → AllByRecursion P ys
-all_back P [] ys all = all
-all_back P (x ∷ xs) ys all = all_back P xs ys all.1
-
 -- what is so of what one function gives is so of what another does
 all_over : {A B : Type 0} (P : B → Type 0) (f g : A → List B) → ((x : A) → AllByRecursion P (f x) → AllByRecursion P (g x)) → (xs : List A) → AllByRecursion P (flat_map f xs) → AllByRecursion P (flat_map g xs)
 all_over P f g one [] all = tt
-all_over P f g one (x ∷ xs) all = all_both P (g x) (flat_map g xs) (one x (all_front P (f x) (flat_map f xs) all)) (all_over P f g one xs (all_back P (f x) (flat_map f xs) all))
+all_over P f g one (x ∷ xs) all = all_both P (g x) (flat_map g xs) (one x (all_left P (f x) (flat_map f xs) all)) (all_over P f g one xs (all_right P (f x) (flat_map f xs) all))
 
 -- ---- places
 
@@ -131,8 +124,8 @@ module _ (db : Database) where
   all_pass table key [] fit parts all = tt
   all_pass table key (shape ∷ shapes) fit parts all =
       all_both (Passes db) (parent_reads_of table key shape) (parent_reads shapes table key)
-      (parents_pass db shape fit.0 table key (first_foreign shape) shape.foreigns parts.0.foreigns (all_front (Passes db) (all_parents table key shape) (flat_map (all_parents table key) shapes) all))
-      (all_pass table key shapes fit.1 parts.1 (all_back (Passes db) (all_parents table key shape) (flat_map (all_parents table key) shapes) all))
+      (parents_pass db shape fit.0 table key (first_foreign shape) shape.foreigns parts.0.foreigns (all_left (Passes db) (all_parents table key shape) (flat_map (all_parents table key) shapes) all))
+      (all_pass table key shapes fit.1 parts.1 (all_right (Passes db) (all_parents table key shape) (flat_map (all_parents table key) shapes) all))
 
   module _ (shapes : List TableTree) (fit : AllByRecursion (RowsFit db) shapes) (parts : AllByRecursion (HasParts db) shapes) where
     row_passes : (change : Planned) → AllByRecursion (Passes db) (of_row all_uniques shapes change) → AllByRecursion (Passes db) (of_row unique_reads shapes change)
@@ -156,8 +149,8 @@ parts_pass db shapes changes fit parts all =
     let uniques : List CheckRead = flat_map (of_row all_uniques shapes) changes in
     let children : List CheckRead = flat_map (of_row (child_reads shapes) shapes) changes in
     let parents : List CheckRead = flat_map (parents_of_key shapes changes) changes in
-    let behind = all_back P uniques (children ++ parents) all in
+    let behind = all_right P uniques (children ++ parents) all in
     all_both P (flat_map (of_row unique_reads shapes) changes) (children ++ flat_map (of_key shapes changes) changes)
-    (all_over P (of_row all_uniques shapes) (of_row unique_reads shapes) (row_passes db shapes fit parts) changes (all_front P uniques (children ++ parents) all))
-    (all_both P children (flat_map (of_key shapes changes) changes) (all_front P children parents behind)
-    (all_over P (parents_of_key shapes changes) (of_key shapes changes) (key_passes db shapes fit parts changes) changes (all_back P children parents behind)))
+    (all_over P (of_row all_uniques shapes) (of_row unique_reads shapes) (row_passes db shapes fit parts) changes (all_left P uniques (children ++ parents) all))
+    (all_both P children (flat_map (of_key shapes changes) changes) (all_left P children parents behind)
+    (all_over P (parents_of_key shapes changes) (of_key shapes changes) (key_passes db shapes fit parts changes) changes (all_right P children parents behind)))

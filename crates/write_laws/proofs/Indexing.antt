@@ -480,7 +480,7 @@ module _ (db : Database) (shape : TableTree) (equal : List Value → List Value 
       (all_two (IsStill earlier) (λ (other : IndexPart). number < other.number) (IsStill (behind earlier (part_deeds shape equal changes part))) (λ other was above. still_on earlier part other above was) (parts_from shape (suc number) columns)
       still.1 (numbers_above shape columns number (suc number) (omega arith))))
 
-  rows_own : AllByRecursion (λ change. is_own change ≡ true) (row_deeds shape changes)
+  pub rows_own : AllByRecursion (λ change. is_own change ≡ true) (row_deeds shape changes)
   rows_own = all_more (λ (change : Planned). change.table ≡ own_table) (λ change. is_own change ≡ true) (row_deeds shape changes) (λ change is. ap (λ (t : TableName). nat_eq t.part 0) is) (deeds_there own_table (key_of shape) itself never changes)
 
   still_behind : (part : IndexPart) → 0 < part.number → IsStill (behind db (row_deeds shape changes)) part

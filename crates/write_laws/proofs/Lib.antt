@@ -48,5 +48,6 @@ pub mod Owned  -- the own rows of a database
 pub mod Rewrites  -- a write as rows that change
 pub mod Made  -- changes that were made, one exchange each
 pub mod Indexing  -- index parts where rows change
+pub mod IndexKeys  -- index rows that are asked for before anything is changed
 pub mod Checking  -- checks that are read of index parts
 mod NameFacts  -- worked names

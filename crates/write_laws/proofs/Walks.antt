@@ -74,7 +74,7 @@ module _ (db : Database) (one : KeysAreOne db) (table : TableName) (key : List V
   itself : IsTrue (is_within (At key) (Within key) key)
   itself = rw (take_all (length key) key (omega arith), tied_itself key_cmp_total key) refl
 
-  key_told : (reply : Reply) → CanReply (Fetch table (At key) (Within key) Range lock) reply → AnswersIn db (Fetch table (At key) (Within key) Range lock) reply → Tells db table key reply
+  pub key_told : (reply : Reply) → CanReply (Fetch table (At key) (Within key) Range lock) reply → AnswersIn db (Fetch table (At key) (Within key) Range lock) reply → Tells db table key reply
   key_told (Row other row at) can answer =
       let parts = both (allows (At key) other) (includes (Within key) other) can in
       sym (one table other key (ap is_eq (one_key key other (long other (rw answer.1 refl)) parts.0 parts.1))) ∙ answer.1

@@ -12,5 +12,6 @@ pub mod Indexed  -- Indexed: what is to be kept of index parts; Sound: what of a
 pub mod Rewrites  -- PlannedOf, TakenTold: a write as rows that change, and how those that it takes were told
 pub mod Made  -- MadeLeave, TakenStand: changes that were made, one exchange each, and what they leave
 pub mod Indexing  -- IndexedWritten, IndexFree, IndexStands: index parts where rows of a table change
+pub mod IndexKeys  -- KeysTold, FoundAll: index rows that are asked for before anything is changed
 pub mod Checking  -- PartsPass: checks that are read of exact index parts
 pub mod Plans  -- FirmPlanned, FirmDropPlanned, BoundStands: what a write and DROP TABLE plan keeps it; what CREATE TABLE asks

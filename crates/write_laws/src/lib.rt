@@ -20,6 +20,7 @@ ghost use Rattle.write_laws.specs.Found.{FoundDefined, FoundDefinitions, FoundTa
 ghost use Rattle.write_laws.specs.Indexed.{IndexedCreated, IndexedDropped, IndexedEmpty, IndexedErased, IndexedPut, OwnBehind};
 ghost use Rattle.write_laws.specs.Indexing.{IndexFree, IndexStands, IndexedWritten};
 ghost use Rattle.write_laws.specs.Checking.{PartsPass};
+ghost use Rattle.write_laws.specs.IndexKeys.{AskedStand, FoundAll, KeysTold};
 ghost use Rattle.write_laws.specs.Made.{FreeFresh, MadeLeave, TakenStand, WritesMake};
 ghost use Rattle.write_laws.specs.Rewrites.{ChangesAreDeeds, PlannedOf, TakenApart, TakenTold};
 ghost use Rattle.write_laws.specs.Plans.{BoundStands, PlannedReadable, FirmDropPlanned, FirmPlanned, UntriggeredPlanned};
@@ -275,6 +276,14 @@ pub fn law_indexing()
     ensures written { IndexedWritten }
     ensures free { IndexFree }
     ensures stands { IndexStands }
+{}
+
+/// What is told of index rows that are asked for, their ranges held, is so at the transaction's place; where all are there, the changes
+/// are those that were planned; and all those are there whose rows stand.
+pub fn law_index_keys()
+    ensures told { KeysTold }
+    ensures all { FoundAll }
+    ensures stand { AskedStand }
 {}
 
 /// What passes of index parts that are exact passes of all rows.
