@@ -73,7 +73,7 @@ module _ (db : Database) (shape : TableTree) (fit : RowsFit db shape) where
     abbrev index_row : List Value → List Value
     index_row row = values_at (index_places shape columns) row
 
-    numbered : IndexPart
+    abbrev numbered : IndexPart
     numbered = record { number = part; places = places }
 
     -- a row with these values has its index row among those that are read
@@ -109,12 +109,14 @@ module _ (db : Database) (shape : TableTree) (fit : RowsFit db shape) where
   parents_pass : (table : TableName) (key : List Value) (part : ℕ) (foreigns : List ForeignTree) → ArePartsFrom db shape (λ (foreign : ForeignTree). foreign.columns) part foreigns → AllByRecursion (Passes db) (parent_parts table key shape part foreigns)
       → AllByRecursion (Passes db) (map (parent_read key shape) (filter (λ foreign. same_units foreign.parent table.object) foreigns))
   parents_pass table key part [] exact all = tt
-  parents_pass table key part (foreign ∷ foreigns) exact all = by_test (same_units foreign.parent table.object) all
+  parents_pass table key part (foreign ∷ foreigns) exact all = by_test (same_units foreign.parent table.object) (parents_pass table key (suc part) foreigns exact.1) all
     where
-      by_test : (b : Bool) → AllByRecursion (Passes db) (if b then parent_part key shape part foreign ∷ parent_parts table key shape (suc part) foreigns else parent_parts table key shape (suc part) foreigns)
+      by_test : (b : Bool)
+          → (AllByRecursion (Passes db) (parent_parts table key shape (suc part) foreigns) → AllByRecursion (Passes db) (map (parent_read key shape) (filter (λ foreign. same_units foreign.parent table.object) foreigns)))
+          → AllByRecursion (Passes db) (if b then parent_part key shape part foreign ∷ parent_parts table key shape (suc part) foreigns else parent_parts table key shape (suc part) foreigns)
           → AllByRecursion (Passes db) (map (parent_read key shape) (if b then foreign ∷ filter (λ foreign. same_units foreign.parent table.object) foreigns else filter (λ foreign. same_units foreign.parent table.object) foreigns))
-      by_test true all = (parent_one key part foreign exact.0 all.0, parents_pass table key (suc part) foreigns exact.1 all.1)
-      by_test false all = parents_pass table key (suc part) foreigns exact.1 all
+      by_test true rest all = (parent_one key part foreign exact.0 all.0, rest all.1)
+      by_test false rest all = rest all
 
 -- ---- all tables
 

@@ -139,7 +139,7 @@ was_all (name ∷ names) db of definition now = was db name of definition (was_a
 abbrev pub AreNoTables : Database → List (List ℕ) → Type 0
 AreNoTables db names = AllByRecursion (IsNoTable db) names
 
-still_none : (db : Database) (name : List ℕ) (names : List (List ℕ)) → AreNoTables db names → AreNoTables (after db name) names
+pub still_none : (db : Database) (name : List ℕ) (names : List (List ℕ)) → AreNoTables db names → AreNoTables (after db name) names
 still_none db name names all = all_more (IsNoTable db) (IsNoTable (after db name)) (λ other none shape now. none shape (was db name shape.name (Table shape) now)) names all
 
 pub stay_all : (names : List (List ℕ)) (db : Database) → AreNoTables db names → (shape : TableTree) → IsTableOf db shape → IsTableOf (behind db (erased_all names)) shape

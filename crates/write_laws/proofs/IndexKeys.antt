@@ -55,13 +55,16 @@ key_fetches table key = by_room
 keys_fetch : (changes : List Planned) (so_far : List Bool) → Fetches (asks_keys changes so_far)
 unfolding asks_keys
 keys_fetch [] so_far = tt
-keys_fetch (change ∷ changes) so_far = by_test (is_asked change)
+keys_fetch (change ∷ changes) so_far = by_test (is_asked change) (keys_fetch changes)
   where
-    by_test : (b : Bool) → Fetches (if b then (asks_key change.table change.key >>= λ there. with_room Memory (asks_keys changes (so_far ++ there ∷ []))) else asks_keys changes so_far)
-    by_test true =
+    by_test : (b : Bool) → ((so_far : List Bool) → Fetches (asks_keys changes so_far)) → Fetches (if b then (asks_key change.table change.key >>= λ there. with_room Memory (asks_keys changes (so_far ++ there ∷ []))) else asks_keys changes so_far)
+    by_test true rest =
         asks_ok HoldsIt (asks_key change.table change.key) (λ there. with_room Memory (asks_keys changes (so_far ++ there ∷ []))) (key_fetches change.table change.key)
-        (λ there. asks_room HoldsIt Memory (asks_keys changes (so_far ++ there ∷ [])) (keys_fetch changes (so_far ++ there ∷ [])))
-    by_test false = keys_fetch changes so_far
+        (λ there. asks_room HoldsIt Memory (asks_keys changes (so_far ++ there ∷ [])) (rest (so_far ++ there ∷ [])))
+    by_test false rest = rest so_far
+
+pub keys_asked : (manner : Manner) (changes : List Planned) (part : List Exchange) (found : List Bool) → Held manner (asks_keys changes []) part (Ok found) → AllByRecursion (λ x. HoldsIt x.op × CanReply x.op x.reply) part
+keys_asked manner changes part found held = all_asked HoldsIt manner (asks_keys changes []) part (Ok found) (keys_fetch changes []) held
 
 -- ---- what is told
 
@@ -102,19 +105,20 @@ module _ (db : Database) (one_key : KeysAreOne db) (manner : Manner) where
   all_told : (changes : List Planned) (so_far : List Bool) (part : List Exchange) (found : List Bool) → AreLong (asked_of changes) → Answered part → Held manner (asks_keys changes so_far) part (Ok found) → found ≡ so_far ++ stood_at db changes
   unfolding asks_keys Held
   all_told [] so_far part found long answered held = ok_is found so_far held.1 ∙ sym (append-nil so_far)
-  all_told (change ∷ changes) so_far part found long answered held = by_test (is_asked change) long held
+  all_told (change ∷ changes) so_far part found long answered held = by_test (is_asked change) (λ so_far part. all_told changes so_far part found) long held
     where
-      by_test : (b : Bool) → AreLong (if b then change ∷ asked_of changes else asked_of changes) → Held manner (if b then (asks_key change.table change.key >>= next changes so_far) else asks_keys changes so_far) part (Ok found)
+      by_test : (b : Bool) → ((so_far : List Bool) (part : List Exchange) → AreLong (asked_of changes) → Answered part → Held manner (asks_keys changes so_far) part (Ok found) → found ≡ so_far ++ stood_at db changes)
+          → AreLong (if b then change ∷ asked_of changes else asked_of changes) → Held manner (if b then (asks_key change.table change.key >>= next changes so_far) else asks_keys changes so_far) part (Ok found)
           → found ≡ so_far ++ map (λ (change : Planned). is_some (db change.table change.key)) (if b then change ∷ asked_of changes else asked_of changes)
-      by_test true long held =
+      by_test true rest long held =
           let h = held_ok manner (asks_key change.table change.key) (next changes so_far) part found held in
           let both : Answered (h.first ++ h.second) = subst Answered h.parts answered in
           let here = one_told change.table change.key h.first h.came long.0 (all_left (λ (x : Exchange). AnswersIn db x.op x.reply) h.first h.second both) h.held in
-          all_told changes (so_far ++ h.came ∷ []) h.second found long.1 (all_right (λ (x : Exchange). AnswersIn db x.op x.reply) h.first h.second both)
+          rest (so_far ++ h.came ∷ []) h.second long.1 (all_right (λ (x : Exchange). AnswersIn db x.op x.reply) h.first h.second both)
           (held_room manner Memory (asks_keys changes (so_far ++ h.came ∷ [])) h.second found h.more)
           ∙ append_assoc so_far (h.came ∷ []) (stood_at db changes)
           ∙ ap (λ (b : Bool). so_far ++ b ∷ stood_at db changes) here
-      by_test false long held = all_told changes so_far part found long answered held
+      by_test false rest long held = rest so_far part long answered held
 
 pub keys_told : KeysTold
 keys_told log mine before part later manner changes found is holds held long =
@@ -125,7 +129,7 @@ keys_told log mine before part later manner changes found is holds held long =
 
 pub found_all : FoundAll
 found_all db [] stand = refl
-found_all db (change ∷ changes) stand = by_test (is_asked change) refl stand
+found_all db (change ∷ changes) stand = by_test (is_asked change) refl (found_all db changes) stand
   where
     -- what is found where the first is asked, or not
     given : (b : Bool) (found : List Bool) → is_asked change ≡ b → (b ≡ true → (t : Bool) (rest : List Bool) → found ≡ t ∷ rest → (t ≡ true) × (as_found changes rest ≡ changes)) → (b ≡ false → as_found changes found ≡ changes) → as_found (change ∷ changes) found ≡ change ∷ changes
@@ -137,23 +141,24 @@ found_all db (change ∷ changes) stand = by_test (is_asked change) refl stand
     given false (t ∷ rest) is asked other =
         ap (λ (b : Bool). if b then as_told t change ++ as_found changes rest else change ∷ as_found changes (t ∷ rest)) is ∙ ap (λ (l : List Planned). change ∷ l) (other refl)
 
-    by_test : (b : Bool) → is_asked change ≡ b → AllByRecursion (StandsThere db) (if b then change ∷ asked_of changes else asked_of changes)
+    by_test : (b : Bool) → is_asked change ≡ b → (AllByRecursion (StandsThere db) (asked_of changes) → as_found changes (stood_at db changes) ≡ changes)
+        → AllByRecursion (StandsThere db) (if b then change ∷ asked_of changes else asked_of changes)
         → as_found (change ∷ changes) (map (λ (change : Planned). is_some (db change.table change.key)) (if b then change ∷ asked_of changes else asked_of changes)) ≡ change ∷ changes
-    by_test true is stand =
+    by_test true is rest stand =
         given true (is_some (db change.table change.key) ∷ stood_at db changes) is
-        (λ so t rest same. let head : is_some (db change.table change.key) ≡ t = cc in let tail : stood_at db changes ≡ rest = cc in (sym head ∙ stand.0, ap (as_found changes) (sym tail) ∙ found_all db changes stand.1))
+        (λ so t more same. let head : is_some (db change.table change.key) ≡ t = cc in let tail : stood_at db changes ≡ more = cc in (sym head ∙ stand.0, ap (as_found changes) (sym tail) ∙ rest stand.1))
         (λ no. absurd (let not_so : true ≡ false = no in cc))
-    by_test false is stand = given false (stood_at db changes) is (λ no. absurd (let not_so : false ≡ true = no in cc)) (λ so. found_all db changes stand)
+    by_test false is rest stand = given false (stood_at db changes) is (λ no. absurd (let not_so : false ≡ true = no in cc)) (λ so. rest stand)
 
 -- ---- what is asked of index rows stands
 
 kept_of : (P : Planned → Type 0) (changes : List Planned) → AllByRecursion (λ change. is_asked change ≡ true → P change) changes → AllByRecursion P (asked_of changes)
 kept_of P [] all = tt
-kept_of P (change ∷ changes) all = by_test (is_asked change) refl
+kept_of P (change ∷ changes) all = by_test (is_asked change) refl (kept_of P changes all.1)
   where
-    by_test : (b : Bool) → is_asked change ≡ b → AllByRecursion P (if b then change ∷ asked_of changes else asked_of changes)
-    by_test true is = (all.0 is, kept_of P changes all.1)
-    by_test false is = kept_of P changes all.1
+    by_test : (b : Bool) → is_asked change ≡ b → AllByRecursion P (asked_of changes) → AllByRecursion P (if b then change ∷ asked_of changes else asked_of changes)
+    by_test true is rest = (all.0 is, rest)
+    by_test false is rest = rest
 
 own_unasked : (change : Planned) → is_own change ≡ true → is_asked change ≡ true → ⊥
 own_unasked change own asked = let no : false ≡ true = sym (ap (λ (b : Bool). not b && not (inserts change)) own) ∙ asked in cc

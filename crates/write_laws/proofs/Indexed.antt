@@ -202,7 +202,7 @@ indexed_created db name text table firm indexed made = record {
 -- ---- DROP TABLE
 
 -- what another object has stays behind changes of all parts of one
-parts_elsewhere : (name : List ℕ) (table : TableName) → same_units name table.object ≡ false → (changes : List Planned) → AllByRecursion (λ change. change.table.object ≡ name) changes → (db : Database) (key : List Value)
+pub parts_elsewhere : (name : List ℕ) (table : TableName) → same_units name table.object ≡ false → (changes : List Planned) → AllByRecursion (λ change. change.table.object ≡ name) changes → (db : Database) (key : List Value)
     → behind db changes table key ≡ db table key
 parts_elsewhere name table apart [] of db key = refl
 parts_elsewhere name table apart (change ∷ changes) of db key =

@@ -69,14 +69,14 @@ numbers_above shape [] low number above = tt
 numbers_above shape (names ∷ columns) low number above = (above, numbers_above shape columns low (suc number) (omega (arith, above)))
 
 -- the part of a constraint among all parts
-record IsAmong (shape : TableTree) (number : ℕ) (names : List (List ℕ)) (all : List IndexPart) : Type 0 where
+pub record IsAmong (shape : TableTree) (number : ℕ) (names : List (List ℕ)) (all : List IndexPart) : Type 0 where
   pub front : List IndexPart
   pub back : List IndexPart
   pub split : all ≡ front ++ (record { number = number; places = places_of shape names }) ∷ back
   pub below : AllByRecursion (λ (part : IndexPart). part.number < number) front
   pub above : AllByRecursion (λ (part : IndexPart). number < part.number) back
 
-part_among : (shape : TableTree) (columns : List (List (List ℕ))) (first i number : ℕ) (names : List (List ℕ)) → number ≡ first + i → slice_get columns i ≡ Some names → IsAmong shape number names (parts_from shape first columns)
+pub part_among : (shape : TableTree) (columns : List (List (List ℕ))) (first i number : ℕ) (names : List (List ℕ)) → number ≡ first + i → slice_get columns i ≡ Some names → IsAmong shape number names (parts_from shape first columns)
 part_among shape [] first i number names at is = absurd (let no : None ≡ Some names = is in cc)
 part_among shape (one ∷ columns) first zero number names at is =
     let same : one ≡ names = cc in
@@ -143,10 +143,10 @@ module _ (shape : TableTree) (equal : List Value → List Value → Bool) (chang
 
 -- ---- changes elsewhere
 
-pub away : (table : TableName) (changes : List Change) (db : Database) (key : List Value) → AllByRecursion (IsElsewhere table) changes → With db changes table key ≡ db table key
-away table [] db key all = refl
-away table (change ∷ changes) db key all =
-    away table changes (with_change db change) key all.1 ∙ ap (λ (b : Bool). if b && same change.key key then change.row else db table key) all.0
+pub away : (table : TableName) (changes : List Change) (db : Database) (at : List Value) → AllByRecursion (IsElsewhere table) changes → With db changes table at ≡ db table at
+away table [] db at all = refl
+away table (change ∷ changes) db at all =
+    away table changes (with_change db change) at all.1 ∙ ap (λ (b : Bool). if b && same change.key at then change.row else db table at) all.0
 
 planned_there : (table : TableName) (key_of kept : OfRow) (skips : Row → Row → Bool) (changes : List RowChange) → AllByRecursion (λ (change : Change). change.table ≡ table) (planned_by table key_of kept skips changes)
 planned_there table key_of kept skips changes =
@@ -290,13 +290,13 @@ indexed_written db shape equal changes ready can =
 
 -- ---- what is done in one part
 
-deeds_there : (table : TableName) (key_of kept : OfRow) (skips : Row → Row → Bool) (changes : List RowChange) → AllByRecursion (λ (change : Planned). change.table ≡ table) (deeds_by table key_of kept skips changes)
+pub deeds_there : (table : TableName) (key_of kept : OfRow) (skips : Row → Row → Bool) (changes : List RowChange) → AllByRecursion (λ (change : Planned). change.table ≡ table) (deeds_by table key_of kept skips changes)
 deeds_there table key_of kept skips changes =
     all_map (λ (change : Change). change.table ≡ table) change_of (deeds_by table key_of kept skips changes)
     (subst (λ (list : List Change). AllByRecursion (λ (change : Change). change.table ≡ table) list) (sym (deeds_are table key_of kept skips changes)) (planned_there table key_of kept skips changes))
 
 -- changes of own rows insert into no part
-own_free : (changes : List Planned) (db : Database) → AllByRecursion (λ change. is_own change ≡ true) changes → ComeFree inserts_into_part db changes
+pub own_free : (changes : List Planned) (db : Database) → AllByRecursion (λ change. is_own change ≡ true) changes → ComeFree inserts_into_part db changes
 own_free [] db own = tt
 own_free (change ∷ changes) db own =
     (subst (λ (b : Bool). IfSo (not b && is_insert change.deed) (db change.table change.key ≡ None)) (sym own.0) tt, own_free changes (with_change db (change_of change)) own.1)

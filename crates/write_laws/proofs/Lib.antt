@@ -48,6 +48,9 @@ pub mod Owned  -- the own rows of a database
 pub mod Rewrites  -- a write as rows that change
 pub mod Made  -- changes that were made, one exchange each
 pub mod Indexing  -- index parts where rows change
+pub mod Cleared  -- index parts where a table is dropped
+pub mod Emptied  -- all rows of a table that go, with their index rows
 pub mod IndexKeys  -- index rows that are asked for before anything is changed
+pub mod Attempted  -- what a write leaves that keeps index parts
 pub mod Checking  -- checks that are read of index parts
 mod NameFacts  -- worked names

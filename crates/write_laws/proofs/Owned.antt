@@ -119,7 +119,7 @@ AreOwn changes = AllByRecursion (λ change. is_own change ≡ true) changes
 pub table_own : (name : List ℕ) (changes : List Planned) → AllByRecursion (λ change. change.table ≡ rows_table name) changes → AreOwn changes
 table_own name changes of = all_more (λ change. change.table ≡ rows_table name) (λ change. is_own change ≡ true) (λ change is. ap (λ (t : TableName). nat_eq t.part 0) is) changes of
 
-erased_own : (names : List (List ℕ)) → AreOwn (map definition_erased names)
+pub erased_own : (names : List (List ℕ)) → AreOwn (map definition_erased names)
 erased_own [] = tt
 erased_own (name ∷ names) = (refl, erased_own names)
 

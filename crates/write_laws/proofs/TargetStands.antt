@@ -100,7 +100,7 @@ target_stands begin log mine before reads between later fetch write table key ro
 -- ---- a row of what was read for a statement
 
 -- fetches end no statement
-no_relax : (part : List Exchange) → AskOnly IsFetch part → NoRelax part
+pub no_relax : (part : List Exchange) → AskOnly IsFetch part → NoRelax part
 no_relax [] all = tt
 no_relax (x ∷ part) all = (by_op x.op all.0.0, no_relax part all.1)
   where

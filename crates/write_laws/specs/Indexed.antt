@@ -13,13 +13,14 @@ use Rattle.step_model.specs.declared.change.Planned.{Planned}
 use Rattle.step_model.specs.Database.{Database, is_at, nothing}
 use Rattle.step_model.specs.Own.{change_of}
 use Rattle.index_laws.specs.Parts.{IsExact}
+use Rattle.table_rows.specs.Definitions.{defined_name}
 use Rattle.table_rows.specs.Rows.{places_of, values_at}
 use Rattle.constraint_check.specs.Laws.{behind}
 use Rattle.constraint_check.specs.Reads.{is_erase, rows_table}
-use Rattle.batch_meaning.specs.Changing.{definition_erased}
+use Rattle.batch_meaning.specs.Changing.{definition_erased, with_definitions}
 use Rattle.statement_paths.specs.Paths.{definition_put}
 use Rattle.write_laws.specs.Keeping.{IsCreated, IsNoTable, IsPut, with_definition}
-use Rattle.write_laws.specs.Sound.{Firm, IsTableOf, SoundRows}
+use Rattle.write_laws.specs.Sound.{Firm, IsDefined, IsTableOf, SoundRows}
 
 -- ---- the parts of a table
 
@@ -90,3 +91,8 @@ pub record AreEmptied (db : Database) (shape : TableTree) (changes : List Planne
 -- DROP TABLE: these and the erasure of its definition
 abbrev pub IndexedDropped : Type 0
 IndexedDropped = (db : Database) (shape : TableTree) (changes : List Planned) → Firm (own_rows db) → Indexed db → AreEmptied db shape changes → Indexed (behind db (with_definition shape.name changes))
+
+-- and these, where the definitions of its triggers are erased before its own
+abbrev pub IndexedCleared : Type 0
+IndexedCleared = (db : Database) (definitions : List Definition) (shape : TableTree) (changes : List Planned) → Firm (own_rows db) → Indexed db
+    → AllByRecursion (λ definition. IsDefined db (defined_name definition) definition) definitions → AreEmptied db shape changes → Indexed (behind db (with_definitions definitions shape.name changes))

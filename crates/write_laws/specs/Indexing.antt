@@ -8,15 +8,15 @@ use Rattle.tsql_tree.specs.declared.definition.TableTree.{TableTree}
 use Rattle.clause_binder.specs.Scope.{key_places}
 use Rattle.step_model.specs.declared.change.Planned.{Planned}
 use Rattle.step_model.specs.Database.{Database, With}
-use Rattle.index_laws.specs.Deeds.{deeds_by}
+use Rattle.index_laws.specs.Deeds.{deeds_by, rows_gone}
 use Rattle.index_laws.specs.Laws.{FreshRows, OldsApart, erasures_of, itself, never}
-use Rattle.index_laws.specs.Parts.{IsOld, RowChange}
+use Rattle.index_laws.specs.Parts.{Among, IsOld, RowChange}
 use Rattle.index_laws.specs.Whole.{IndexPart, index_of, part_table}
 use Rattle.table_rows.specs.Rows.{key_of, places_of}
 use Rattle.constraint_check.specs.Laws.{KeysAreOne, behind}
 use Rattle.constraint_check.specs.Reads.{rows_table}
 use Rattle.dml_exec.specs.Filling.{Row}
-use Rattle.write_laws.specs.Indexed.{Indexed, index_columns, own_rows}
+use Rattle.write_laws.specs.Indexed.{AreEmptied, Indexed, index_columns, own_rows}
 use Rattle.write_laws.specs.Made.{ComeFree, inserts, inserts_into_part}
 use Rattle.write_laws.specs.Reads.{KeysHave}
 use Rattle.write_laws.specs.Sound.{Firm, IsTableOf}
@@ -78,3 +78,10 @@ StandsThere db change = IsSome (db change.table change.key)
 abbrev pub IndexStands : Type 0
 IndexStands = (db : Database) (shape : TableTree) (equal : List Value → List Value → Bool) (changes : List RowChange) → IsReady db shape equal → CanChange db shape changes
     → AllByRecursion (λ change. (inserts change ≡ false → StandsThere db change) × KeysHave (length change.key) db change.table) (index_deeds shape equal changes)
+
+-- ---- DROP TABLE
+
+-- Where all rows of a table go, with their index rows, nothing is left in any part of it.
+abbrev pub GoneEmptied : Type 0
+GoneEmptied = (db : Database) (shape : TableTree) (equal : List Value → List Value → Bool) (rows : List Row) → IsReady db shape equal → ((key base : List Value) → db (rows_table shape.name) key ≡ Some base → Among (λ row. row ≡ base) rows)
+    → AreEmptied db shape (all_deeds shape equal (rows_gone rows))

@@ -13,5 +13,6 @@ pub mod Rewrites  -- PlannedOf, TakenTold: a write as rows that change, and how 
 pub mod Made  -- MadeLeave, TakenStand: changes that were made, one exchange each, and what they leave
 pub mod Indexing  -- IndexedWritten, IndexFree, IndexStands: index parts where rows of a table change
 pub mod IndexKeys  -- KeysTold, FoundAll: index rows that are asked for before anything is changed
+pub mod Attempted  -- WriteFollows: what a write leaves that keeps index parts
 pub mod Checking  -- PartsPass: checks that are read of exact index parts
 pub mod Plans  -- FirmPlanned, FirmDropPlanned, BoundStands: what a write and DROP TABLE plan keeps it; what CREATE TABLE asks

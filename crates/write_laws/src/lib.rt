@@ -17,8 +17,9 @@ ghost use Rattle.write_laws.specs.Told.{RowsTold, TargetsRead};
 ghost use Rattle.write_laws.specs.Targets.{TargetStands, ToldStands};
 ghost use Rattle.write_laws.specs.Keeping.{KeysSized, FirmCreated, FirmDropped, FirmEmpty, FirmErased, FirmPut, FirmSound, FirmWritten, TablesReady, UntriggeredCreated, UntriggeredDropped, UntriggeredEmpty, UntriggeredWritten};
 ghost use Rattle.write_laws.specs.Found.{FoundDefined, FoundDefinitions, FoundTables};
-ghost use Rattle.write_laws.specs.Indexed.{IndexedCreated, IndexedDropped, IndexedEmpty, IndexedErased, IndexedPut, OwnBehind};
-ghost use Rattle.write_laws.specs.Indexing.{IndexFree, IndexStands, IndexedWritten};
+ghost use Rattle.write_laws.specs.Indexed.{IndexedCleared, IndexedCreated, IndexedDropped, IndexedEmpty, IndexedErased, IndexedPut, OwnBehind};
+ghost use Rattle.write_laws.specs.Indexing.{GoneEmptied, IndexFree, IndexStands, IndexedWritten};
+ghost use Rattle.write_laws.specs.Attempted.{WriteFollows};
 ghost use Rattle.write_laws.specs.Checking.{PartsPass};
 ghost use Rattle.write_laws.specs.IndexKeys.{AskedStand, FoundAll, KeysTold};
 ghost use Rattle.write_laws.specs.Made.{FreeFresh, MadeLeave, TakenStand, WritesMake};
@@ -243,13 +244,14 @@ pub fn law_own_rows()
 {}
 
 /// A database without rows has no index part, and so none that is not as it is to be; each part stays exact where definitions come
-/// and go, and where all rows of all parts of a table are erased with its definition.
+/// and go, and where all rows of all parts of a table are erased with its definition, and with those of its triggers.
 pub fn law_indexed()
     ensures empty { IndexedEmpty }
     ensures created { IndexedCreated }
     ensures put { IndexedPut }
     ensures erased { IndexedErased }
     ensures dropped { IndexedDropped }
+    ensures cleared { IndexedCleared }
 {}
 
 /// What a write plans is what is done at the keys of rows that change; those that it takes are some of its target's image, and each was
@@ -276,6 +278,7 @@ pub fn law_indexing()
     ensures written { IndexedWritten }
     ensures free { IndexFree }
     ensures stands { IndexStands }
+    ensures gone { GoneEmptied }
 {}
 
 /// What is told of index rows that are asked for, their ranges held, is so at the transaction's place; where all are there, the changes
@@ -284,6 +287,12 @@ pub fn law_index_keys()
     ensures told { KeysTold }
     ensures all { FoundAll }
     ensures stand { AskedStand }
+{}
+
+/// Behind a write whose rows were told, whose index rows were asked for, and whose changes were made as these were found, the database
+/// at the transaction's place is what was planned leaves, and each part follows its table's rows.
+pub fn law_attempted()
+    ensures { WriteFollows }
 {}
 
 /// What passes of index parts that are exact passes of all rows.

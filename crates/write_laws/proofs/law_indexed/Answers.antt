@@ -1,3 +1,4 @@
+use Rattle.write_laws.proofs.Cleared.{indexed_cleared}
 use Rattle.write_laws.proofs.Indexed.{indexed_created, indexed_dropped, indexed_empty, indexed_erased, indexed_put}
 use Rattle.write_laws.proofs.law_indexed.Goals as goal
 
@@ -15,3 +16,6 @@ returns-clause-erased c = indexed_erased
 
 pub returns-clause-dropped : goal.returns-clause-dropped
 returns-clause-dropped c = indexed_dropped
+
+pub returns-clause-cleared : goal.returns-clause-cleared
+returns-clause-cleared c = indexed_cleared

@@ -1,3 +1,4 @@
+use Rattle.write_laws.proofs.Emptied.{gone_emptied}
 use Rattle.write_laws.proofs.Indexing.{index_free, index_stands, indexed_written}
 use Rattle.write_laws.proofs.law_indexing.Goals as goal
 
@@ -9,3 +10,6 @@ returns-clause-free c = index_free
 
 pub returns-clause-stands : goal.returns-clause-stands
 returns-clause-stands c = index_stands
+
+pub returns-clause-gone : goal.returns-clause-gone
+returns-clause-gone c = gone_emptied
