@@ -1,7 +1,9 @@
 -- What passes of exact index parts passes of all rows.
-use Rattle.std.proofs.Common.{◌≡◌, refl, sym, ap, ◌∙◌, subst, ℕ, zero, suc, Bool, true, false, if◌then◌else◌, IsTrue, List, [], ◌∷◌, ◌++◌, length, map, filter, Option, Some, None}
+use Rattle.std.proofs.Common.{◌≡◌, refl, sym, ap, ◌∙◌, subst, ℕ, zero, suc, Bool, true, false, if◌then◌else◌, IsTrue, List, [], ◌∷◌, ◌++◌, length, map, filter, slice_get, Option, Some, None, append-nil, append_assoc, arith}
 use Rattle.std.specs.List.{AllByRecursion, flat_map}
 use Rattle.std.proofs.lemmas.Bool.{and_parts}
+use Rattle.std.proofs.lemmas.List.{length-append, length-map}
+use Rattle.std.specs.Option.{option_map}
 use Rattle.value_types.specs.Units.{same_units}
 use Rattle.value_types.specs.declared.table_name.TableName.{TableName}
 use Rattle.value_types.specs.declared.value.Value.{Value}
@@ -26,9 +28,11 @@ use Rattle.constraint_check.specs.Laws.{Agrees, Passes}
 use Rattle.constraint_check.specs.Reads.{child_reads, is_gone, is_key, of_both, of_key, of_row, parent_read, parent_reads, parent_reads_of, reads_for, rows_table, shape_of, unique_read, unique_reads}
 use Rattle.constraint_check.proofs.Lists.{all_left, all_right}
 use Rattle.write_laws.specs.Checking.{ArePartsFrom, HasParts, PartsPass, all_parents, all_uniques, first_foreign, index_rows, parent_part, parent_parts, parents_of_key, places_from, reads_by_parts, unique_part, unique_parts}
-use Rattle.write_laws.specs.Indexed.{index_part, index_places}
+use Rattle.write_laws.specs.Indexed.{Indexed, index_columns, index_part, index_places}
 use Rattle.write_laws.specs.Reads.{RowsFit}
+use Rattle.write_laws.specs.Sound.{IsTableOf}
 use Rattle.write_laws.proofs.Changes.{all_both}
+use Rattle.write_laws.proofs.Indexing.{got_at}
 use Rattle.write_laws.proofs.Written.{of_found}
 
 -- ---- lists
@@ -156,3 +160,24 @@ parts_pass db shapes changes fit parts all =
     (all_over P (of_row all_uniques shapes) (of_row unique_reads shapes) (row_passes db shapes fit parts) changes (all_left P uniques (children ++ parents) all))
     (all_both P children (flat_map (of_key shapes changes) changes) (all_left P children parents behind)
     (all_over P (parents_of_key shapes changes) (of_key shapes changes) (key_passes db shapes fit parts changes) changes (all_right P children parents behind)))
+
+-- ---- where each constraint has a part
+
+module _ (db : Database) (shape : TableTree) (indexed : Indexed db) (defined : IsTableOf db shape) where
+  placed_from : {A : Type 0} (columns : A → List (List ℕ)) (xs : List A) (front back : List (List (List ℕ))) (i : ℕ) → index_columns shape ≡ front ++ (map columns xs ++ back) → i ≡ length front → ArePartsFrom db shape columns (suc i) xs
+  placed_from columns [] front back i is at = tt
+  placed_from columns (x ∷ xs) front back i is at = (
+    indexed.exact shape (suc i) (index_places shape (columns x)) defined (ap (option_map (index_places shape)) (ap (λ (list : List (List (List ℕ))). slice_get list i) is ∙ got_at front (columns x) (map columns xs ++ back) i at)),
+    placed_from columns xs (front ++ columns x ∷ []) back (suc i) (is ∙ sym (append_assoc front (columns x ∷ []) (map columns xs ++ back))) (simp length-append (omega (arith, at))),
+  )
+
+  -- the parts of an indexed database are such, where they are those of the UNIQUEs and then those of the FOREIGN KEYs
+  pub has_parts : index_columns shape ≡ map (λ (unique : KeyTree). unique.columns) shape.uniques ++ map (λ (foreign : ForeignTree). foreign.columns) shape.foreigns → HasParts db shape
+  has_parts all =
+      let uniques : List (List (List ℕ)) = map (λ (unique : KeyTree). unique.columns) shape.uniques in
+      let foreigns : List (List (List ℕ)) = map (λ (foreign : ForeignTree). foreign.columns) shape.foreigns in
+      record {
+        uniques = placed_from (λ (unique : KeyTree). unique.columns) shape.uniques [] foreigns 0 all refl;
+        foreigns = placed_from (λ (foreign : ForeignTree). foreign.columns) shape.foreigns uniques [] (length shape.uniques)
+            (all ∙ ap (λ (list : List (List (List ℕ))). uniques ++ list) (sym (append-nil foreigns))) (sym (length-map shape.uniques (λ (unique : KeyTree). unique.columns)));
+      }

@@ -103,7 +103,7 @@ part_among shape (one ∷ columns) first (suc i) number names at is =
 abbrev IsPlaced : TableTree → IndexPart → Type 0
 IsPlaced shape part = part_places shape part.number ≡ Some (part.places ++ key_places (Some shape))
 
-got_at : {A : Type 0} (front : List A) (x : A) (back : List A) (i : ℕ) → i ≡ length front → slice_get (front ++ x ∷ back) i ≡ Some x
+pub got_at : {A : Type 0} (front : List A) (x : A) (back : List A) (i : ℕ) → i ≡ length front → slice_get (front ++ x ∷ back) i ≡ Some x
 got_at [] x back zero is = refl
 got_at [] x back (suc i) is = absurd (omega (arith, is))
 got_at (y ∷ front) x back zero is = absurd (omega (arith, is))
