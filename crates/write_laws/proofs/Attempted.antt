@@ -1,5 +1,5 @@
 -- What a write leaves that keeps index parts.
-use Rattle.std.proofs.Common.{◌≡◌, refl, sym, ap, ◌∙◌, subst, inl, inr, ℕ, Bool, true, false, not, ◌&&◌, nat_eq, if◌then◌else◌, List, [], ◌∷◌, ◌++◌, length, map, take, Option, Some, None, Ok, append-nil, append_assoc}
+use Rattle.std.proofs.Common.{◌≡◌, refl, sym, ap, ◌∙◌, subst, inl, inr, ℕ, Bool, true, false, not, ◌&&◌, nat_eq, if◌then◌else◌, List, [], ◌∷◌, ◌++◌, length, map, take, Some, None, append-nil, append_assoc}
 use Rattle.std.specs.List.{AllByRecursion}
 use Rattle.lock_modes.specs.declared.KeyPart.TheVariants.{U}
 use Rattle.value_types.specs.declared.table_name.TableName.{TableName}

@@ -1,5 +1,5 @@
 -- What passes of exact index parts passes of all rows.
-use Rattle.std.proofs.Common.{◌≡◌, refl, sym, ap, ◌∙◌, subst, ℕ, zero, suc, Bool, true, false, if◌then◌else◌, IsTrue, List, [], ◌∷◌, ◌++◌, length, map, filter, slice_get, Option, Some, None, append-nil, append_assoc, arith}
+use Rattle.std.proofs.Common.{◌≡◌, refl, sym, ap, ◌∙◌, ℕ, zero, suc, Bool, true, false, if◌then◌else◌, IsTrue, List, [], ◌∷◌, ◌++◌, length, map, filter, slice_get, Option, Some, None, append-nil, append_assoc, arith}
 use Rattle.std.specs.List.{AllByRecursion, flat_map}
 use Rattle.std.proofs.lemmas.Bool.{and_parts}
 use Rattle.std.proofs.lemmas.List.{length-append, length-map}
@@ -25,9 +25,9 @@ use Rattle.index_laws.proofs.Whole.{index_within, tells}
 use Rattle.table_rows.specs.Rows.{has_columns, key_of, places_of, same_key, values_at}
 use Rattle.constraint_check.specs.declared.check_read.CheckRead.{CheckRead}
 use Rattle.constraint_check.specs.Laws.{Agrees, Passes}
-use Rattle.constraint_check.specs.Reads.{child_reads, is_gone, is_key, of_both, of_key, of_row, parent_read, parent_reads, parent_reads_of, reads_for, rows_table, shape_of, unique_read, unique_reads}
+use Rattle.constraint_check.specs.Reads.{child_reads, is_gone, is_key, of_both, of_key, of_row, parent_read, parent_reads, parent_reads_of, rows_table, shape_of, unique_read, unique_reads}
 use Rattle.constraint_check.proofs.Lists.{all_left, all_right}
-use Rattle.write_laws.specs.Checking.{ArePartsFrom, HasParts, PartsPass, all_parents, all_uniques, first_foreign, index_rows, parent_part, parent_parts, parents_of_key, places_from, reads_by_parts, unique_part, unique_parts}
+use Rattle.write_laws.specs.Checking.{ArePartsFrom, HasParts, PartsPass, all_parents, all_uniques, first_foreign, index_rows, parent_part, parent_parts, parents_of_key, places_from, unique_part, unique_parts}
 use Rattle.write_laws.specs.Indexed.{Indexed, index_columns, index_part, index_places}
 use Rattle.write_laws.specs.Reads.{RowsFit}
 use Rattle.write_laws.specs.Sound.{IsTableOf}

@@ -17,14 +17,13 @@ use Rattle.step_model.specs.Own.{change_of, row_of}
 use Rattle.step_model.proofs.Databases.{With-append}
 use Rattle.table_rows.specs.Definitions.{defined_name, objects_name}
 use Rattle.constraint_check.specs.Laws.{behind}
-use Rattle.constraint_check.specs.Reads.{rows_table}
-use Rattle.constraint_check.proofs.Behind.{name_is, same}
+use Rattle.constraint_check.proofs.Behind.{same}
 use Rattle.batch_meaning.specs.Changing.{definition_erased, triggers_of, with_definitions}
 use Rattle.write_laws.specs.Indexed.{AreEmptied, Indexed, IndexedCleared, own_rows}
 use Rattle.write_laws.specs.Keeping.{with_definition}
-use Rattle.write_laws.specs.Sound.{Firm, IsDefined, IsTableOf}
+use Rattle.write_laws.specs.Sound.{Firm, IsDefined}
 use Rattle.write_laws.proofs.Defined.{names_apart, not_objects, not_same}
-use Rattle.write_laws.proofs.Elsewhere.{is_table, table_is, tables_apart, untouched}
+use Rattle.write_laws.proofs.Elsewhere.{is_table, table_is, untouched}
 use Rattle.write_laws.proofs.Erased.{AreNoTables, all_of_objects, erased_all, firm_all, firm_erased, no_table, stay_all, still_none}
 use Rattle.write_laws.proofs.Indexed.{indexed_dropped, indexed_erased, parts_elsewhere}
 use Rattle.write_laws.proofs.Owned.{erased_own, firm_own}

@@ -1,5 +1,5 @@
 -- Where all rows of a table go with their index rows, nothing is left in its parts.
-use Rattle.std.proofs.Common.{◌≡◌, refl, sym, ap, ◌∙◌, subst, ◌⊎◌, inl, inr, ℕ, zero, suc, Bool, true, false, ◌&&◌, ◌||◌, nat_eq, List, [], ◌∷◌, ◌++◌, map, slice_get, Option, Some, None, IsSome, IsTrue, append-nil, arith}
+use Rattle.std.proofs.Common.{◌≡◌, refl, sym, ap, ◌∙◌, subst, inl, inr, ℕ, zero, suc, Bool, true, false, ◌&&◌, ◌||◌, nat_eq, List, [], ◌∷◌, ◌++◌, map, slice_get, Option, Some, None, IsSome, append-nil, arith}
 use Rattle.std.proofs.lemmas.Bool.{and_parts, eqb-true}
 use Rattle.std.proofs.lemmas.Grind.{flat_map-append}
 use Rattle.std.specs.Cmp.{tied_itself}
@@ -9,10 +9,8 @@ use Rattle.std.specs.Option.{option_map}
 use Rattle.std.specs.Ordering.{is_eq}
 use Rattle.value_types.specs.declared.table_name.TableName.{TableName}
 use Rattle.value_types.specs.declared.value.Value.{Value}
-use Rattle.value_types.specs.Order.{table_cmp}
 use Rattle.value_types.specs.OrderLaws.{table_cmp_total}
 use Rattle.tsql_tree.specs.declared.definition.TableTree.{TableTree}
-use Rattle.clause_binder.specs.Scope.{key_places}
 use Rattle.step_model.specs.declared.change.Planned.{Planned}
 use Rattle.step_model.specs.Database.{Database, is_at}
 use Rattle.step_model.specs.Own.{change_of}
@@ -21,13 +19,12 @@ use Rattle.index_laws.specs.Laws.{itself, never}
 use Rattle.index_laws.specs.Parts.{Among, OfRow, RowChange, same}
 use Rattle.index_laws.specs.Whole.{IndexPart, part_table}
 use Rattle.index_laws.proofs.Found.{same_back}
-use Rattle.table_rows.specs.Rows.{has_columns, key_of, places_of, values_at}
+use Rattle.table_rows.specs.Rows.{has_columns, key_of, places_of}
 use Rattle.constraint_check.specs.Reads.{is_erase, rows_table}
 use Rattle.constraint_check.proofs.Lists.{all_more}
 use Rattle.dml_exec.specs.Filling.{Row}
-use Rattle.write_laws.specs.Indexed.{AreEmptied, index_columns, index_places, part_places}
+use Rattle.write_laws.specs.Indexed.{index_columns, index_places, part_places}
 use Rattle.write_laws.specs.Indexing.{GoneEmptied, IsReady, all_deeds, index_deeds, part_deeds, parts_of, row_deeds, row_in}
-use Rattle.write_laws.specs.Sound.{IsTableOf}
 use Rattle.write_laws.proofs.Changes.{all_both}
 use Rattle.write_laws.proofs.Defined.{one_table}
 use Rattle.write_laws.proofs.Indexing.{deeds_there, part_among}

@@ -1,8 +1,7 @@
 -- Index parts where rows of a table change.
-use Rattle.std.proofs.Common.{◌≡◌, refl, sym, ap, ◌∙◌, subst, ◌⊎◌, inl, inr, ℕ, zero, suc, ◌+◌, ◌<◌, Bool, true, false, not, ◌&&◌, nat_eq, if◌then◌else◌, List, [], ◌∷◌, ◌++◌, length, map, slice_get, Option, Some, None, IsSome, arith, append_assoc}
-use Rattle.std.proofs.lemmas.Bool.{and_parts, eqb-true}
+use Rattle.std.proofs.Common.{◌≡◌, refl, sym, ap, ◌∙◌, subst, inl, inr, ℕ, zero, suc, ◌+◌, ◌<◌, Bool, true, false, not, ◌&&◌, nat_eq, if◌then◌else◌, List, [], ◌∷◌, ◌++◌, length, map, slice_get, Option, Some, None, IsSome, arith, append_assoc}
+use Rattle.std.proofs.lemmas.Bool.{and_parts}
 use Rattle.std.proofs.lemmas.List.{length-append, length-map, map-append}
-use Rattle.std.specs.Cmp.Lexicographic.{bytes_decides}
 use Rattle.std.specs.List.{AllByRecursion, flat_map}
 use Rattle.std.specs.Option.{option_map}
 use Rattle.std.specs.Ordering.{is_eq, nat_cmp}
@@ -18,13 +17,12 @@ use Rattle.step_model.specs.declared.change.Change.{Change}
 use Rattle.step_model.specs.declared.change.Planned.{Planned}
 use Rattle.step_model.specs.Database.{Database, With, with_change}
 use Rattle.step_model.specs.Own.{change_of, is_insert}
-use Rattle.step_model.proofs.Databases.{With-append}
 use Rattle.index_laws.specs.Deeds.{deeds_by, deeds_erased, deeds_written, erases, erases_if, inserts as inserts_row, replaces, rewrites_if}
-use Rattle.index_laws.specs.Laws.{FreshIn, FreshOne, IsElsewhere, MayIndex, itself, never, part_erasures}
-use Rattle.index_laws.specs.Moves.{erased_by, planned_by, rewritten_if, written_by}
+use Rattle.index_laws.specs.Laws.{FreshIn, FreshOne, IsElsewhere, MayIndex, itself, never}
+use Rattle.index_laws.specs.Moves.{planned_by, rewritten_if, written_by}
 use Rattle.index_laws.specs.Parts.{IsExact, IsOld, OfRow, RowChange, same}
 use Rattle.index_laws.specs.Whole.{IndexPart, IsOther, index_of, part_changes, part_table, row_changes, statement_changes}
-use Rattle.index_laws.proofs.Behind.{IsErasure, IsWriting, all_both, all_erase, all_more, all_write, erasures, one_old, writings}
+use Rattle.index_laws.proofs.Behind.{IsErasure, IsWriting, all_both, all_erase, all_more, all_write, erasures, writings}
 use Rattle.index_laws.proofs.Deeds.{deeds_are}
 use Rattle.index_laws.proofs.Fresh.{fresh_may}
 use Rattle.index_laws.proofs.PartFresh.{olds_one, part_fresh}
@@ -42,8 +40,8 @@ use Rattle.write_laws.specs.Made.{ComeFree, IfSo, inserts, inserts_into_part}
 use Rattle.write_laws.specs.Reads.{KeysHave}
 use Rattle.write_laws.specs.Sound.{IsTableOf}
 use Rattle.write_laws.proofs.Defined.{defined_by, names_apart, not_objects, not_same, one_table}
-use Rattle.write_laws.proofs.Elsewhere.{objects_apart, one_number, parts_equal, tables_apart}
-use Rattle.write_laws.proofs.Indexed.{exact_too, not_own, part_apart}
+use Rattle.write_laws.proofs.Elsewhere.{objects_apart, one_number, parts_equal}
+use Rattle.write_laws.proofs.Indexed.{exact_too}
 use Rattle.write_laws.proofs.KeySizes.{of_row, same_long}
 use Rattle.write_laws.proofs.Made.{all_erased, erases_of, free_both, writes_of}
 

@@ -2,7 +2,6 @@
 use Rattle.std.proofs.Common.{◌≡◌, refl, sym, ap, ◌∙◌, subst, ◌⊎◌, inl, inr, ℕ, Bool, true, false, not, ◌&&◌, if◌then◌else◌, List, [], ◌∷◌, ◌++◌, length, map, take, Option, Some, None, IsSome, is_some, Ok, Err, append-nil, append_assoc}
 use Rattle.std.proofs.lemmas.List.{map-append}
 use Rattle.std.specs.List.{flat_map}
-use Rattle.lock_modes.specs.declared.KeyPart.TheVariants.{U}
 use Rattle.value_types.specs.declared.table_name.TableName.{TableName}
 use Rattle.value_types.specs.declared.value.Value.{Value}
 use Rattle.tsql_tree.specs.declared.definition.TableTree.{TableTree}
@@ -13,31 +12,25 @@ use Rattle.step_model.specs.declared.change.Planned.{Planned}
 use Rattle.step_model.specs.declared.manner.Manner.{Manner}
 use Rattle.step_model.specs.declared.op.Op.{Op}
 use Rattle.step_model.specs.declared.op.Op.TheVariants as ops
-use Rattle.step_model.specs.declared.range.KeyRange.{KeyRange}
 use Rattle.step_model.specs.declared.reply.Reply.{Reply}
 use Rattle.step_model.specs.declared.reply.Reply.TheVariants as replies
 use Rattle.step_model.specs.Database.{Database, With, with_change}
 use Rattle.step_model.specs.Dialog.{Held, IsQuiet, asks, over, tries}
 use Rattle.step_model.specs.Exchange.{Exchange}
-use Rattle.step_model.specs.Fits.{FreshIn, NoRelax, NoneEnds, WritesAt, fetches_current, inserts_fresh, is_ended, is_relax, numbers_rise, place_of, targets_stable, view}
+use Rattle.step_model.specs.Fits.{FreshIn, NoRelax, NoneEnds, WritesAt, inserts_fresh, is_ended, is_relax, place_of, view}
 use Rattle.step_model.specs.Log.{Commit as Logged, State}
 use Rattle.step_model.specs.Own.{Progress, change_of, is_insert, none_open, progress_after, progress_of}
 use Rattle.step_model.proofs.Databases.{With-append}
-use Rattle.index_laws.specs.Deeds.{deeds_by, deeds_erased, deeds_written, erases, erases_if, inserts as inserts_row, replaces, rewrites_if}
-use Rattle.index_laws.specs.Laws.{FreshOne, FreshRows, erasures_of, itself, never}
+use Rattle.index_laws.specs.Deeds.{deeds_by, deeds_erased, deeds_written, erases_if, inserts as inserts_row, replaces, rewrites_if}
+use Rattle.index_laws.specs.Laws.{FreshOne, FreshRows, itself, never}
 use Rattle.index_laws.specs.Moves.{erased_by, erased_if, rewritten_if, written_by}
 use Rattle.index_laws.specs.Parts.{Among, IsOld, OfRow, RowChange, same}
 use Rattle.table_rows.specs.Rows.{key_of}
 use Rattle.constraint_check.specs.Laws.{behind}
-use Rattle.dml_exec.specs.declared.refusal.Level.{Level}
 use Rattle.dml_exec.specs.Filling.{Row}
-use Rattle.dml_exec.specs.Reading.{hold_at}
 use Rattle.dml_exec.specs.Writing.{asks_deed, done_by, no_room, present, writes_all, writes_one}
-use Rattle.statement_paths.specs.Asked.{AskOnly, IsFetch}
-use Rattle.write_laws.specs.Indexed.{is_own}
 use Rattle.write_laws.specs.Made.{AreMade, ComeFree, FreeFresh, IfSo, IsMadeBy, MadeLeave, TakenStand, WritesMake, inserts, inserts_into_part, op_of}
 use Rattle.write_laws.specs.Reads.{at_place}
-use Rattle.write_laws.specs.Rewrites.{IsTaken}
 use Rattle.write_laws.proofs.Dialogs.{held_both, held_ok, held_room, ok_err}
 use Rattle.write_laws.proofs.Parts.{from_both}
 use Rattle.write_laws.proofs.TargetStands.{both_end, both_relax, place_past, told_stands}

@@ -1,7 +1,6 @@
 -- A write as rows that change.
-use Rattle.std.proofs.Common.{◌≡◌, refl, sym, ap, ◌∙◌, subst, ◌⊎◌, inl, inr, ℕ, Bool, true, false, List, [], ◌∷◌, ◌++◌, length, map, filter, zip, Option, Some, None, Ok, if◌then◌else◌, cond, append-nil}
+use Rattle.std.proofs.Common.{◌≡◌, refl, sym, ap, ◌∙◌, subst, inl, inr, ℕ, Bool, true, false, List, [], ◌∷◌, ◌++◌, length, map, filter, zip, Option, Some, None, Ok, if◌then◌else◌, cond, append-nil}
 use Rattle.std.proofs.lemmas.Bool.{and_parts}
-use Rattle.std.specs.Cmp.{IsEquivalence, eq_by_cmp_equiv}
 use Rattle.std.specs.List.{AllByRecursion, flat_map, items_where_true, list_all}
 use Rattle.std.specs.List.Sorted.{IsStrictlySortedBy}
 use Rattle.std.specs.Ordering.{is_eq}
@@ -13,7 +12,6 @@ use Rattle.value_types.specs.Order.{key_cmp}
 use Rattle.tsql_tree.specs.declared.definition.TableTree.{TableTree}
 use Rattle.bound_tree.specs.declared.expr.BoundTest.{BoundTest}
 use Rattle.bound_tree.specs.declared.query.InnerQuery.{InnerQuery}
-use Rattle.bound_tree.specs.declared.query.JoinKind.TheVariants.{Inner}
 use Rattle.bound_tree.specs.declared.write.BoundSet.{BoundSet}
 use Rattle.bound_tree.specs.declared.write.BoundWrite.{BoundWrite}
 use Rattle.bound_tree.specs.declared.write.BoundWrite.TheVariants as write
@@ -22,7 +20,7 @@ use Rattle.bound_tree.specs.Outcomes.{Outcome, after}
 use Rattle.bound_tree.specs.Truths.{is_true}
 use Rattle.clause_binder.specs.Scope.{key_places}
 use Rattle.query_eval.specs.Joining.{image_of}
-use Rattle.query_eval.specs.KeyTests.{key_tests, meets, rows_read, where_tests}
+use Rattle.query_eval.specs.KeyTests.{key_tests, meets, where_tests}
 use Rattle.query_eval.specs.Phases.{each, rows_where}
 use Rattle.query_eval.specs.Targets.{inner_answers, rows_meant, setting_over}
 use Rattle.query_eval.proofs.Images.{by_last, by_steps}
@@ -33,7 +31,7 @@ use Rattle.step_model.specs.declared.change.Planned.{Planned}
 use Rattle.step_model.specs.declared.op.Hold.{Hold}
 use Rattle.step_model.specs.declared.range.KeyRange.{KeyRange}
 use Rattle.step_model.specs.Exchange.{Exchange}
-use Rattle.index_laws.specs.Deeds.{deeds_by, deeds_erased, deeds_written, rewrites_if, rows_added, rows_gone, rows_set}
+use Rattle.index_laws.specs.Deeds.{deeds_erased, deeds_written, rewrites_if, rows_added, rows_gone, rows_set}
 use Rattle.index_laws.specs.Laws.{OldsApart, itself, never}
 use Rattle.index_laws.specs.Parts.{NoneOld, RowChange}
 use Rattle.table_rows.specs.Rows.{has_columns, key_of, same_key, values_at}
@@ -43,7 +41,7 @@ use Rattle.dml_exec.specs.declared.rewritten.Rewritten.TheVariants.{Inserted, Se
 use Rattle.dml_exec.specs.Filling.{Row}
 use Rattle.dml_exec.specs.Planning.{erasure, insertion, moved, rewrite, rewritten, row_set, rows_added as added, stays}
 use Rattle.dml_exec.specs.Reading.{fits}
-use Rattle.write_laws.specs.Rewrites.{AreApart, ArePaired, AreSome, ChangesAreDeeds, IsTaken, PlannedOf, TakenApart, TakenTold, row_changes_of, rows_offered, rows_taken}
+use Rattle.write_laws.specs.Rewrites.{AreApart, ArePaired, AreSome, ChangesAreDeeds, IsTaken, PlannedOf, TakenApart, TakenTold, rows_offered, rows_taken}
 use Rattle.write_laws.specs.Told.{ToldThere}
 use Rattle.write_laws.proofs.Plans.{made_of}
 use Rattle.write_laws.proofs.Targets.{target_left}

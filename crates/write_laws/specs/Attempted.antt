@@ -25,7 +25,7 @@ use Rattle.write_laws.specs.IndexKeys.{as_found, asks_keys}
 use Rattle.write_laws.specs.Indexing.{all_deeds}
 use Rattle.write_laws.specs.Made.{AreMade}
 use Rattle.write_laws.specs.Reads.{at_place}
-use Rattle.write_laws.specs.Rewrites.{AreApart, ArePaired, IsTaken, row_changes_of, rows_taken}
+use Rattle.write_laws.specs.Rewrites.{AreApart, IsTaken, row_changes_of, rows_taken}
 use Rattle.write_laws.specs.Sound.{Firm, IsTableOf}
 
 -- what is planned of rows of a table

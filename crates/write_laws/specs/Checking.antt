@@ -1,7 +1,7 @@
 -- Own: what checks read of index parts, in the place of all rows of a table: for UNIQUE the index rows that begin with the values of a row
 -- that is written, and for rows that refer to one that is gone those that begin with its key. What passes of exact parts passes of all
 -- rows. Nothing is read so yet.
-use Rattle.std.specs.Prelude.{◌≡◌, ℕ, zero, suc, if◌then◌else◌, List, [], ◌∷◌, ◌++◌, length}
+use Rattle.std.specs.Prelude.{ℕ, zero, suc, if◌then◌else◌, List, [], ◌∷◌, ◌++◌, length}
 use Rattle.std.specs.List.{AllByRecursion, flat_map}
 use Rattle.value_types.specs.Units.{same_units}
 use Rattle.value_types.specs.declared.table_name.TableName.{TableName}

@@ -1,7 +1,7 @@
 -- Own: index rows that go or are replaced are asked for before anything is changed, each by its whole key, with its range held. Where none
 -- was there it is not erased, and is inserted in the place of being replaced. What was told of a key is so at the transaction's place, and
 -- where all were there the changes are those that were planned. Nothing is asked so yet.
-use Rattle.std.specs.Prelude.{◌≡◌, ℕ, Bool, true, false, not, ◌&&◌, if◌then◌else◌, List, [], ◌∷◌, ◌++◌, filter, length, map, is_some, Result, Ok, Err}
+use Rattle.std.specs.Prelude.{◌≡◌, Bool, true, false, not, ◌&&◌, if◌then◌else◌, List, [], ◌∷◌, ◌++◌, filter, length, map, is_some, Result, Ok, Err}
 use Rattle.std.specs.List.{AllByRecursion}
 use Rattle.lock_modes.specs.declared.KeyPart.TheVariants.{U}
 use Rattle.value_types.specs.declared.table_name.TableName.{TableName}
