@@ -46,6 +46,7 @@ pub mod Whole  -- what statements keep is all that is to be kept
 pub mod Indexed  -- index parts where definitions come and go
 pub mod Owned  -- the own rows of a database
 pub mod Rewrites  -- a write as rows that change
+pub mod Taken  -- the rows that a plan takes
 pub mod Made  -- changes that were made, one exchange each
 pub mod Indexing  -- index parts where rows change
 pub mod Cleared  -- index parts where a table is dropped

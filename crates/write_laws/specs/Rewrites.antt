@@ -3,6 +3,7 @@
 use Rattle.std.specs.Prelude.{◌≡◌, ◌⊎◌, ℕ, false, true, List, [], ◌∷◌, length, Ok, Some}
 use Rattle.std.specs.List.{AllByRecursion}
 use Rattle.lock_modes.specs.declared.KeyPart.{KeyPart}
+use Rattle.lock_modes.specs.declared.KeyPart.TheVariants.{U}
 use Rattle.value_types.specs.declared.table_name.TableName.{TableName}
 use Rattle.value_types.specs.declared.value.Value.{Value}
 use Rattle.tsql_tree.specs.declared.definition.TableTree.{TableTree}
@@ -18,13 +19,15 @@ use Rattle.index_laws.specs.Deeds.{deeds_by, rows_added, rows_gone, rows_set}
 use Rattle.index_laws.specs.Laws.{OldsApart, itself, never}
 use Rattle.index_laws.specs.Parts.{RowChange}
 use Rattle.table_rows.specs.Rows.{key_of, same_key, values_at}
+use Rattle.constraint_check.specs.Reads.{rows_table, shape_of}
+use Rattle.dml_exec.specs.declared.refusal.Level.{Level}
 use Rattle.dml_exec.specs.declared.rewritten.Rewritten.{Rewritten}
 use Rattle.dml_exec.specs.declared.rewritten.Rewritten.TheVariants.{Inserted, Set, Erased}
 use Rattle.dml_exec.specs.Filling.{Row}
 use Rattle.dml_exec.specs.Planning.{Chg, changes_of, table_written}
-use Rattle.dml_exec.specs.Reading.{fits}
+use Rattle.dml_exec.specs.Reading.{fits, hold_at}
 use Rattle.write_laws.specs.Planning.{target_image}
-use Rattle.write_laws.specs.Told.{AreTold, WasTold}
+use Rattle.write_laws.specs.Told.{AreTold, TargetTold, WasTold}
 
 -- ---- the rows that change
 
@@ -92,3 +95,17 @@ TakenTold = (part : List Exchange) (range : KeyRange) (hold : Hold) (lock : KeyP
 -- then no two changes take rows of one key
 abbrev pub TakenApart : Type 0
 TakenApart = (shape : TableTree) (rows : Rewritten) → AreApart shape (rows_taken rows) → OldsApart (key_of shape) (row_changes_of rows)
+
+-- ---- of a plan
+
+-- The rows that are taken are those of a range of their table; each was told with U, and held as the level says.
+pub record AreTaken (part : List Exchange) (level : Level) (shape : TableTree) (rows : Rewritten) : Type 0 where
+  pub range : KeyRange
+  pub table : range.table ≡ rows_table shape.name
+  pub told : AllByRecursion (IsTaken part range (hold_at level) U shape) (rows_taken rows)
+  pub apart : AreApart shape (rows_taken rows)
+
+-- so they are where the rows of the target were told
+abbrev pub PlanTaken : Type 0
+PlanTaken = (vars : List Value) (shapes : List TableTree) (level : Level) (shape : TableTree) (of : BoundWrite) (images : List (List Row)) (planned : List Planned) (part : List Exchange) → shape_of (table_written of) shapes ≡ Some shape
+    → (plan : IsPlanOf shape of images planned) → TargetTold vars shapes level of part images → AreTaken part level shape plan.rows

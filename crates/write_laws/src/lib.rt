@@ -23,7 +23,7 @@ ghost use Rattle.write_laws.specs.Attempted.{WriteFollows};
 ghost use Rattle.write_laws.specs.Checking.{PartsPass};
 ghost use Rattle.write_laws.specs.IndexKeys.{AskedStand, FoundAll, KeysTold};
 ghost use Rattle.write_laws.specs.Made.{FreeFresh, MadeLeave, TakenStand, WritesMake};
-ghost use Rattle.write_laws.specs.Rewrites.{ChangesAreDeeds, PlannedOf, TakenApart, TakenTold};
+ghost use Rattle.write_laws.specs.Rewrites.{ChangesAreDeeds, PlanTaken, PlannedOf, TakenApart, TakenTold};
 ghost use Rattle.write_laws.specs.Plans.{BoundStands, PlannedReadable, FirmDropPlanned, FirmPlanned, UntriggeredPlanned};
 
 // ---- what a write plans
@@ -261,6 +261,7 @@ pub fn law_rewrites()
     ensures planned { PlannedOf }
     ensures told { TakenTold }
     ensures apart { TakenApart }
+    ensures taken { PlanTaken }
 {}
 
 /// Changes that were asked one after another were made by an exchange each. If insertions into index parts come to free keys, all do,
