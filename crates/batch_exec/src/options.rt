@@ -2,14 +2,14 @@
 
 ghost use Rattle.std.specs.Prelude.{◌≡◌, IfOk};
 ghost use Rattle.step_model.specs.Exchange.{IsPriority};
-ghost use Rattle.batch_meaning.specs.Settings.{at_level, outside_profile, priority_of, set_option, with_priority, with_timeout};
+ghost use Rattle.batch_meaning.specs.Settings.{at_level, is_setting, outside_profile, priority_of, set_option, with_priority, with_timeout};
 ghost use Rattle.batch_meaning.specs.Failures.{plain};
 
 use batch_meaning::{Failure, Settings};
 use dml_exec::Level;
 use session_state::OUTSIDE_PROFILE;
 use step_model::{Manner, Patience};
-use tsql_tree::{IsolationLevel, PriorityWord, SessionOption};
+use tsql_tree::{FixedOption, IsolationLevel, PriorityWord, SessionOption};
 
 /// The settings behind SET of an option.
 pub(crate) fn set_option(option: SessionOption, settings: Settings) -> Result<Settings, Failure>
@@ -28,12 +28,28 @@ pub(crate) fn set_option(option: SessionOption, settings: Settings) -> Result<Se
         }),
         SessionOption::ImplicitTransactions(true) => Err(not_known()),
         SessionOption::ImplicitTransactions(false) => Ok(settings),
-        SessionOption::Fixed(_, true) => Ok(settings),
-        SessionOption::Fixed(_, false) => Err(not_known()),
+        SessionOption::Fixed(which, is_on) => {
+            if is_setting(which, is_on) {
+                Ok(settings)
+            } else {
+                Err(not_known())
+            }
+        }
         SessionOption::Isolation(level) => at_level(level, settings),
         SessionOption::LockTimeout(number) => with_timeout(number, settings),
         SessionOption::TextSize(_) => Ok(settings),
         SessionOption::DeadlockPriority(word) => with_priority(priority_of(word), settings),
+    }
+}
+
+/// Whether this setting of an option that changes nothing is known.
+fn is_setting(which: FixedOption, is_on: bool) -> bool
+    ensures { result ≡ is_setting which is_on }
+{
+    match which {
+        FixedOption::CursorCloseOnCommit => true,
+        FixedOption::FormatOnly | FixedOption::NumericRoundAbort => !is_on,
+        _ => is_on,
     }
 }
 

@@ -1,7 +1,9 @@
 -- Transact-SQL reference, "SET statements", "SET TRANSACTION ISOLATION LEVEL", "SET LOCK_TIMEOUT", "SET DEADLOCK_PRIORITY": what SET makes
 -- of the settings of a session. What this server does not know is outside its profile.
-use Rattle.std.specs.Prelude.{int_le, ℕ, ℤ, pos, negsuc, ◌&&◌, Bool, true, false, if◌then◌else◌, Result, Ok, Err}
+use Rattle.std.specs.Prelude.{int_le, ℕ, ℤ, pos, negsuc, not, ◌&&◌, Bool, true, false, if◌then◌else◌, Result, Ok, Err}
 use Rattle.std.specs.Ordering.{int_eq}
+use Rattle.tsql_tree.specs.declared.option.FixedOption.{FixedOption}
+use Rattle.tsql_tree.specs.declared.option.FixedOption.TheVariants as fixed
 use Rattle.tsql_tree.specs.declared.option.IsolationLevel.{IsolationLevel}
 use Rattle.tsql_tree.specs.declared.option.IsolationLevel.TheVariants as isolation
 use Rattle.tsql_tree.specs.declared.option.PriorityWord.{PriorityWord}
@@ -32,7 +34,7 @@ first_settings = record { xact_abort = false; no_count = false; level = level.Re
 
 -- ---- each option
 
--- of an option of which one setting is known
+-- of an option that changes nothing, by whether its setting is known
 abbrev pub if_known : Bool → Settings → Result Settings Failure
 if_known true settings = Ok settings
 if_known false settings = not_known
@@ -65,13 +67,21 @@ abbrev pub with_priority : ℤ → Settings → Result Settings Failure
 with_priority number settings =
     if is_priority number then Ok (with_manner (record settings.manner { priority = number }) settings) else not_known
 
+-- the known settings of an option that changes nothing: ON; of FMTONLY and NUMERIC_ROUNDABORT OFF, which is how all is
+-- answered; and both of CURSOR_CLOSE_ON_COMMIT (own: a cursor stays open in either)
+abbrev pub is_setting : FixedOption → Bool → Bool
+is_setting fixed.CursorCloseOnCommit is_on = true
+is_setting fixed.FormatOnly is_on = not is_on
+is_setting fixed.NumericRoundAbort is_on = not is_on
+is_setting other is_on = is_on
+
 -- the settings behind SET
 abbrev pub set_option : SessionOption → Settings → Result Settings Failure
 set_option (option.XactAbort is_on) settings = Ok (record settings { xact_abort = is_on })
 set_option (option.NoCount is_on) settings = Ok (record settings { no_count = is_on })
 set_option (option.ImplicitTransactions true) settings = not_known
 set_option (option.ImplicitTransactions false) settings = Ok settings
-set_option (option.Fixed which is_on) settings = if_known is_on settings
+set_option (option.Fixed which is_on) settings = if_known (is_setting which is_on) settings
 set_option (option.Isolation level) settings = at_level level settings
 set_option (option.LockTimeout number) settings = with_timeout number settings
 set_option (option.TextSize number) settings = Ok settings

@@ -63,7 +63,7 @@ use Rattle.batch_meaning.specs.Changing.{dropped, dropped_as, planned_as, planne
 use Rattle.batch_meaning.specs.Failures.{naming, plain}
 use Rattle.batch_meaning.specs.Progress.{SessionProgress, system_in, values_of}
 use Rattle.batch_meaning.specs.Raised.{Around}
-use Rattle.batch_meaning.specs.Settings.{is_priority, not_known, outside_profile, priority_of, set_option, with_manner}
+use Rattle.batch_meaning.specs.Settings.{if_known, is_priority, is_setting, not_known, outside_profile, priority_of, set_option, with_manner}
 use Rattle.batch_meaning.specs.Statements.{IsRead, ReadsAs, text_of}
 use Rattle.batch_meaning.specs.Selecting.{answer_as, answer_in, bound_as, bound_over, raised_by}
 use Rattle.batch_meaning.specs.Values.{Assigned, any_text, assigned_at, assigned_next, assigned_onto, assigned_to, cast_as, cast_to, failed_as, first_of, greatest_class, greatest_number, greatest_state, kind_or, least_number, number_between, number_in, outside_limits, places_onto, rows_assigned, standing, status_of, text_in, whole_of, ◌>>=◌}
@@ -312,8 +312,11 @@ option_usual (options.XactAbort is_on) settings = tt
 option_usual (options.NoCount is_on) settings = tt
 option_usual (options.ImplicitTransactions true) settings = refl
 option_usual (options.ImplicitTransactions false) settings = tt
-option_usual (options.Fixed which true) settings = tt
-option_usual (options.Fixed which false) settings = refl
+option_usual (options.Fixed which is_on) settings = by_setting (is_setting which is_on)
+  where
+    by_setting : (known : Bool) → UsualOr Anything (if_known known settings)
+    by_setting true = tt
+    by_setting false = refl
 option_usual (options.Isolation isolation.ReadCommitted) settings = tt
 option_usual (options.Isolation isolation.Serializable) settings = tt
 option_usual (options.Isolation other) settings = refl

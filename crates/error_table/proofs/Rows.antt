@@ -3,7 +3,7 @@ use Rattle.std.proofs.Common.{◌≡◌, refl, true, false, pos, negsuc, map, So
 use Rattle.std.specs.Prelude.{codes}
 use Rattle.std.specs.List.{list_all}
 use Rattle.error_table.specs.declared.action.Action.TheVariants.{Statement, Batch, BatchAndTransaction, Doom}
-use Rattle.error_table.specs.declared.action.Caught.TheVariants.{LevelUp}
+use Rattle.error_table.specs.declared.action.Caught.TheVariants.{LevelUp, No}
 use Rattle.error_table.specs.declared.action.RaisedBy.TheVariants.{Engine, Raiserror, Throw}
 use Rattle.error_table.specs.Act.{action_of}
 use Rattle.error_table.specs.Table.{error_lines, line, row_of}
@@ -25,7 +25,7 @@ first_line : row_of (pos 102) ≡ Some (line 102 15 Batch LevelUp (codes "Incorr
 unfolding error_lines row_of
 first_line = refl
 
-last_line : row_of (pos 49013) ≡ Some (line 49013 15 Batch LevelUp (codes "Variable '{name}' is declared twice."))
+last_line : row_of (pos 49014) ≡ Some (line 49014 16 Batch No (codes "The transaction request is not served at byte {name}."))
 unfolding error_lines row_of
 last_line = refl
 

@@ -58,6 +58,7 @@ error_lines =
     ∷ line 3931 16 T Y (codes "The transaction cannot be rolled back to a savepoint.")
     ∷ line 3998 16 T N (codes "Uncommittable transaction is detected at the end of the batch.")
     ∷ line 6401 16 S Y (codes "No transaction or savepoint named '{name}' was found.")
+    ∷ line 8016 16 B N (codes "The remote procedure call is not served at byte {name}.")
     ∷ line 8114 16 T Y (codes "Conversion failed when converting text to BIGINT.")
     ∷ line 8115 16 S Y (codes "Arithmetic overflow error.")
     ∷ line 8120 16 B L (codes "Column '{name}' is neither aggregated nor grouped.")
@@ -80,6 +81,7 @@ error_lines =
     ∷ line 49011 16 B N (codes "Unknown database.")
     ∷ line 49012 16 S Y (codes "Arguments do not match the procedure.")
     ∷ line 49013 15 B L (codes "Variable '{name}' is declared twice.")
+    ∷ line 49014 16 B N (codes "The transaction request is not served at byte {name}.")
     ∷ []
 
 -- the first of some lines with this number

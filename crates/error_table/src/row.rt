@@ -64,7 +64,7 @@ macro_rules! rows {
 }
 
 /// The table, in the order of the numbers.
-const ERRORS: [ErrorRow; 54] = rows! {
+const ERRORS: [ErrorRow; 56] = rows! {
     102 15 Batch LevelUp "Incorrect syntax near '{near}'.",
     116 16 Batch LevelUp "Only one item is allowed in this subquery.",
     137 15 Batch LevelUp "Must declare the scalar variable \"{name}\".",
@@ -97,6 +97,7 @@ const ERRORS: [ErrorRow; 54] = rows! {
     3931 16 BatchAndTransaction Yes "The transaction cannot be rolled back to a savepoint.",
     3998 16 BatchAndTransaction No "Uncommittable transaction is detected at the end of the batch.",
     6401 16 Statement Yes "No transaction or savepoint named '{name}' was found.",
+    8016 16 Batch No "The remote procedure call is not served at byte {name}.",
     8114 16 BatchAndTransaction Yes "Conversion failed when converting text to BIGINT.",
     8115 16 Statement Yes "Arithmetic overflow error.",
     8120 16 Batch LevelUp "Column '{name}' is neither aggregated nor grouped.",
@@ -119,4 +120,5 @@ const ERRORS: [ErrorRow; 54] = rows! {
     49011 16 Batch No "Unknown database.",
     49012 16 Statement Yes "Arguments do not match the procedure.",
     49013 15 Batch LevelUp "Variable '{name}' is declared twice.",
+    49014 16 Batch No "The transaction request is not served at byte {name}.",
 };

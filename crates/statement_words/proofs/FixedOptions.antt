@@ -1,4 +1,4 @@
--- What reading by descent is of the options of SET of which one setting is known.
+-- What reading by descent is of the options of SET whose known settings change nothing.
 use Rattle.std.specs.Prelude.{◌≡◌, List, [], ◌∷◌, Some, Result, refl}
 use Rattle.std.proofs.Common.{sym, subst}
 use Rattle.tsql_tree.specs.declared.option.FixedOption.{FixedOption}

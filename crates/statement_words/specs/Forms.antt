@@ -66,7 +66,7 @@ deallocate_form w = do
   name ← expect c.Name w
   Some (form.Deallocate (units name.0), name.1)
 
--- an option of which one setting is known: this one, or one of these
+-- an option whose known settings change nothing: this one, or one of these
 abbrev pub known_option_form : FixedOption → List Terminal → Outcome Form
 known_option_form a w = do
   word_ ← expect (c.One (k.Fixed a)) w

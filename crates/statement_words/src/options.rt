@@ -35,7 +35,7 @@ pub fn set_other(lexemes: &mut Lexemes<'_>) -> Result<Form, ReadFault>
     set_fixed(lexemes)
 }
 
-/// An option of which one setting is known.
+/// An option whose known settings change nothing.
 #[tactic(auto, using(crate::proofs::FixedOptions::fixed_gives))]
 fn set_fixed(lexemes: &mut Lexemes<'_>) -> Result<Form, ReadFault>
     ensures { Gives (fixed_option_form lexemes.old) result lexemes.new }

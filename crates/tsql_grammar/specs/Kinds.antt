@@ -22,7 +22,7 @@ signs =
 abbrev pub fixed_options : List FixedOption
 fixed_options =
     o.AnsiNulls ∷ o.AnsiNullDefaultOn ∷ o.AnsiPadding ∷ o.AnsiWarnings ∷ o.ArithAbort ∷
-    o.ConcatNullYieldsNull ∷ o.QuotedIdentifier ∷ []
+    o.ConcatNullYieldsNull ∷ o.QuotedIdentifier ∷ o.CursorCloseOnCommit ∷ o.FormatOnly ∷ o.NumericRoundAbort ∷ []
 
 abbrev pub functions : List Function
 functions =
@@ -75,6 +75,9 @@ option_place o.AnsiWarnings = 3
 option_place o.ArithAbort = 4
 option_place o.ConcatNullYieldsNull = 5
 option_place o.QuotedIdentifier = 6
+option_place o.CursorCloseOnCommit = 7
+option_place o.FormatOnly = 8
+option_place o.NumericRoundAbort = 9
 
 abbrev pub function_place : Function → ℕ
 function_place f.Cast = 0
@@ -225,9 +228,9 @@ kind_place k.FetchStatus = 9
 kind_place k.BeforeElse = 10
 kind_place (k.Sign x) = 11 + sign_place x
 kind_place (k.Fixed x) = 27 + option_place x
-kind_place (k.Function x) = 34 + function_place x
-kind_place (k.Word x) = 49 + word_place x
-kind_place (k.Reserved x) = 82 + reserved_place x
+kind_place (k.Function x) = 37 + function_place x
+kind_place (k.Word x) = 52 + word_place x
+kind_place (k.Reserved x) = 85 + reserved_place x
 
 -- two kinds are one
 abbrev pub same_kind : Kind → Kind → Bool

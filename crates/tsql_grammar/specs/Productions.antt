@@ -493,6 +493,7 @@ productions text r.AfterSet =
     ∷ way (word v.DeadlockPriority ∷ rule r.Priority ∷ []) (λ _ priority. form.SetOption (option.DeadlockPriority priority))
     -- fixed = ANSI_NULLS|ANSI_NULL_DFLT_ON|ANSI_PADDING|ANSI_WARNINGS|ARITHABORT
     --       | CONCAT_NULL_YIELDS_NULL|QUOTED_IDENTIFIER
+    --       | CURSOR_CLOSE_ON_COMMIT|FMTONLY|NUMERIC_ROUNDABORT (own)
     ∷ map (λ fixed. way (lexeme (c.One (k.Fixed fixed)) ∷ rule r.OnOff ∷ []) (λ _ on. form.SetOption (option.Fixed fixed on))) fixed_options
 productions text r.OnOff = way (reserved w.On ∷ []) (λ _. true) ∷ way (word v.Off ∷ []) (λ _. false) ∷ []
 -- level = READ COMMITTED | READ UNCOMMITTED | REPEATABLE READ | SNAPSHOT | SERIALIZABLE

@@ -168,6 +168,9 @@ option_spellings =
     ∷ (codes "ARITHABORT", k.Fixed o.ArithAbort)
     ∷ (codes "CONCAT_NULL_YIELDS_NULL", k.Fixed o.ConcatNullYieldsNull)
     ∷ (codes "QUOTED_IDENTIFIER", k.Fixed o.QuotedIdentifier)
+    ∷ (codes "CURSOR_CLOSE_ON_COMMIT", k.Fixed o.CursorCloseOnCommit)
+    ∷ (codes "FMTONLY", k.Fixed o.FormatOnly)
+    ∷ (codes "NUMERIC_ROUNDABORT", k.Fixed o.NumericRoundAbort)
     ∷ []
 
 abbrev pub spellings : List (List ℕ × Kind)

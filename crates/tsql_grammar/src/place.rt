@@ -76,9 +76,9 @@ fn place_of(kind: Kind) -> u16
         Kind::BeforeElse => 10,
         Kind::Sign(sign) => 11 + sign_place(sign),
         Kind::Fixed(option) => 27 + option_place(option),
-        Kind::Function(function) => 34 + function_place(function),
-        Kind::Word(word) => 49 + word_place(word),
-        Kind::Reserved(word) => 82 + reserved_place(word),
+        Kind::Function(function) => 37 + function_place(function),
+        Kind::Word(word) => 52 + word_place(word),
+        Kind::Reserved(word) => 85 + reserved_place(word),
     }
 }
 
@@ -122,6 +122,9 @@ fn option_place(option: FixedOption) -> u16
         FixedOption::ArithAbort => 4,
         FixedOption::ConcatNullYieldsNull => 5,
         FixedOption::QuotedIdentifier => 6,
+        FixedOption::CursorCloseOnCommit => 7,
+        FixedOption::FormatOnly => 8,
+        FixedOption::NumericRoundAbort => 9,
     }
 }
 

@@ -166,7 +166,7 @@ const OF_B: [(&[u8], Kind); 6] = [
 ];
 
 /// The words that begin with C.
-const OF_C: [(&[u8], Kind); 15] = [
+const OF_C: [(&[u8], Kind); 16] = [
     (b"CASE", Kind::Reserved(Reserved::Case)),
     (b"CHECK", Kind::Reserved(Reserved::Check)),
     (b"CLOSE", Kind::Reserved(Reserved::Close)),
@@ -184,6 +184,10 @@ const OF_C: [(&[u8], Kind); 15] = [
     (
         b"CONCAT_NULL_YIELDS_NULL",
         Kind::Fixed(FixedOption::ConcatNullYieldsNull),
+    ),
+    (
+        b"CURSOR_CLOSE_ON_COMMIT",
+        Kind::Fixed(FixedOption::CursorCloseOnCommit),
     ),
 ];
 
@@ -215,12 +219,13 @@ const OF_E: [(&[u8], Kind); 12] = [
 ];
 
 /// The words that begin with F.
-const OF_F: [(&[u8], Kind); 5] = [
+const OF_F: [(&[u8], Kind); 6] = [
     (b"FETCH", Kind::Reserved(Reserved::Fetch)),
     (b"FOR", Kind::Reserved(Reserved::For)),
     (b"FOREIGN", Kind::Reserved(Reserved::Foreign)),
     (b"FROM", Kind::Reserved(Reserved::From)),
     (b"FULL", Kind::Reserved(Reserved::LeftOut)),
+    (b"FMTONLY", Kind::Fixed(FixedOption::FormatOnly)),
 ];
 
 /// The words that begin with G.
@@ -277,7 +282,7 @@ const OF_M: [(&[u8], Kind); 2] = [
 ];
 
 /// The words that begin with N.
-const OF_N: [(&[u8], Kind); 7] = [
+const OF_N: [(&[u8], Kind); 8] = [
     (b"NOT", Kind::Reserved(Reserved::Not)),
     (b"NULL", Kind::Reserved(Reserved::Null)),
     (b"NULLIF", Kind::Reserved(Reserved::NullIf)),
@@ -285,6 +290,10 @@ const OF_N: [(&[u8], Kind); 7] = [
     (b"NOCOUNT", Kind::Word(Word::NoCount)),
     (b"NORMAL", Kind::Word(Word::Normal)),
     (b"NEXT", Kind::Word(Word::Next)),
+    (
+        b"NUMERIC_ROUNDABORT",
+        Kind::Fixed(FixedOption::NumericRoundAbort),
+    ),
 ];
 
 /// The words that begin with O.

@@ -435,11 +435,12 @@ const FIRST_STATIC: [Class; 1] = classes! { [Word Static] };
 
 const FIRST_READ_ONLY: [Class; 1] = classes! { [Word ReadOnly] };
 
-const FIRST_AFTER_SET: [Class; 15] = classes! {
+const FIRST_AFTER_SET: [Class; 18] = classes! {
     (Variable) [Reserved Transaction] [Word XactAbort] [Word NoCount] [Word ImplicitTransactions]
     [Word LockTimeout] [Word TextSize] [Word DeadlockPriority] [Fixed AnsiNulls]
     [Fixed AnsiNullDefaultOn] [Fixed AnsiPadding] [Fixed AnsiWarnings] [Fixed ArithAbort]
-    [Fixed ConcatNullYieldsNull] [Fixed QuotedIdentifier]
+    [Fixed ConcatNullYieldsNull] [Fixed QuotedIdentifier] [Fixed CursorCloseOnCommit]
+    [Fixed FormatOnly] [Fixed NumericRoundAbort]
 };
 
 const FIRST_ON_OFF: [Class; 2] = classes! { [Word Off] [Reserved On] };

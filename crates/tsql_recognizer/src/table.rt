@@ -370,7 +370,7 @@ const OF_CURSOR_STATIC: [&[Symbol]; 2] = productions! { [STATIC] [] };
 
 const OF_CURSOR_READ_ONLY: [&[Symbol]; 2] = productions! { [READ_ONLY] [] };
 
-const OF_AFTER_SET: [&[Symbol]; 15] = productions! {
+const OF_AFTER_SET: [&[Symbol]; 18] = productions! {
     [VARIABLE {Uses} EQUAL (Expr)]
     [XACT_ABORT (OnOff)]
     [NO_COUNT (OnOff)]
@@ -386,6 +386,9 @@ const OF_AFTER_SET: [&[Symbol]; 15] = productions! {
     [[Fixed ArithAbort] (OnOff)]
     [[Fixed ConcatNullYieldsNull] (OnOff)]
     [[Fixed QuotedIdentifier] (OnOff)]
+    [[Fixed CursorCloseOnCommit] (OnOff)]
+    [[Fixed FormatOnly] (OnOff)]
+    [[Fixed NumericRoundAbort] (OnOff)]
 };
 
 const OF_ON_OFF: [&[Symbol]; 2] = productions! { [ON] [OFF] };

@@ -1,6 +1,6 @@
 //! What SET sets of a session.
 
-/// An option of the session that is ON or OFF, and of which this server knows one of the two.
+/// An option of the session that is ON or OFF, and whose known settings change nothing.
 #[derive(Clone, Copy, Debug, PartialEq, Eq)]
 pub enum FixedOption {
     /// `ANSI_NULLS`
@@ -17,6 +17,12 @@ pub enum FixedOption {
     ConcatNullYieldsNull,
     /// `QUOTED_IDENTIFIER`
     QuotedIdentifier,
+    /// `CURSOR_CLOSE_ON_COMMIT`
+    CursorCloseOnCommit,
+    /// `FMTONLY`
+    FormatOnly,
+    /// `NUMERIC_ROUNDABORT`
+    NumericRoundAbort,
 }
 
 /// A level of isolation, as it is written.
@@ -56,7 +62,7 @@ pub enum SessionOption {
     NoCount(bool),
     /// `IMPLICIT_TRANSACTIONS`
     ImplicitTransactions(bool),
-    /// An option of which one setting is known.
+    /// An option whose known settings change nothing.
     Fixed(FixedOption, bool),
     /// `TRANSACTION ISOLATION LEVEL`
     Isolation(IsolationLevel),
