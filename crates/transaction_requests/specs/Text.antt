@@ -9,7 +9,7 @@ use Rattle.transaction_requests.specs.declared.fault.TransactionFault.TheVariant
 use Rattle.transaction_requests.specs.Reading.{NewTransaction, TransactionRequest, begins, commits, rolls_back, saves, request_of}
 
 -- a level above 0 in words
-abbrev pub level_words : ℕ → List ℕ
+unfoldable pub level_words : ℕ → List ℕ
 level_words level =
     if level == 1 then codes "READ UNCOMMITTED"
     else if level == 2 then codes "READ COMMITTED"
@@ -29,14 +29,13 @@ doubled unit = if unit == bracket then bracket ∷ bracket ∷ [] else unit ∷ 
 abbrev pub called : List ℕ → List ℕ
 called name = if length name == 0 then [] else codes " [" ++ flat_map doubled name ++ codes "]"
 
-abbrev pub begin_text : NewTransaction → List ℕ
-begin_text new = codes "BEGIN TRANSACTION" ++ called new.name
+-- in front of what begins at a level; 0 leaves the session's
+abbrev pub level_text : ℕ → List ℕ
+level_text level = if level == 0 then [] else codes "SET TRANSACTION ISOLATION LEVEL " ++ level_words level ++ codes "; IF @@ERROR = 0 "
 
 -- a transaction begins
 abbrev pub new_text : NewTransaction → List ℕ
-new_text new =
-    if new.level == 0 then begin_text new
-    else codes "SET TRANSACTION ISOLATION LEVEL " ++ level_words new.level ++ codes "; IF @@ERROR = 0 " ++ begin_text new
+new_text new = level_text new.level ++ codes "BEGIN TRANSACTION" ++ called new.name
 
 -- what begins behind another, where something does
 abbrev pub anew_text : Option NewTransaction → List ℕ
