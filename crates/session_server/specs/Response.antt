@@ -1,5 +1,5 @@
 -- What a message is answered by ([MS-TDS] 2.2.7): options, or tokens, of which those of a batch or a call are its own.
-use Rattle.std.specs.Prelude.{ℕ, ℤ, pos, ◌-◌, ◌%◌, ◌==◌, ◌&&◌, if◌then◌else◌, List, [], ◌∷◌, Some}
+use Rattle.std.specs.Prelude.{ℕ, ℤ, pos, ◌-◌, ◌%◌, ◌==◌, ◌&&◌, Bool, false, if◌then◌else◌, List, [], ◌∷◌, Some}
 use Rattle.std.specs.Fmt.{decimal}
 use Rattle.tds_tokens.specs.Numbers.{done_final, done_more, done_error, done_attn, command_none}
 use Rattle.tds_tokens.specs.declared.token.DoneKind.TheVariants.{Done}
@@ -32,14 +32,26 @@ unserved number at last = error_token (raised_at (pos 1) (naming number (decimal
 
 -- ---- one DONE ([MS-TDS] 2.2.7.6; own: where drivers are served)
 
--- the DONE of the last statement says that nothing follows, in the place of the batch's own
-abbrev pub merged : Token → Token → List Token
-merged (Finished Done status command rows) (Finished Done final none zero) =
-    if status % 2 == done_more && final == done_final then Finished Done (status - done_more) command rows ∷ []
-    else Finished Done status command rows ∷ Finished Done final none zero ∷ []
-merged first last = first ∷ last ∷ []
+-- a DONE that says that more follows
+abbrev pub is_followed : Token → Bool
+is_followed (Finished Done status command rows) = status % 2 == done_more
+is_followed token = false
 
--- A batch's tokens, where the DONE of a statement that stands right in front of the batch's own takes its place.
+-- the DONE of a batch that no error has ended
+abbrev pub is_final : Token → Bool
+is_final (Finished Done status command rows) = status == done_final
+is_final token = false
+
+-- it says that nothing follows
+abbrev pub unfollowed : Token → Token
+unfollowed (Finished kind status command rows) = Finished kind (status - done_more) command rows
+unfollowed token = token
+
+-- the DONE of the last statement, in the place of the batch's own
+abbrev pub merged : Token → Token → List Token
+merged first last = if is_followed first && is_final last then unfollowed first ∷ [] else first ∷ last ∷ []
+
+-- A batch's tokens, where a statement's DONE right in front of the batch's own takes its place.
 unfoldable pub ended_once : List Token → List Token
 ended_once [] = []
 ended_once (token ∷ []) = token ∷ []
