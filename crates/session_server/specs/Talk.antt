@@ -161,6 +161,15 @@ handle_request connected (Err transaction_fault.Memory) = ends Memory
 
 -- ---- all kinds of messages
 
+-- on a connection that is logged in
+abbrev pub handle_logged : Connected → Message → Handling
+handle_logged connected message =
+    if message.kind == sql_batch then handle_batch connected message.payload (batch_fault message.payload)
+    else if message.kind == rpc_request then handle_rpc connected (rpc_of message.payload)
+    else if message.kind == attention then handle_attention connected
+    else if message.kind == transaction_manager && connected.drivers then handle_request connected (managed message.payload)
+    else ends (OutOfPlace message.at message.kind)
+
 -- By the type of its packets ([MS-TDS] 2.2.3.1.1). A message of another type, or of one that has no place
 -- there, ends the connection.
 abbrev pub handle : Config → ServerState → Message → Handling
@@ -171,12 +180,7 @@ handle config Initial message =
 handle config LoginReady message =
     if message.kind == login7 then handle_login config (login_of message.payload)
     else ends (OutOfPlace message.at message.kind)
-handle config (LoggedIn connected) message =
-    if message.kind == sql_batch then handle_batch connected message.payload (batch_fault message.payload)
-    else if message.kind == rpc_request then handle_rpc connected (rpc_of message.payload)
-    else if message.kind == attention then handle_attention connected
-    else if message.kind == transaction_manager && connected.drivers then handle_request connected (managed message.payload)
-    else ends (OutOfPlace message.at message.kind)
+handle config (LoggedIn connected) message = handle_logged connected message
 
 -- ---- all messages
 
