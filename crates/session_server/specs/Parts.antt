@@ -29,7 +29,7 @@ use Rattle.tds_packets.specs.Reading.{StopsBy}
 
 -- the packets that are sent in a state have a size that packets may have; before the login it is a fixed one
 abbrev pub IsSized : ServerState → Type 0
-IsSized (LoggedIn size) = IsPacketSize size
+IsSized (LoggedIn connected) = IsPacketSize connected.packet_size
 IsSized state = Unit {0}
 
 -- the packets that were prepared are the bytes of the response to a session of this SPID

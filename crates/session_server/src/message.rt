@@ -40,6 +40,27 @@ const UNREADABLE_LOGIN: i32 = 49010;
 /// How many bytes the length of ALL_HEADERS has ([MS-TDS] 2.2.5.3).
 const HEADERS_LENGTH_LEN: usize = 4;
 
+/// A connection that is logged in.
+#[derive(Clone, Copy)]
+pub(crate) struct Connected {
+    /// The size of the packets that are sent, in bytes.
+    pub(crate) packet_size: u16,
+    /// Whether what drivers send is served.
+    pub(crate) drivers: bool,
+}
+
+impl Connected {
+    /// With packets of this many bytes.
+    fn with(config: &Config, packet_size: u16) -> Connected
+        ensures { result ≡ connected_with config.now packet_size }
+    {
+        Connected {
+            packet_size,
+            drivers: config.drivers,
+        }
+    }
+}
+
 /// Where a connection stands, by the server's states in [MS-TDS] 3.3.5.
 #[derive(Clone, Copy)]
 pub(crate) enum ServerState {
@@ -47,23 +68,18 @@ pub(crate) enum ServerState {
     Initial,
     /// Behind a PRELOGIN: a LOGIN7 comes.
     LoginReady,
-    /// Logged in: batches, calls and attentions come.
-    LoggedIn {
-        /// The size of the packets that are sent, in bytes.
-        packet_size: u16,
-    },
+    /// Logged in: batches, calls, attentions and transaction manager requests come.
+    LoggedIn(Connected),
 }
 
 impl ServerState {
     /// Where a connection begins.
-    pub(crate) fn first(entry: Entry) -> ServerState
-        ensures { result ≡ first_state entry }
+    pub(crate) fn first(config: &Config) -> ServerState
+        ensures { result ≡ first_state config.now }
     {
-        match entry {
+        match config.entry {
             Entry::Login => ServerState::Initial,
-            Entry::Bare => ServerState::LoggedIn {
-                packet_size: DEFAULT_SIZE,
-            },
+            Entry::Bare => ServerState::LoggedIn(Connected::with(config, DEFAULT_SIZE)),
         }
     }
 }
