@@ -1,13 +1,10 @@
 -- One DONE at a batch's end: which tokens are left, what their bytes are, and that they have bytes.
-use Rattle.std.proofs.Common.{◌≡◌, ℕ, ◌-◌, ◌%◌, ◌<◌, List, [], ◌∷◌, ◌++◌, length, refl, sym, ap, ◌∙◌, append_assoc, arith}
+use Rattle.std.proofs.Common.{◌≡◌, ◌<◌, ◌&&◌, Bool, true, false, if◌then◌else◌, List, [], ◌∷◌, ◌++◌, length, Option, None, Some, ℕ, refl, sym, ap, ◌∙◌, append_assoc, arith}
 use Rattle.tds_tokens.specs.Fit.{FitTokens}
 use Rattle.tds_tokens.specs.Spelling.{TokenBytes, columns_after, token_bytes, tokens_bytes}
 use Rattle.tds_tokens.specs.declared.columns.ColumnInfo.{ColumnInfo}
-use Rattle.tds_tokens.specs.declared.token.DoneKind.{DoneKind}
-use Rattle.tds_tokens.specs.declared.token.DoneKind.TheVariants.{Done}
 use Rattle.tds_tokens.specs.declared.token.Token.{Token}
-use Rattle.tds_tokens.specs.declared.token.Token.TheVariants.{Finished}
-use Rattle.session_server.specs.Response.{ended_once, merged}
+use Rattle.session_server.specs.Response.{ended_once, is_final, is_followed, merged, unfollowed}
 
 -- ---- the tokens
 
@@ -19,42 +16,47 @@ once_behind (a ∷ []) first last = refl
 once_behind (a ∷ b ∷ []) first last = ap (λ (tokens : List Token). a ∷ tokens) (once_behind (b ∷ []) first last)
 once_behind (a ∷ b ∷ c ∷ front) first last = ap (λ (tokens : List Token). a ∷ tokens) (once_behind (b ∷ c ∷ front) first last)
 
--- where there is one at most, nothing changes
+-- one alone stays
 pub once_few : (tokens : List Token) → length tokens < 2 → ended_once tokens ≡ tokens
 unfolding ended_once
 once_few [] few = refl
 once_few (token ∷ []) few = refl
 once_few (first ∷ second ∷ rest) few = let no : ⊥ = omega arith in absurd no
 
--- a statement's DONE, behind which the batch's own would follow
-merged_more : (status command rows none zero : ℕ) → status % 2 ≡ 1 → merged (Finished Done status command rows) (Finished Done 0 none zero) ≡ Finished Done (status - 1) command rows ∷ []
-merged_more status command rows none zero more = rw more refl
+-- one takes the place of two
+one_for : (test : Bool) (first last one : Token) → Some one ≡ (if test then Some (unfollowed first) else None) → (if test then unfollowed first ∷ [] else first ∷ last ∷ []) ≡ one ∷ []
+one_for true first last one is = ap (λ (token : Token). token ∷ []) (let same : unfollowed first ≡ one = cc in same)
+one_for false first last one is = absurd (let no : Some one ≡ None = is in cc)
 
--- so the batch has the one
-pub once_more : (front : List Token) (status command rows none zero : ℕ) → status % 2 ≡ 1
-    → ended_once (front ++ Finished Done status command rows ∷ Finished Done 0 none zero ∷ []) ≡ front ++ Finished Done (status - 1) command rows ∷ []
-once_more front status command rows none zero more =
-    once_behind front (Finished Done status command rows) (Finished Done 0 none zero) ∙ ap (λ (tokens : List Token). front ++ tokens) (merged_more status command rows none zero more)
+-- or none does
+none_for : (test : Bool) (first last : Token) → None ≡ (if test then Some (unfollowed first) else None) → (if test then unfollowed first ∷ [] else first ∷ last ∷ []) ≡ first ∷ last ∷ []
+none_for true first last is = absurd (let no : None ≡ Some (unfollowed first) = is in cc)
+none_for false first last is = refl
+
+pub once_one : (front : List Token) (first last one : Token) → Some one ≡ (if is_followed first && is_final last then Some (unfollowed first) else None) → ended_once (front ++ first ∷ last ∷ []) ≡ front ++ one ∷ []
+once_one front first last one is = once_behind front first last ∙ ap (λ (tokens : List Token). front ++ tokens) (one_for (is_followed first && is_final last) first last one is)
+
+pub once_two : (front : List Token) (first last : Token) → None ≡ (if is_followed first && is_final last then Some (unfollowed first) else None) → ended_once (front ++ first ∷ last ∷ []) ≡ front ++ first ∷ last ∷ []
+once_two front first last is = once_behind front first last ∙ ap (λ (tokens : List Token). front ++ tokens) (none_for (is_followed first && is_final last) first last is)
 
 -- ---- their bytes
 
--- a DONE has the same bytes whatever columns were described
-bytes_after : (front : List Token) (columns : List ColumnInfo) (kind : DoneKind) (status command rows : ℕ)
-    → tokens_bytes columns (front ++ Finished kind status command rows ∷ []) ≡ tokens_bytes columns front ++ TokenBytes (Finished kind status command rows ∷ [])
-unfolding tokens_bytes
-bytes_after [] columns kind status command rows = refl
-bytes_after (token ∷ front) columns kind status command rows =
-    ap (λ (bytes : List ℕ). token_bytes columns token ++ bytes) (bytes_after front (columns_after columns token) kind status command rows)
-    ∙ sym (append_assoc (token_bytes columns token) (tokens_bytes (columns_after columns token) front) (TokenBytes (Finished kind status command rows ∷ [])))
+module _ (one : Token) (anywhere : (columns : List ColumnInfo) → tokens_bytes columns (one ∷ []) ≡ TokenBytes (one ∷ [])) where
+  bytes_after : (front : List Token) (columns : List ColumnInfo) → tokens_bytes columns (front ++ one ∷ []) ≡ tokens_bytes columns front ++ TokenBytes (one ∷ [])
+  unfolding tokens_bytes
+  bytes_after [] columns = anywhere columns
+  bytes_after (token ∷ front) columns =
+      ap (λ (bytes : List ℕ). token_bytes columns token ++ bytes) (bytes_after front (columns_after columns token))
+      ∙ sym (append_assoc (token_bytes columns token) (tokens_bytes (columns_after columns token) front) (TokenBytes (one ∷ [])))
 
--- so it is written behind what stands in front of it
-pub bytes_behind : (front : List Token) (kind : DoneKind) (status command rows : ℕ)
-    → TokenBytes (front ++ Finished kind status command rows ∷ []) ≡ TokenBytes front ++ TokenBytes (Finished kind status command rows ∷ [])
-bytes_behind front kind status command rows = bytes_after front [] kind status command rows
+  -- a token that has the same bytes whatever columns were described is written behind what stands in front of it
+  pub bytes_behind : (front : List Token) → TokenBytes (front ++ one ∷ []) ≡ TokenBytes front ++ TokenBytes (one ∷ [])
+  bytes_behind front = bytes_after front []
 
-pub once_bytes : (front : List Token) (status command rows none zero : ℕ) → status % 2 ≡ 1
-    → TokenBytes (ended_once (front ++ Finished Done status command rows ∷ Finished Done 0 none zero ∷ [])) ≡ TokenBytes front ++ TokenBytes (Finished Done (status - 1) command rows ∷ [])
-once_bytes front status command rows none zero more = ap TokenBytes (once_more front status command rows none zero more) ∙ bytes_behind front Done (status - 1) command rows
+  -- so is the one that takes the place of two
+  pub once_bytes : (tokens front : List Token) (first last : Token) → tokens ≡ front ++ first ∷ last ∷ [] → Some one ≡ (if is_followed first && is_final last then Some (unfollowed first) else None)
+      → TokenBytes (ended_once tokens) ≡ TokenBytes front ++ TokenBytes (one ∷ [])
+  once_bytes tokens front first last whole is = ap (λ (given : List Token). TokenBytes (ended_once given)) whole ∙ ap TokenBytes (once_one front first last one is) ∙ bytes_behind front
 
 -- ---- that they have bytes
 
