@@ -140,8 +140,13 @@ begin_few n new is = omega (arith, length-append (codes "BEGIN TRANSACTION") (ca
 
 new_few : (n : ℕ) (new : NewTransaction) → IsNew n new → length (new_text new) ≤ n + 90
 new_few n new is = few_if (n + 90) (new.level == 0) (begin_text new) _ (omega (arith, begin_few n new is))
-    (omega (arith, length-append (codes "SET TRANSACTION ISOLATION LEVEL " ++ level_words new.level ++ codes "; IF @@ERROR = 0 ") (begin_text new),
-    around (codes "SET TRANSACTION ISOLATION LEVEL ") (level_words new.level) (codes "; IF @@ERROR = 0 "), level_few new.level, begin_few n new is))
+    (omega (
+      arith,
+      length-append (codes "SET TRANSACTION ISOLATION LEVEL " ++ level_words new.level ++ codes "; IF @@ERROR = 0 ") (begin_text new),
+      around (codes "SET TRANSACTION ISOLATION LEVEL ") (level_words new.level) (codes "; IF @@ERROR = 0 "),
+      level_few new.level,
+      begin_few n new is,
+    ))
 
 anew_few : (n : ℕ) (anew : Option NewTransaction) → IsAnew n anew → length (anew_text anew) ≤ n + 92
 anew_few n None is = omega arith
@@ -154,8 +159,14 @@ guard_few (Some new) = omega arith
 text_few : (n : ℕ) (request : TransactionRequest) → IsNamed n request → length (text_of request) ≤ 2 * n + 200
 text_few n (begins new) is = omega (arith, new_few n new is)
 text_few n (commits name anew) is = omega (arith, around (codes "COMMIT TRANSACTION") (called name) (anew_text anew), called_few n name is.0, anew_few n anew is.1)
-text_few n (rolls_back name anew) is = omega (arith, length-append (guard anew ++ codes "ROLLBACK TRANSACTION" ++ called name) (anew_text anew), around (guard anew) (codes "ROLLBACK TRANSACTION") (called name),
-    guard_few anew, called_few n name is.0, anew_few n anew is.1)
+text_few n (rolls_back name anew) is = omega (
+  arith,
+  length-append (guard anew ++ codes "ROLLBACK TRANSACTION" ++ called name) (anew_text anew),
+  around (guard anew) (codes "ROLLBACK TRANSACTION") (called name),
+  guard_few anew,
+  called_few n name is.0,
+  anew_few n anew is.1,
+)
 text_few n (saves name) is = omega (arith, length-append (codes "SAVE TRANSACTION") (called name), called_few n name is)
 
 -- ---- requests
