@@ -18,7 +18,7 @@ returns-in-Ok-clause-handled g c =
 pub returns-in-Err-Bad-clause-handled : goal.returns-in-Err-Bad-clause-handled
 returns-in-Err-Bad-clause-handled g c =
     let refused : rpc_of c.args.payload.now ≡ Err (Bad c.in-Err-Bad.at c.in-Err-Bad.kind) = rw c.in-Err-Bad.field-0-is at c.in-Err-Bad.ensures.exact in
-    answered_as c.args.spid (g.P.Port.past c.args.port.now) _ _ c.args.session.now c.refuse_call.result (ap (handle_rpc c.args.connected) refused) c.refuse_call.ensures
+    answered_as c.args.spid (g.P.Port.past c.args.port.now) _ _ c.args.session.now c.refuse_call.result (ap (handle_rpc c.args.connected) refused) c.refuse_call.ensures.answered
 
 pub returns-in-Err-Memory-clause-handled : goal.returns-in-Err-Memory-clause-handled
 returns-in-Err-Memory-clause-handled g c = (may_want_rpc c.args.connected c.args.payload.now, record { exchanges = []; past = goes_nowhere _; left = inl (refl, refl) })
