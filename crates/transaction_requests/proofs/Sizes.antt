@@ -104,13 +104,17 @@ numbered_named number n bytes rest le =
     (holds_if (IsNamed n) (number == rollback_xact) _ _ (holds_then (IsEnd n) (IsNamed n) (end_at rest) _ (end_named n rest le) (λ end is. is))
     (holds_if (IsNamed n) (number == save_xact) _ _ (holds_then (Front (IsName n) n) (IsNamed n) (name_at rest) _ (name_front n rest le) (λ name is. is.0)) tt)))
 
+behind_few : (payload : List ℕ) → Holds (AtMost (length payload)) (behind_headers payload)
+unfolding behind_headers
+behind_few payload = holds_if (AtMost (length payload)) (nat_lt (length payload) 4 || nat_lt (little_number 4 payload) 4 || nat_lt (length payload) (little_number 4 payload)) _ _ tt (omega (arith, length-drop (little_number 4 payload) payload))
+
+numbered_few : (n : ℕ) (bytes : List ℕ) → length bytes ≤ n → Holds (IsNamed n) (numbered_at bytes)
+unfolding numbered_at
+numbered_few n bytes le = holds_then (Front (AtMost n) n) (IsNamed n) (bytes_at 2 bytes) _ (bytes_front 2 n bytes le) (λ number had. numbered_named (from_le_bytes w16 number.0) n bytes number.1 had.1)
+
 request_named : (payload : List ℕ) → Holds (IsNamed (length payload)) (request_of payload)
-unfolding request_of behind_headers numbered_at
-request_named payload =
-    let n : ℕ = length payload in
-    holds_then (AtMost n) (IsNamed n) (behind_headers payload) _
-    (holds_if (AtMost n) (nat_lt (length payload) 4 || nat_lt (little_number 4 payload) 4 || nat_lt (length payload) (little_number 4 payload)) _ _ tt (omega (arith, length-drop (little_number 4 payload) payload)))
-    (λ rest few. holds_then (Front (AtMost n) n) (IsNamed n) (bytes_at 2 rest) _ (bytes_front 2 n rest few) (λ number had. numbered_named (from_le_bytes w16 number.0) n rest number.1 had.1))
+unfolding request_of
+request_named payload = holds_then (AtMost (length payload)) (IsNamed (length payload)) (behind_headers payload) _ (behind_few payload) (λ rest few. numbered_few (length payload) rest few)
 
 -- ---- its text
 
@@ -126,7 +130,7 @@ around : (front middle back : List ℕ) → length (front ++ middle ++ back) ≡
 around front middle back = omega (arith, length-append (front ++ middle) back, length-append front middle)
 
 called_few : (n : ℕ) (name : List ℕ) → IsName n name → length (called name) ≤ n + 3
-called_few n name is = few_if (n + 3) (length name == 0) [] (codes " [" ++ flat_map doubled name ++ codes "]") (omega arith) (omega (arith, around (codes " [") (flat_map doubled name) (codes "]"), doubled_few name))
+called_few n name is = few_if (n + 3) (length name == 0) [] (codes " [" ++ flat_map doubled name ++ codes "]") (omega arith) (omega (arith, is, around (codes " [") (flat_map doubled name) (codes "]"), doubled_few name))
 
 level_few : (level : ℕ) → length (level_words level) ≤ 16
 level_few level =
