@@ -1,9 +1,12 @@
 -- A batch's tokens with one DONE at their end, and their bytes.
-use Rattle.std.proofs.Common.{◌≡◌, ◌<◌, ◌&&◌, Bool, true, false, if◌then◌else◌, List, [], ◌∷◌, ◌++◌, length, Option, Some, None, refl, sym, ap, ◌∙◌, append_assoc, arith}
+use Rattle.std.proofs.Common.{◌≡◌, ℕ, ◌<◌, ◌&&◌, Bool, true, false, if◌then◌else◌, List, [], ◌∷◌, ◌++◌, length, Option, Some, None, refl, sym, ap, subst, ◌∙◌, append_assoc, arith}
 use Rattle.tds_tokens.specs.declared.columns.ColumnInfo.{ColumnInfo}
+use Rattle.tds_tokens.specs.declared.token.DoneKind.TheVariants.{Done}
 use Rattle.tds_tokens.specs.declared.token.Token.{Token}
 use Rattle.tds_tokens.specs.Fit.{FitTokens}
 use Rattle.tds_tokens.specs.Spelling.{TokenBytes, columns_after, token_bytes, tokens_bytes}
+use Rattle.session_state.proofs.Fitting.{done_fit}
+use Rattle.session_server.specs.Parts.{IsDone}
 use Rattle.session_server.specs.Response.{ended_once, is_final, is_followed, merged, unfollowed}
 
 -- whatever stands in front of the last two
@@ -38,16 +41,31 @@ module _ (tokens front : List Token) (first last : Token) (whole : tokens ≡ fr
       by_test true is = absurd (let no : ⊥ = cc in no)
       by_test false is = refl
 
--- what stands in front has a spelling
-pub fit_front : (front rest : List Token) (columns : List ColumnInfo) → FitTokens columns (front ++ rest) → FitTokens columns front
-unfolding FitTokens
-fit_front [] rest columns fit = tt
-fit_front (token ∷ front) rest columns fit = (fit.0, fit_front front rest (columns_after columns token) fit.1)
+-- ---- bytes
 
--- a token whose bytes are the same behind any columns
-pub bytes_behind : (front : List Token) (one : Token) → ((columns : List ColumnInfo) → tokens_bytes columns (one ∷ []) ≡ TokenBytes (one ∷ [])) → (columns : List ColumnInfo)
-    → tokens_bytes columns (front ++ one ∷ []) ≡ tokens_bytes columns front ++ TokenBytes (one ∷ [])
+-- a DONE has a spelling, and what stands in front
+pub fit_done : (done : Token) → IsDone done → FitTokens [] (done ∷ [])
+fit_done done is = subst (λ (t : Token). FitTokens [] (t ∷ [])) (sym is.3) (done_fit Done is.0 is.1 is.2 [])
+
+fit_before : (front rest : List Token) (columns : List ColumnInfo) → FitTokens columns (front ++ rest) → FitTokens columns front
+unfolding FitTokens
+fit_before [] rest columns fit = tt
+fit_before (token ∷ front) rest columns fit = (fit.0, fit_before front rest (columns_after columns token) fit.1)
+
+pub fit_front : (tokens front rest : List Token) → tokens ≡ front ++ rest → FitTokens [] tokens → FitTokens [] front
+fit_front tokens front rest whole fit = fit_before front rest [] (subst (FitTokens []) whole fit)
+
+-- its bytes are the same behind any columns
+done_anywhere : (done : Token) → IsDone done → (columns : List ColumnInfo) → tokens_bytes columns (done ∷ []) ≡ TokenBytes (done ∷ [])
 unfolding tokens_bytes
-bytes_behind [] one anywhere columns = anywhere columns
-bytes_behind (token ∷ front) one anywhere columns =
-    ap (λ l. token_bytes columns token ++ l) (bytes_behind front one anywhere (columns_after columns token)) ∙ sym (append_assoc (token_bytes columns token) (tokens_bytes (columns_after columns token) front) (TokenBytes (one ∷ [])))
+done_anywhere done is columns = rw is.3 refl
+
+bytes_behind : (front : List Token) (done : Token) → IsDone done → (columns : List ColumnInfo) → tokens_bytes columns (front ++ done ∷ []) ≡ tokens_bytes columns front ++ TokenBytes (done ∷ [])
+unfolding tokens_bytes
+bytes_behind [] done is columns = done_anywhere done is columns
+bytes_behind (token ∷ front) done is columns =
+    ap (λ (l : List ℕ). token_bytes columns token ++ l) (bytes_behind front done is (columns_after columns token))
+    ∙ sym (append_assoc (token_bytes columns token) (tokens_bytes (columns_after columns token) front) (TokenBytes (done ∷ [])))
+
+pub bytes_done : (front : List Token) (done : Token) → IsDone done → TokenBytes (front ++ done ∷ []) ≡ TokenBytes front ++ TokenBytes (done ∷ [])
+bytes_done front done is = bytes_behind front done is []

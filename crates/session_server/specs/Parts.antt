@@ -7,6 +7,9 @@ use Rattle.transaction_requests.specs.declared.fault.TransactionKind.{Transactio
 use Rattle.transaction_requests.specs.declared.fault.TransactionKind.TheVariants as transaction_kind
 use Rattle.tds_packets.specs.Header.{tabular_result}
 use Rattle.tds_packets.specs.Packets.{Packets, IsPacketSize, IsPartSent}
+use Rattle.tds_tokens.specs.declared.token.DoneKind.TheVariants.{Done}
+use Rattle.tds_tokens.specs.declared.token.Token.{Token}
+use Rattle.tds_tokens.specs.declared.token.Token.TheVariants.{Finished}
 use Rattle.step_model.specs.Exchange.{Exchange}
 use Rattle.step_model.specs.Port.{PortPast, GoesOn}
 use Rattle.session_server.specs.declared.message.Handling.{Handling as MadeHandling}
@@ -51,6 +54,10 @@ abbrev pub is_unserved_request : TransactionKind → Bool
 is_unserved_request transaction_kind.Headers = false
 is_unserved_request transaction_kind.Cut = false
 is_unserved_request kind = true
+
+-- a DONE
+abbrev pub IsDone : Token → Type 0
+IsDone token = (status command rows : ℕ) × (token ≡ Finished Done status command rows)
 
 -- something is answered
 abbrev pub HasResponse : Handling → Type 0

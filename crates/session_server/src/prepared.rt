@@ -9,7 +9,7 @@ ghost use Rattle.tds_tokens.specs.Spelling.{TokenBytes};
 ghost use Rattle.tds_tokens.specs.Fit.{FitTokens};
 ghost use Rattle.session_server.specs.Response.{ended_once};
 
-use crate::response::one_done;
+use crate::response::ended_once;
 use outside_io::Line;
 use std::alloc::Global;
 use tds_packets::{SendFault, TABULAR_RESULT, send_message};
@@ -60,10 +60,7 @@ impl PreparedResponse {
         ensures channel { IfOk result (λ prepared. prepared.channel ≡ channel) }
         ensures payload { IfOk result (λ prepared. prepared.payload.items ≡ TokenBytes (ended_once tokens.now)) }
     {
-        let [front @ .., first, last] = tokens else {
-            return PreparedResponse::of_tokens(alloc, channel, tokens);
-        };
-        let Some(done) = one_done(first, last) else {
+        let Some((front, done)) = ended_once(tokens) else {
             return PreparedResponse::of_tokens(alloc, channel, tokens);
         };
         let mut payload = Vec::new(alloc);

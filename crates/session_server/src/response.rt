@@ -1,12 +1,12 @@
 //! The tokens of responses for which nothing is asked, and the one DONE of a batch.
 
-ghost use Rattle.std.specs.Prelude.{◌≡◌, ◌&&◌, [], ◌∷◌, List, true, IfOk, IfSome, Some, None, if◌then◌else◌};
+ghost use Rattle.std.specs.Prelude.{◌≡◌, ◌<◌, ◌&&◌, [], ◌∷◌, ◌++◌, List, length, true, IfOk, IfSome, IfNone, Some, None, if◌then◌else◌};
 ghost use Rattle.std.specs.Fmt.{decimal};
-ghost use Rattle.tds_tokens.specs.declared.columns.ColumnInfo.{ColumnInfo};
+ghost use Rattle.tds_tokens.specs.declared.token.Token.{Token};
 ghost use Rattle.tds_tokens.specs.Fit.{FitTokens};
-ghost use Rattle.tds_tokens.specs.Spelling.{TokenBytes, tokens_bytes};
 ghost use Rattle.batch_meaning.specs.Tokens.{last_done};
-ghost use Rattle.session_server.specs.Response.{attention_tokens, refusal_tokens, unserved, is_followed, is_final, unfollowed};
+ghost use Rattle.session_server.specs.Response.{attention_tokens, refusal_tokens, unserved, ended_once, is_followed, is_final, unfollowed};
+ghost use Rattle.session_server.specs.Parts.{IsDone};
 
 use session_state::error_of;
 use std::alloc::Global;
@@ -86,11 +86,33 @@ fn done(kind: DoneKind, status: u16) -> Token
 
 // ---- one DONE
 
-/// The DONE that takes the place of two: a statement's, and behind it a batch's own.
-pub(crate) fn one_done(first: &Token, last: &Token) -> Option<Token>
+/// Where a statement's DONE stands right in front of a batch's own: what stands in front of both, and the one DONE that
+/// takes their place.
+pub(crate) fn ended_once(tokens: &[Token]) -> Option<(&[Token], Token)>
+    ensures once { IfSome result (λ parts. ended_once tokens.now ≡ parts.0.now ++ parts.1 ∷ []) }
+    ensures still { IfNone result (ended_once tokens.now ≡ tokens.now) }
+    ensures front { IfSome result (λ parts. (rest : List Token) × (tokens.now ≡ parts.0.now ++ rest)) }
+    ensures done { IfSome result (λ parts. IsDone parts.1) }
+{
+    let (front, first, last) = last_two(tokens)?;
+    let done = one_done(first, last)?;
+    Some((front, done))
+}
+
+/// The last two of these tokens, behind the others.
+fn last_two(tokens: &[Token]) -> Option<(&[Token], &Token, &Token)>
+    ensures parts { IfSome result (λ parts. tokens.now ≡ parts.0.now ++ parts.1.now ∷ parts.2.now ∷ []) }
+    ensures few { IfNone result (length tokens.now < 2) }
+{
+    let (last, others) = tokens.split_last()?;
+    let (first, front) = others.split_last()?;
+    Some((front, first, last))
+}
+
+/// The DONE that takes the place of a statement's and of a batch's own, if these are such.
+fn one_done(first: &Token, last: &Token) -> Option<Token>
     ensures one { result ≡ (if is_followed first.now && is_final last.now then Some (unfollowed first.now) else None) }
-    ensures fit { IfSome result (λ one. FitTokens [] (one ∷ [])) }
-    ensures anywhere { IfSome result (λ one. (columns : List ColumnInfo) → tokens_bytes columns (one ∷ []) ≡ TokenBytes (one ∷ [])) }
+    ensures done { IfSome result IsDone }
 {
     match first {
         Token::Finished {
