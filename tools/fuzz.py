@@ -27,6 +27,8 @@ from random import Random
 import dist
 import model
 import rows
+from worked.calls import call
+from worked.requests import request_of, transaction
 
 # The refusals of a text or a statement that the model does not have, or not all of them.
 LACKING = ("ERROR 102 ", "ERROR 116 ", "ERROR 8120 ", "ERROR 49007 ", "ERROR 49009 ")
@@ -357,11 +359,11 @@ def compare_files(paths):
 
 def compare_conversation(path, conversation):
     is_other = conversation.is_of_two() or conversation.is_again() or conversation.session() != 1
-    if is_other or any(step.text is None or step.is_call for step in conversation.steps):
+    if is_other or any(step.text is None or step.spell is call for step in conversation.steps):
         return "passed"
     session = model.Session()
     for step in conversation.steps:
-        outcome = compare_step(session, step)
+        outcome = compare_step(session, step, "drivers" in conversation.settings)
         if outcome == "differs":
             print(f"{path}:{step.number}: {step.text}")
             show_lines(step.wanted, session.lines, "wanted", "model")
@@ -370,9 +372,9 @@ def compare_conversation(path, conversation):
     return "agrees"
 
 
-def compare_step(session, step):
+def compare_step(session, step, has_drivers):
     try:
-        given = session.batch(step.text)
+        given = session.lines = answer(session, step, has_drivers)
     except model.Unread:
         is_refused = bool(step.wanted) and str(step.wanted[0]).startswith("ERROR 102 ")
         return "agrees" if is_refused else "passed"
@@ -381,6 +383,14 @@ def compare_step(session, step):
     place = first_difference(step.wanted, given)
     wanted = step.wanted[place] if place < len(step.wanted) else ""
     return "passed" if isinstance(wanted, bytes) or wanted.startswith(LACKING) else "differs"
+
+
+def answer(session, step, has_drivers):
+    """The lines of the model's reply to a batch or to a request."""
+    if step.spell is transaction:
+        return model.requests.answer(session, request_of(step.text))
+    lines = session.batch(step.text)
+    return model.requests.ended_once(lines) if has_drivers else lines
 
 
 def main():

@@ -1,4 +1,5 @@
-"""The lexemes of a text: words, variables, numbers, texts and signs, each with the line at which it stands."""
+"""The lexemes of a text: words, quoted names, variables, numbers, texts and signs, each with the line at which it
+stands."""
 import re
 from typing import NamedTuple, Union
 
@@ -7,6 +8,7 @@ LEXEME = re.compile(
     r"|(?P<text>N?'(?:[^']|'')*')"
     r"|(?P<number>[0-9]+)"
     r"|(?P<variable>@@?[A-Za-z0-9_@$#]+)"
+    r"|(?P<name>\[(?:[^\]]|\]\])*(?:[^\] ]|\]\])\]|\"(?:[^\"]|\"\")*(?:[^\" ]|\"\")\")"
     r"|(?P<word>[A-Za-z_][A-Za-z0-9_@$#]*)"
     r"|(?P<sign><>|!=|<=|>=|[(),.;+\-*/%=<>])"
 )
@@ -19,7 +21,7 @@ class Unread(Exception):
 
 
 class Lexeme(NamedTuple):
-    """`kind` is text, number, variable, word, sign or end."""
+    """`kind` is text, number, variable, name (a quoted one), word, sign or end."""
 
     kind: str
     value: Union[str, int]
@@ -33,6 +35,9 @@ def value_of(kind, spelled):
         return int(spelled)
     if kind == "text":
         return spelled[spelled.index("'") + 1 : -1].replace("''", "'")
+    if kind == "name":
+        end = spelled[-1]
+        return spelled[1:-1].replace(end + end, end)
     return spelled
 
 

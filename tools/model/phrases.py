@@ -87,7 +87,7 @@ class Phrases:
             self.fail()
 
     def is_name(self):
-        return self.peek().kind == "word" and not self.is_word(*RESERVED)
+        return self.peek().kind == "name" or (self.peek().kind == "word" and not self.is_word(*RESERVED))
 
     def name(self):
         if not self.is_name():
@@ -112,6 +112,8 @@ class Phrases:
         return self.advance().value
 
     def kind(self):
+        if self.peek().kind != "word":
+            self.fail()
         name = self.name().upper()
         if name == "NVARCHAR":
             self.want_sign("(")

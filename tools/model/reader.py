@@ -4,6 +4,24 @@ from .phrases import Phrases
 
 EVENTS = ("INSERT", "UPDATE", "DELETE")
 
+# The options that are ON or OFF and change nothing, each with the settings that are known.
+FIXED = {
+    **dict.fromkeys(
+        ("ANSI_NULLS", "ANSI_NULL_DFLT_ON", "ANSI_PADDING", "ANSI_WARNINGS", "ARITHABORT", "CONCAT_NULL_YIELDS_NULL", "QUOTED_IDENTIFIER"),
+        ("ON",),
+    ),
+    **dict.fromkeys(("FMTONLY", "IMPLICIT_TRANSACTIONS", "NUMERIC_ROUNDABORT"), ("OFF",)),
+    "CURSOR_CLOSE_ON_COMMIT": ("ON", "OFF"),
+}
+LEVELS = {
+    ("READ", "COMMITTED"): True,
+    ("READ", "UNCOMMITTED"): False,
+    ("REPEATABLE", "READ"): False,
+    ("SERIALIZABLE",): True,
+    ("SNAPSHOT",): False,
+}
+PRIORITIES = ("LOW", "NORMAL", "HIGH")
+
 
 class Reader(Phrases):
     """Reads one text."""
@@ -186,12 +204,43 @@ class Reader(Phrases):
         self.want("SET")
         if self.is_variable():
             return trees.SetVariable(self.variable(), self.assigned())
-        if not self.is_word("XACT_ABORT", "NOCOUNT"):
+        if self.is_word("XACT_ABORT", "NOCOUNT"):
+            option = self.advance().value.upper()
+            return trees.SetOption(option, self.on_or_off() == "ON")
+        return trees.SetOther(self.is_known())
+
+    def on_or_off(self):
+        if not self.is_word("ON", "OFF"):
             self.fail()
-        option, is_on = self.advance().value.upper(), self.is_word("ON")
-        if not self.take("ON", "OFF"):
-            self.fail()
-        return trees.SetOption(option, is_on)
+        return self.advance().value.upper()
+
+    def is_known(self):
+        """Whether the setting of an option is known that changes nothing for a session by itself."""
+        if self.is_word(*FIXED):
+            settings = FIXED[self.advance().value.upper()]
+            return self.on_or_off() in settings
+        if self.take("TRANSACTION"):
+            self.want("ISOLATION", "LEVEL")
+            return self.level()
+        if self.take("TEXTSIZE"):
+            self.signed()
+            return True
+        if self.take("LOCK_TIMEOUT"):
+            return self.signed() in (0, -1)
+        self.want("DEADLOCK_PRIORITY")
+        return self.take(*PRIORITIES) or -10 <= self.signed() <= 10
+
+    def level(self):
+        """Whether the level that stands here is served."""
+        for words, is_served in LEVELS.items():
+            if all(self.is_word(word, behind=place) for place, word in enumerate(words)):
+                self.at += len(words)
+                return is_served
+        self.fail()
+
+    def signed(self):
+        sign = -1 if self.take_sign("-") else 1
+        return sign * self.number()
 
     def commit(self):
         self.want("COMMIT")

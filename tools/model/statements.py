@@ -176,6 +176,13 @@ def set_option(session, _around, statement):
     return session.succeeds(statement)
 
 
+@meaning_of(trees.SetOther)
+def set_other(session, _around, statement):
+    if not statement.is_known:
+        raise Failure(49004)
+    return session.succeeds(statement)
+
+
 # ---- transactions
 
 

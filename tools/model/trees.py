@@ -305,6 +305,13 @@ class SetOption(Statement):
 
 
 @dataclass
+class SetOther(Statement):
+    """Another option: whether its setting is known."""
+
+    is_known: bool
+
+
+@dataclass
 class BeginTransaction(Statement):
     name: Optional[str]
 

@@ -3,9 +3,10 @@ import re
 import sys
 
 from worked.calls import call
+from worked.requests import transaction
 from worked.wire import WORD, Unread, batch, bytes_of, unescape
 
-SETTINGS = {"login", "session", "packets", "pieces", "cuts", "again"}
+SETTINGS = {"login", "session", "packets", "pieces", "cuts", "again", "drivers"}
 TOKENS = (
     "COL(", "ROW(", "DONE(", "PROC(", "INPROC(", "ERROR ", "INFO ", "ENVCHANGE ", "RETURNSTATUS ", "RETURNVALUE(", "LOGINACK ",
 )  # fmt: skip
@@ -20,9 +21,9 @@ class Step:
     """What a client sends, and what is wanted for it, with the lines that say so; where it is late, the reply to the batch
     that waits."""
 
-    def __init__(self, number, text=None, data=b"", is_second=False, is_late=False, is_call=False):
+    def __init__(self, number, text=None, data=b"", is_second=False, is_late=False, spell=batch):
         self.number, self.text, self.data, self.wanted, self.lines = number, text, data, [], []
-        self.is_second, self.is_late, self.is_call = is_second, is_late, is_call
+        self.is_second, self.is_late, self.spell = is_second, is_late, spell
 
     def want(self, number, wanted):
         self.wanted.append(wanted)
@@ -31,7 +32,7 @@ class Step:
     def sent(self):
         if self.text is None:
             return self.data
-        return call(self.text) if self.is_call else batch(self.text)
+        return self.spell(self.text)
 
     def has_reply(self):
         return self.text is not None or bool(self.wanted)
@@ -54,6 +55,10 @@ class Conversation:
     def session(self):
         return int(self.settings.get("session", 1))
 
+    def flags(self):
+        """The words with which the program is started beside those of the login."""
+        return ["--drivers"] if "drivers" in self.settings else []
+
     def login(self):
         """The user and the password that a login must have, or None."""
         if "login" not in self.settings:
@@ -71,7 +76,7 @@ class Book:
 
     def __init__(self, path):
         self.path, self.names, self.outcomes, self.conversations = path, {}, {}, []
-        self.settings, self.title, self.named, self.outcome, self.is_table = {}, "", None, None, False
+        self.settings, self.title, self.named, self.outcome, self.is_table, self.whole = {}, "", None, None, False, {}
         with open(path, encoding="utf-8") as file:
             for number, line in enumerate(file, 1):
                 try:
@@ -100,7 +105,9 @@ class Book:
         elif mark in (">", "2>", "<", "2<"):
             self.send(Step(number, text=rest, is_second=mark[0] == "2", is_late=mark[-1] == "<"))
         elif mark in ("rpc", "2rpc"):
-            self.send(Step(number, text=rest, is_second=mark[0] == "2", is_call=True))
+            self.send(Step(number, text=rest, is_second=mark[0] == "2", spell=call))
+        elif mark in ("tm", "2tm"):
+            self.send(Step(number, text=rest, is_second=mark[0] == "2", spell=transaction))
         elif mark == ">>":
             self.send(Step(number, data=bytes_of(self.names, rest)))
         elif mark == "?":
@@ -113,14 +120,17 @@ class Book:
             self.want(number, line)
 
     def begin(self, number, title, is_table):
-        self.settings, self.title, self.is_table, self.outcome = {}, title, is_table, None
+        self.settings, self.title, self.is_table, self.outcome = dict(self.whole), title, is_table, None
         if not is_table:
-            self.conversations.append(Conversation(number, title, {}))
+            self.conversations.append(Conversation(number, title, self.whole))
 
     def set(self, rest):
         word, _, value = rest.partition(" ")
         if word not in SETTINGS:
             raise Unread(f"there is no setting {word}")
+        if not self.title:
+            self.whole[word] = value
+            return
         self.settings[word] = value
         if not self.is_table:
             self.conversations[-1].settings[word] = value

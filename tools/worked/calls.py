@@ -5,9 +5,11 @@ import struct
 from worked.wire import ALL_HEADERS, Unread, expanded, message, unescape
 
 # A name, a text with doubled quotes in it, a number, or a sign.
-LEXEME = re.compile(r"\s*(?:(N?)'((?:[^']|'')*)'|(#?[@\w.\[\]]+(?:\(\d+\))?)|(-?\d+)|(=|,))")
+LEXEME = re.compile(r"\s*(?:(N?)'((?:[^']|'')*)'|(#?[@\w.\[\]]+(?:\((?:\d+|MAX[\d/=]*)\))?)|(-?\d+)|(=|,))")
 WHOLE = {"TINYINT": (1, "<B"), "SMALLINT": (2, "<h"), "INT": (4, "<i"), "BIGINT": (8, "<q")}
-SIZED = re.compile(r"(N?VARCHAR)\((\d+)\)")
+SIZED = re.compile(r"(N?(?:VAR)?CHAR)\((\d+)\)")
+CHUNKS = re.compile(r"(N?VARCHAR)\(MAX(?:/(\d+))?(?:=(\d+))?\)")
+TAGS = {"NVARCHAR": 0xE7, "VARCHAR": 0xA7, "NCHAR": 0xEF, "CHAR": 0xAF}
 COLLATION = bytes.fromhex("0904000200")
 OUTPUT, DEFAULT = 1, 2
 
@@ -60,13 +62,36 @@ def typed(kind, lexeme):
         size, form = WHOLE.get(kind, (1, "<B"))
         head = bytes([0x68 if kind == "BIT" else 0x26, size])
         return head + (b"\0" if is_null else bytes([size]) + struct.pack(form, int(value)))
-    found = SIZED.fullmatch(kind)
-    if not found or (what != "text" and not is_null):
+    if what != "text" and not is_null:
         raise Unread(f"{value} is no value of {kind}")
-    wide, size = found[1] == "NVARCHAR", int(found[2])
+    wide = kind.startswith("N")
     data = b"" if is_null else value if wide else value.decode("utf-16-le").encode("latin-1")
-    head = struct.pack("<BH", 0xE7 if wide else 0xA7, 2 * size if wide else size) + COLLATION
+    if kind == "NTEXT":
+        head = struct.pack("<BI", 0x63, len(data)) + COLLATION
+        return head + (b"\xff" * 4 if is_null else struct.pack("<I", len(data)) + data)
+    found = CHUNKS.fullmatch(kind)
+    if found:
+        return struct.pack("<BH", TAGS[found[1]], 0xFFFF) + COLLATION + chunks(data, is_null, found[2], found[3])
+    found = SIZED.fullmatch(kind)
+    if not found:
+        raise Unread(f"{kind} is no type")
+    size = int(found[2])
+    head = struct.pack("<BH", TAGS[found[1]], 2 * size if wide else size) + COLLATION
     return head + (b"\xff\xff" if is_null else struct.pack("<H", len(data)) + data)
+
+
+def chunks(data, is_null, by, told):
+    """A text of MAX: its length, told or not, and its bytes in chunks."""
+    if is_null:
+        return b"\xff" * 8
+    head = struct.pack("<Q", int(told)) if told else b"\xfe" + b"\xff" * 7
+    by = int(by or len(data) or 1)
+    parts = [data[at : at + by] for at in range(0, len(data), by)]
+    return head + b"".join(struct.pack("<I", len(part)) + part for part in parts) + bytes(4)
+
+
+def is_kind(word):
+    return word == "NTEXT" or SIZED.fullmatch(word) or CHUNKS.fullmatch(word)
 
 
 def argument(lexemes):
@@ -77,7 +102,7 @@ def argument(lexemes):
     if words and words[0][0] == "word" and words[0][1].startswith("@"):
         name = words.pop(0)[1]
     kind = None
-    if words and words[0][0] == "word" and (words[0][1] in (*WHOLE, "BIT") or SIZED.fullmatch(words[0][1])):
+    if words and words[0][0] == "word" and (words[0][1] in (*WHOLE, "BIT") or is_kind(words[0][1])):
         kind = words.pop(0)[1]
     if words and words[0] == ("word", "="):
         words.pop(0)

@@ -24,9 +24,9 @@ def words_of(user):
     return ["--bare"] if user is None else ["--user", user[0], "--password", user[1]]
 
 
-def run_pipe(program, user, data, piece=0):
+def run_pipe(program, user, data, piece=0, flags=()):
     """What `pipe` writes for these bytes, and its status. With a piece, at most so many of them are written at once."""
-    words = [program, "pipe", *words_of(user)]
+    words = [program, "pipe", *words_of(user), *flags]
     with subprocess.Popen(words, stdin=subprocess.PIPE, stdout=subprocess.PIPE, bufsize=0) as run:
         try:
             if piece:
@@ -105,8 +105,8 @@ class Link:
 class Listening:
     """A program that listens on a port that was free, with an empty database, until the block ends."""
 
-    def __init__(self, program, user, workers):
-        self.words, self.user, self.workers, self.links = [program, "listen"], user, workers, []
+    def __init__(self, program, user, workers, flags=()):
+        self.words, self.user, self.workers, self.links = [program, "listen", *flags], user, workers, []
 
     def __enter__(self):
         self.port = free_port()

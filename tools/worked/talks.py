@@ -91,7 +91,7 @@ def by_fronts(program, conversation, data):
 
 
 def by_bytes(program, conversation, steps, data, status, piece):
-    written, ended = run_pipe(program, conversation.login(), data, piece)
+    written, ended = run_pipe(program, conversation.login(), data, piece, conversation.flags())
     replies = replies_of(written, conversation.size())
     yield from compare(steps, replies, 51)
     if ended != status:
@@ -144,7 +144,7 @@ def of_session(program, conversation):
     """By the connection whose SPID is that of the session, among as many as there can be. Where the conversation logs in by
     itself, its bytes are sent by all of them, up to the reply that has this SPID."""
     user, spid, steps = conversation.login(), 50 + conversation.session(), list(conversation.steps)
-    with Listening(program, user or USER, SESSIONS) as listening:
+    with Listening(program, user or USER, SESSIONS, conversation.flags()) as listening:
         if user is None:
             link, found = listening.members()[spid], []
         else:
@@ -180,7 +180,7 @@ def by_all(links, steps, spid):
 
 def of_two(program, conversation):
     """By two connections. A batch is sent when the one before it is answered, or waits."""
-    with Listening(program, USER, 2) as listening:
+    with Listening(program, USER, 2, conversation.flags()) as listening:
         members = listening.members()
         links = [members[51], members[52]]
         for step in conversation.steps:
@@ -196,7 +196,7 @@ def of_two(program, conversation):
 
 def play_again(program, chain):
     """All of a chain by one worker: the conversations that are held again are compared."""
-    with Listening(program, chain[0].login() or USER, 1) as listening:
+    with Listening(program, chain[0].login() or USER, 1, chain[0].flags()) as listening:
         for conversation in chain:
             found = over_port(listening, conversation)
             if conversation.is_again():

@@ -1,9 +1,11 @@
 -- Each response of a connection is that of a batch or a call, by its own exchanges, or has no token that tells an error of a lock.
-use Rattle.std.proofs.Common.{◌≡◌, inl, inr, ℕ, ℤ, pos, ◌==◌, Bool, true, false, if◌then◌else◌, List, [], ◌∷◌, ◌++◌, fold, map, Option, None, Some, Result, Ok, Err, refl, sym, ap, ◌∙◌, subst, append_assoc, append-nil}
+use Rattle.std.proofs.Common.{◌≡◌, inl, inr, ℕ, ℤ, pos, ◌==◌, ◌&&◌, Bool, true, false, if◌then◌else◌, List, [], ◌∷◌, ◌++◌, fold, map, Option, None, Some, Result, Ok, Err, refl, sym, ap, ◌∙◌, subst, append_assoc, append-nil}
 use Rattle.std.specs.List.{All, AllByRecursion, flat_map}
 use Rattle.std.proofs.lemmas.List.Elements.{All-head, All-tail}
 use Rattle.tds_packets.specs.declared.message.Message.{Message}
-use Rattle.tds_packets.specs.Header.{sql_batch, rpc as rpc_request, attention, login7, prelogin}
+use Rattle.tds_packets.specs.Header.{sql_batch, rpc as rpc_request, attention, transaction_manager, login7, prelogin}
+use Rattle.tds_tokens.specs.declared.token.Token.{Token}
+use Rattle.tds_tokens.specs.declared.token.Token.TheVariants.{Finished}
 use Rattle.tds_login.specs.declared.config.Config.{Config}
 use Rattle.tds_login.specs.declared.login.Login.{Login}
 use Rattle.tds_login.specs.declared.login.LoginFault.{LoginFault}
@@ -16,26 +18,33 @@ use Rattle.step_model.specs.Exchange.{Exchange}
 use Rattle.rpc_requests.specs.declared.call.RpcCall.{RpcCall}
 use Rattle.rpc_requests.specs.declared.fault.RpcFault.{RpcFault}
 use Rattle.rpc_requests.specs.declared.fault.RpcFault.TheVariants as rpc_fault
+use Rattle.rpc_requests.specs.declared.fault.RpcKind.{RpcKind}
+use Rattle.rpc_requests.specs.declared.fault.RpcKind.TheVariants as rpc_kind
 use Rattle.rpc_requests.specs.Reading.{rpc_of}
+use Rattle.transaction_requests.specs.declared.fault.TransactionFault.{TransactionFault}
+use Rattle.transaction_requests.specs.declared.fault.TransactionFault.TheVariants as transaction_fault
+use Rattle.transaction_requests.specs.declared.fault.TransactionKind.{TransactionKind}
+use Rattle.transaction_requests.specs.declared.fault.TransactionKind.TheVariants as transaction_kind
+use Rattle.transaction_requests.specs.Text.{managed}
 use Rattle.batch_meaning.specs.declared.form.ReadText.{ReadText}
 use Rattle.batch_meaning.specs.Rpc.{rpc}
 use Rattle.batch_meaning.specs.Doing.{Doing, over, ◌then◌, Held}
 use Rattle.batch_meaning.specs.Meaning.{batch, rolls_back_open}
 use Rattle.batch_meaning.specs.Progress.{SessionProgress, first_progress}
 use Rattle.statement_paths.proofs.Apart.{held_apart}
-use Rattle.cause_laws.specs.Causes.{LockError, IsOther, NeverAnswered, is_answer}
+use Rattle.cause_laws.specs.Causes.{LockError, IsOther, NeverAnswered, TellsNone, TellsOther, is_answer}
 use Rattle.cause_laws.proofs.Causes.{batch_causes, call_causes}
 use Rattle.cause_laws.proofs.Clean.{all_both, all_front, usual_other}
 use Rattle.session_server.specs.declared.end.BatchFault.{BatchFault}
 use Rattle.session_server.specs.declared.end.End.{End}
 use Rattle.session_server.specs.Conversation.{Abandons, IsAsked, closed}
 use Rattle.session_server.specs.Ends.{Cause, no_message, by_message, unsent, unmade}
-use Rattle.session_server.specs.Response.{Response}
-use Rattle.session_server.specs.Talk.{AreRequests, Handling, IsReadAs, IsRequest, Request, Walk, batch_fault, batch_response, calls, ends, first_walk, handle, handle_batch, handle_login, handle_prelogin, handle_rpc, handle_verdict, handling_in, refuses, responds, response_to, rpc_response, runs, talk_of, walk_by, walk_of, walk_on, with_handling, with_message, with_request}
+use Rattle.session_server.specs.Response.{Response, ended_once, is_final, is_followed, unfollowed}
+use Rattle.session_server.specs.Talk.{AreRequests, Handling, IsReadAs, IsRequest, Request, Walk, batch_fault, batch_response, calls, connected_with, ends, first_walk, handle, handle_batch, handle_logged, handle_login, handle_prelogin, handle_request, handle_rpc, handle_verdict, handling_in, refuse_call, refuse_request, refuses, responds, response_to, rpc_response, runs, talk_of, walk_by, walk_of, walk_on, with_handling, with_message, with_request}
 use Rattle.sound_laws.proofs.Looked.{all_left}
 use Rattle.connection_laws.specs.Causes.{AreCaused, ConnectionCauses, HasCauses, ResponseTellsNone}
 use Rattle.connection_laws.proofs.Short.{GoesBy, IsLimited, IsReached, all_limited, first_reached, handled_goes}
-use Rattle.connection_laws.proofs.Talks.{gives_tokens}
+use Rattle.connection_laws.proofs.Talks.{responds_by}
 
 -- a stretch more
 flat_more : (parts : List (List Exchange)) (part : List Exchange) → flat_map (λ part. part) (parts ++ part ∷ []) ≡ flat_map (λ part. part) parts ++ part
@@ -70,29 +79,52 @@ module _ (error : LockError) where
   prelogin_other (Err fault) = tt
 
   login_other : (config : Config) (read : Result Login LoginFault) → HandlesOther (handle_login config read)
-  login_other config (Ok login) = verdict_other error login config (λ verdict. HandlesOther (handle_verdict verdict)) (λ size. (tt, (tt, (tt, (tt, (tt, tt)))))) (λ number other. (other, (tt, tt)))
+  login_other config (Ok login) = verdict_other error login config (λ verdict. HandlesOther (handle_verdict config verdict)) (λ size. (tt, (tt, (tt, (tt, (tt, tt)))))) (λ number other. (other, (tt, tt)))
   login_other config (Err fault) = (usual_other error (pos 49010) refl, (tt, tt))
 
-  batch_other : (size : ℕ) (payload : List ℕ) (fault : Option BatchFault) → HandlesOther (handle_batch size payload fault)
-  batch_other size payload None = tt
-  batch_other size payload (Some fault) = tt
+  -- on a connection that is logged in
+  module _ (config : Config) (size : ℕ) where
+    batch_other : (payload : List ℕ) (fault : Option BatchFault) → HandlesOther (handle_batch (connected_with config size) payload fault)
+    batch_other payload None = tt
+    batch_other payload (Some fault) = tt
 
-  rpc_other : (size : ℕ) (read : Result RpcCall RpcFault) → HandlesOther (handle_rpc size read)
-  rpc_other size (Ok call) = tt
-  rpc_other size (Err (rpc_fault.Bad _ _)) = tt
-  rpc_other size (Err rpc_fault.Memory) = tt
+    call_refused : (at : ℕ) (kind : RpcKind) → HandlesOther (refuse_call (connected_with config size) at kind)
+    call_refused at rpc_kind.Headers = tt
+    call_refused at rpc_kind.Cut = tt
+    call_refused at kind = (usual_other error (pos 8016) refl, (tt, tt))
+
+    rpc_other : (read : Result RpcCall RpcFault) → HandlesOther (handle_rpc (connected_with config size) read)
+    rpc_other (Ok call) = tt
+    rpc_other (Err (rpc_fault.Bad at kind)) = other_if config.drivers _ _ (call_refused at kind) tt
+    rpc_other (Err rpc_fault.Memory) = tt
+
+    request_refused : (at : ℕ) (kind : TransactionKind) → HandlesOther (refuse_request (connected_with config size) at kind)
+    request_refused at transaction_kind.Headers = tt
+    request_refused at transaction_kind.Cut = tt
+    request_refused at kind = (usual_other error (pos 49014) refl, (tt, tt))
+
+    request_other : (read : Result (List ℕ) TransactionFault) → HandlesOther (handle_request (connected_with config size) read)
+    request_other (Ok text) = tt
+    request_other (Err (transaction_fault.Bad at kind)) = request_refused at kind
+    request_other (Err transaction_fault.Memory) = tt
+
+    logged_other : (message : Message) → HandlesOther (handle_logged (connected_with config size) message)
+    logged_other message =
+        other_if (message.kind == sql_batch) _ _ (batch_other message.payload (batch_fault message.payload))
+        (other_if (message.kind == rpc_request) _ _ (rpc_other (rpc_of message.payload))
+        (other_if (message.kind == attention) _ _ (tt, tt)
+        (other_if (message.kind == transaction_manager && config.drivers) _ _ (request_other (managed message.payload)) tt)))
 
   -- by where the connection stands
   abbrev OtherBy : {S : Type 0} → (S → Handling) → Result S End → Type 0
   OtherBy handled (Ok state) = HandlesOther (handled state)
   OtherBy handled (Err end) = Unit {0}
 
-  handled_other : (config : Config) (walk : Walk) (message : Message) → IsReached walk → OtherBy (λ state. handle config state message) walk.stands
+  handled_other : (config : Config) (walk : Walk) (message : Message) → IsReached config walk → OtherBy (λ state. handle config state message) walk.stands
   handled_other config walk message (inl first) = subst (OtherBy (λ state. handle config state message)) (sym first)
       (other_if (message.kind == prelogin) _ _ (prelogin_other (prelogin_of message.payload)) (other_if (message.kind == login7) _ _ (login_other config (login_of message.payload)) tt))
   handled_other config walk message (inr (inl (read, ready))) = subst (OtherBy (λ state. handle config state message)) (sym ready) (other_if (message.kind == login7) _ _ (login_other config (login_of message.payload)) tt)
-  handled_other config walk message (inr (inr (inl (size, logged)))) = subst (OtherBy (λ state. handle config state message)) (sym logged)
-      (other_if (message.kind == sql_batch) _ _ (batch_other size message.payload (batch_fault message.payload)) (other_if (message.kind == rpc_request) _ _ (rpc_other size (rpc_of message.payload)) (other_if (message.kind == attention) _ _ (tt, tt) tt)))
+  handled_other config walk message (inr (inr (inl (size, logged)))) = subst (OtherBy (λ state. handle config state message)) (sym logged) (logged_other config size message)
   handled_other config walk message (inr (inr (inr (end, ended)))) = subst (OtherBy (λ state. handle config state message)) (sym ended) tt
 
   -- ---- all messages
@@ -102,22 +134,22 @@ module _ (error : LockError) where
 
   other_with : (handled : List Handling) (handling : Handling) → AreOther handled → HandlesOther handling → AreOther (with_handling handled handling)
   other_with handled (responds response next) all one = all_both HandlesOther handled (responds response next ∷ []) all (one, tt)
-  other_with handled (runs size text) all one = all_both HandlesOther handled (runs size text ∷ []) all (one, tt)
-  other_with handled (calls size call) all one = all_both HandlesOther handled (calls size call ∷ []) all (one, tt)
+  other_with handled (runs connected text) all one = all_both HandlesOther handled (runs connected text ∷ []) all (one, tt)
+  other_with handled (calls connected call) all one = all_both HandlesOther handled (calls connected call ∷ []) all (one, tt)
   other_with handled (refuses response number) all one = all_both HandlesOther handled (refuses response number ∷ []) all (one, tt)
   other_with handled (ends end) all one = all
 
-  record IsOtherWalk (walk : Walk) : Type 0 where
-    pub others : AreOther walk.handled
-    pub reached : IsReached walk
-
-  -- one message more
-  message_other : {S : Type 0} (walk : Walk) (handled : S → Handling) (on : Result S End → Walk) → ((state : S) → on (Ok state) ≡ walk_on walk (handled state)) → ((end : End) → on (Err end) ≡ walk)
-      → IsOtherWalk walk → (stands : Result S End) → GoesBy walk handled stands → OtherBy handled stands → IsOtherWalk (on stands)
-  message_other walk handled on goes stays so (Ok state) is other = subst IsOtherWalk (sym (goes state)) (record { others = other_with walk.handled (handled state) so.others other; reached = is.1 })
-  message_other walk handled on goes stays so (Err end) is other = subst IsOtherWalk (sym (stays end)) so
-
   module _ (config : Config) where
+    record IsOtherWalk (walk : Walk) : Type 0 where
+      pub others : AreOther walk.handled
+      pub reached : IsReached config walk
+
+    -- one message more
+    message_other : {S : Type 0} (walk : Walk) (handled : S → Handling) (on : Result S End → Walk) → ((state : S) → on (Ok state) ≡ walk_on walk (handled state)) → ((end : End) → on (Err end) ≡ walk)
+        → IsOtherWalk walk → (stands : Result S End) → GoesBy config walk handled stands → OtherBy handled stands → IsOtherWalk (on stands)
+    message_other walk handled on goes stays so (Ok state) is other = subst IsOtherWalk (sym (goes state)) (record { others = other_with walk.handled (handled state) so.others other; reached = is.1 })
+    message_other walk handled on goes stays so (Err end) is other = subst IsOtherWalk (sym (stays end)) so
+
     messages_other : (messages : List Message) (walk : Walk) → AllByRecursion IsLimited messages → IsOtherWalk walk → IsOtherWalk (fold (with_message config) walk messages)
     messages_other [] walk limits so = so
     messages_other (message ∷ messages) walk limits so = messages_other messages (with_message config walk message) limits.1
@@ -126,6 +158,29 @@ module _ (error : LockError) where
     walk_other : (messages : List Message) → AllByRecursion IsLimited messages → AreOther (walk_of config messages).handled
     unfolding walk_of
     walk_other messages limits = (messages_other messages (first_walk config) limits (record { others = tt; reached = first_reached config config.entry refl })).others
+
+  -- ---- one DONE
+
+  -- a DONE tells no error
+  unfollowed_other : (token : Token) → TellsOther error token → TellsOther error (unfollowed token)
+  unfollowed_other (Finished kind status command rows) other = tt
+  unfollowed_other token other = other
+
+  merged_other : (test : Bool) (first last : Token) → TellsOther error first → TellsOther error last → TellsNone error (if test then unfollowed first ∷ [] else first ∷ last ∷ [])
+  merged_other true first last one two = (unfollowed_other first one, tt)
+  merged_other false first last one two = (one, (two, tt))
+
+  once_other : (tokens : List Token) → TellsNone error tokens → TellsNone error (ended_once tokens)
+  unfolding ended_once
+  once_other [] none = tt
+  once_other (token ∷ []) none = none
+  once_other (first ∷ last ∷ []) none = merged_other (is_followed first && is_final last) first last none.0 none.1.0
+  once_other (first ∷ second ∷ third ∷ rest) none = (none.0, once_other (second ∷ third ∷ rest) none.1)
+
+  -- where drivers are served, and where they aren't
+  once_if : (test : Bool) (tokens : List Token) → TellsNone error tokens → TellsNone error (if test then ended_once tokens else tokens)
+  once_if true tokens none = once_other tokens none
+  once_if false tokens none = none
 
   -- ---- responses
 
@@ -146,17 +201,22 @@ module _ (error : LockError) where
   caused_more (first ∷ parts) [] part response all one = absurd all
   caused_more (front ∷ parts) (first ∷ responses) part response all one = (all.0, caused_more parts responses part response all.1 one)
 
+  -- the response to a batch or a call, of which its own exchanges are a front
+  tree_other : (tree : Doing (Unit {0})) (make : SessionProgress → Response) (p new : SessionProgress) (exchanges : List Exchange) (response : Response) → NeverAnswered error exchanges → Held (tree then responds_by make) p exchanges response new
+      → ((mid : SessionProgress) (front : List Exchange) → NeverAnswered error front → Held tree p front tt mid → ResponseTellsNone error (make mid)) → ResponseTellsNone error response
+  unfolding Held
+  tree_other tree make p new exchanges response none held other =
+      let on = held_apart tree (responds_by make) p new exchanges response held in
+      let front : NeverAnswered error on.front = all_front (λ (x : Exchange). is_answer error x.reply ≡ false) on.front on.back (subst (NeverAnswered error) on.parts none) in
+      subst (ResponseTellsNone error) (sym on.rest.1) (other on.mid on.front front on.held)
+
   response_other : (handling : Handling) (read_as : ReadText) (p new : SessionProgress) (exchanges : List Exchange) (response : Response) → HandlesOther handling → IsReadAs handling read_as → NeverAnswered error exchanges → Held (response_to handling read_as) p exchanges response new → ResponseTellsNone error response
   unfolding batch_response rpc_response Held
   response_other (responds answer next) read_as p new exchanges response other is none held = subst (ResponseTellsNone error) (sym held.1) other
-  response_other (runs size text) read_as p new exchanges response other is none held =
-      let on = held_apart (batch read_as) (gives_tokens size) p new exchanges response held in
-      let front : NeverAnswered error on.front = all_front (λ (x : Exchange). is_answer error x.reply ≡ false) on.front on.back (subst (NeverAnswered error) on.parts none) in
-      subst (ResponseTellsNone error) (sym on.rest.1) (batch_causes error text read_as p on.mid on.front is front on.held)
-  response_other (calls size call) read_as p new exchanges response other is none held =
-      let on = held_apart (rpc call read_as) (gives_tokens size) p new exchanges response held in
-      let front : NeverAnswered error on.front = all_front (λ (x : Exchange). is_answer error x.reply ≡ false) on.front on.back (subst (NeverAnswered error) on.parts none) in
-      subst (ResponseTellsNone error) (sym on.rest.1) (call_causes error call read_as p on.mid on.front is front on.held)
+  response_other (runs connected text) read_as p new exchanges response other is none held =
+      tree_other (batch read_as) _ p new exchanges response none held (λ mid front fine was. once_if _ mid.tokens (batch_causes error text read_as p mid front is fine was))
+  response_other (calls connected call) read_as p new exchanges response other is none held =
+      tree_other (rpc call read_as) _ p new exchanges response none held (λ mid front fine was. call_causes error call read_as p mid front is fine was)
   response_other (refuses answer number) read_as p new exchanges response other is none held = subst (ResponseTellsNone error) (sym held.1) other
   response_other (ends end) read_as p new exchanges response other is none held = absurd held
 

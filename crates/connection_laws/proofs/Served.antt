@@ -5,9 +5,8 @@ use Rattle.std.specs.Option.{ForSome}
 use Rattle.tds_login.specs.declared.config.Config.{Config}
 use Rattle.tds_packets.specs.declared.message.Message.{Message}
 use Rattle.step_model.specs.Exchange.{Exchange}
-use Rattle.rpc_requests.specs.declared.call.RpcCall.{RpcCall}
 use Rattle.batch_meaning.specs.declared.form.ReadText.{ReadText}
-use Rattle.batch_meaning.specs.Doing.{over, ◌then◌, Held, Left}
+use Rattle.batch_meaning.specs.Doing.{Doing, over, ◌then◌, Held, Left}
 use Rattle.batch_meaning.specs.Meaning.{batch, rolls_back_open}
 use Rattle.batch_meaning.specs.Progress.{SessionProgress, first_progress}
 use Rattle.batch_meaning.specs.Rpc.{rpc}
@@ -23,7 +22,7 @@ use Rattle.connection_laws.specs.Tasks.{AsksTasks, IsLast, tasks_of}
 use Rattle.connection_laws.specs.Laws.{AreConnections, ConnectionAsks, ConnectionServed, IsConnection}
 use Rattle.connection_laws.proofs.Shut.{rolled_shut}
 use Rattle.connection_laws.proofs.Short.{HandledBack, IsShort, IsLimited, all_limited, tasks_back, handled_goes, last_short, text_back, walk_short}
-use Rattle.connection_laws.proofs.Talks.{gives_tokens, held_whole, talk_done}
+use Rattle.connection_laws.proofs.Talks.{held_whole, responds_by, talk_done}
 
 -- ---- the last batch or call
 
@@ -43,27 +42,19 @@ none_left : (old new : SessionProgress) (exchanges : List Exchange) → exchange
 none_left old new exchanges none same = record { last = None; left = (none, same); back = none_back }
 
 module _ (old new : SessionProgress) (exchanges : List Exchange) where
-  batch_left : (size : ℕ) (read_as : ReadText) → Left (batch_response size read_as) old exchanges new → Left (batch read_as) old exchanges new
-  unfolding batch_response Left
-  batch_left size read_as left = by_left (left_apart (batch read_as) (gives_tokens size) old new exchanges left)
+  tree_left : (tree : Doing (Unit {0})) (make : SessionProgress → Response) → Left (tree then responds_by make) old exchanges new → Left tree old exchanges new
+  unfolding Left
+  tree_left tree make left = by_left (left_apart tree (responds_by make) old new exchanges left)
     where
-      by_left : Left (batch read_as) old exchanges new ⊎ Apart (batch read_as) old exchanges (λ nothing mid back. Left (gives_tokens size nothing) mid back new) → Left (batch read_as) old exchanges new
+      by_left : Left tree old exchanges new ⊎ Apart tree old exchanges (λ nothing mid back. Left (responds_by make nothing) mid back new) → Left tree old exchanges new
       by_left (inl here) = here
-      by_left (inr on) = held_left (batch read_as) old new exchanges tt (held_whole (batch read_as) old on.mid new exchanges on.front on.back tt on.held on.parts on.rest.0 on.rest.1)
-
-  call_left : (size : ℕ) (call : RpcCall) (read_as : ReadText) → Left (rpc_response size call read_as) old exchanges new → Left (rpc call read_as) old exchanges new
-  unfolding rpc_response Left
-  call_left size call read_as left = by_left (left_apart (rpc call read_as) (gives_tokens size) old new exchanges left)
-    where
-      by_left : Left (rpc call read_as) old exchanges new ⊎ Apart (rpc call read_as) old exchanges (λ nothing mid back. Left (gives_tokens size nothing) mid back new) → Left (rpc call read_as) old exchanges new
-      by_left (inl here) = here
-      by_left (inr on) = held_left (rpc call read_as) old new exchanges tt (held_whole (rpc call read_as) old on.mid new exchanges on.front on.back tt on.held on.parts on.rest.0 on.rest.1)
+      by_left (inr on) = held_left tree old new exchanges tt (held_whole tree old on.mid new exchanges on.front on.back tt on.held on.parts on.rest.0 on.rest.1)
 
   response_left : (handling : Handling) (read_as : ReadText) → HandledBack handling read_as → Left (response_to handling read_as) old exchanges new → IsLeft old new exchanges
-  unfolding Left
+  unfolding Left batch_response rpc_response
   response_left (responds answer next) read_as back left = none_left old new exchanges left.0 left.1
-  response_left (runs size text) read_as back left = record { last = Some (Runs read_as); left = batch_left size read_as left; back = some_back (Runs read_as) back }
-  response_left (calls size call) read_as back left = record { last = Some (Calls call read_as); left = call_left size call read_as left; back = some_back (Calls call read_as) back }
+  response_left (runs connected text) read_as back left = record { last = Some (Runs read_as); left = tree_left (batch read_as) _ left; back = some_back (Runs read_as) back }
+  response_left (calls connected call) read_as back left = record { last = Some (Calls call read_as); left = tree_left (rpc call read_as) _ left; back = some_back (Calls call read_as) back }
   response_left (refuses answer number) read_as back left = none_left old new exchanges left.0 left.1
   response_left (ends end) read_as back left = none_left old new exchanges left.0 left.1
 
@@ -123,7 +114,7 @@ module _ (config : Config) (messages : List Message) (requests : List Request) (
       let walk = walk_of config a.front in
       let so = walk_short config a.front (all_left IsLimited a.front (a.last ∷ []) each) in
       let last = abandoned_left a.talked a.abandoned a.second (handle config a.state a.last)
-      (last_short walk (λ state. handle config state a.last) walk.stands a.state a.stands (handled_goes config walk a.last (all_right IsLimited a.front (a.last ∷ []) each).0 so.reached)) a.left in
+      (last_short config walk (λ state. handle config state a.last) walk.stands a.state a.stands (handled_goes config walk a.last (all_right IsLimited a.front (a.last ∷ []) each).0 so.reached)) a.left in
       asks_by unmade (tasks_of requests) exchanges a.first a.second a.third a.talked a.abandoned a.new last tt a.parts
       (talk_done requests a.talked a.first responses a.talk) a.end (tasks_back walk.handled requests so.short a.are)
 

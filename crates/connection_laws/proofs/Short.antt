@@ -1,12 +1,13 @@
 -- The payload of a message has a limit, so the text of a batch is short, and what its CREATE TABLEs keep reads back.
-use Rattle.std.proofs.Common.{◌≡◌, ◌⊎◌, inl, inr, ℕ, ◌+◌, ◌≤◌, ◌==◌, Bool, true, false, if◌then◌else◌, List, [], ◌∷◌, ◌++◌, fold, map, length, drop, Option, None, Some, Result, Ok, Err, refl, sym, ap, subst, arith, length-drop}
+use Rattle.std.proofs.Common.{◌≡◌, ◌⊎◌, inl, inr, ℕ, ◌+◌, ◌≤◌, ◌==◌, ◌&&◌, Bool, true, false, if◌then◌else◌, List, [], ◌∷◌, ◌++◌, fold, map, length, drop, Option, None, Some, Result, Ok, Err, refl, sym, ap, subst, arith, length-drop}
 use Rattle.std.specs.Prelude.{ℤ}
 use Rattle.std.specs.List.{All, AllByRecursion}
 use Rattle.std.proofs.lemmas.List.Elements.{All-head, All-tail}
 use Rattle.value_types.specs.Units.{units_of}
 use Rattle.table_rows.specs.Definitions.{longest_text}
 use Rattle.tds_packets.specs.declared.message.Message.{Message}
-use Rattle.tds_packets.specs.Header.{sql_batch, rpc as rpc_request, attention, login7, prelogin}
+use Rattle.tds_packets.specs.Header.{sql_batch, rpc as rpc_request, attention, transaction_manager, login7, prelogin}
+use Rattle.tds_packets.specs.Packets.{default_size}
 use Rattle.tds_packets.specs.Stream.{Joins, payload_limit}
 use Rattle.tds_login.specs.declared.config.Config.{Config}
 use Rattle.tds_login.specs.declared.config.Entry.{Entry}
@@ -21,12 +22,20 @@ use Rattle.tds_login.specs.Verdict.{judge_login}
 use Rattle.rpc_requests.specs.declared.call.RpcCall.{RpcCall}
 use Rattle.rpc_requests.specs.declared.fault.RpcFault.{RpcFault}
 use Rattle.rpc_requests.specs.declared.fault.RpcFault.TheVariants as rpc_fault
+use Rattle.rpc_requests.specs.declared.fault.RpcKind.{RpcKind}
+use Rattle.rpc_requests.specs.declared.fault.RpcKind.TheVariants as rpc_kind
 use Rattle.rpc_requests.specs.Reading.{rpc_of}
+use Rattle.transaction_requests.specs.declared.fault.TransactionFault.{TransactionFault}
+use Rattle.transaction_requests.specs.declared.fault.TransactionFault.TheVariants as transaction_fault
+use Rattle.transaction_requests.specs.declared.fault.TransactionKind.{TransactionKind}
+use Rattle.transaction_requests.specs.declared.fault.TransactionKind.TheVariants as transaction_kind
+use Rattle.transaction_requests.specs.Text.{managed}
+use Rattle.transaction_requests.proofs.Sizes.{managed_few}
 use Rattle.batch_meaning.specs.Rpc.{ReadsFor, rpc_text}
 use Rattle.batch_meaning.specs.declared.form.ReadText.{ReadText}
 use Rattle.session_server.specs.declared.end.BatchFault.{BatchFault}
 use Rattle.session_server.specs.declared.end.End.{End}
-use Rattle.session_server.specs.Talk.{Handling, responds, runs, calls, refuses, ends, first_state, next_of, handle_prelogin, handle_verdict, handle_login, handle_rpc, headers_length, batch_fault, text_of, handle_batch, handle, Walk, with_handling, walk_on, walk_by, with_message, first_walk, walk_of, Request, IsReadAs, IsRequest, handling_in, AreRequests}
+use Rattle.session_server.specs.Talk.{Handling, responds, runs, calls, refuses, ends, connected_with, first_in, next_of, handle_prelogin, handle_verdict, handle_login, refuse_call, handle_rpc, refuse_request, handle_request, headers_length, batch_fault, text_of, handle_batch, handle_logged, handle, Walk, with_handling, walk_on, walk_by, with_message, first_walk, walk_of, Request, IsReadAs, IsRequest, handling_in, AreRequests}
 use Rattle.sound_laws.specs.Runs.{Task, TaskReadsBack}
 use Rattle.text_laws.specs.Laws.{CallReadsBack, TextReadsBack}
 use Rattle.text_laws.proofs.Served.{served_call, served_text}
@@ -43,25 +52,29 @@ units_short (low ∷ high ∷ bytes) = omega (arith, units_short bytes)
 text_short : (payload : List ℕ) → length payload ≤ payload_limit → length (text_of payload) ≤ longest_text
 text_short payload limit = omega (arith, units_short (drop (headers_length payload) payload), length-drop (headers_length payload) payload)
 
+-- so is that of a transaction manager request
+request_short : (payload text : List ℕ) → length payload ≤ payload_limit → managed payload ≡ Ok text → length text ≤ longest_text
+request_short payload text limit is = omega (arith, managed_few payload text is)
+
 -- the text of a batch that is run is short, or that of a call
 abbrev pub IsShort : Handling → Type 0
-IsShort (runs size text) = length text ≤ longest_text
-IsShort (calls size call) = IsShortText (rpc_text call)
+IsShort (runs connected text) = length text ≤ longest_text
+IsShort (calls connected call) = IsShortText (rpc_text call)
 IsShort handling = Unit {0}
 
 -- The connection stands where it begins before a login, behind a PRELOGIN, or logged in; or it has ended. The type of its
 -- states is the code's own, so each is told here by what leads to it.
-abbrev pub IsReached : Walk → Type 0
-IsReached walk =
-    (walk.stands ≡ Ok (first_state AsksLogin))
+abbrev pub IsReached : Config → Walk → Type 0
+IsReached config walk =
+    (walk.stands ≡ Ok (first_in config AsksLogin))
     ⊎ (((read : Prelogin) × (walk.stands ≡ next_of (handle_prelogin (Ok read))))
-    ⊎ (((size : ℕ) × (walk.stands ≡ next_of (runs size [])))
+    ⊎ (((size : ℕ) × (walk.stands ≡ next_of (runs (connected_with config size) [])))
     ⊎ ((end : End) × (walk.stands ≡ Err end))))
 
-module _ (walk : Walk) where
+module _ (config : Config) (walk : Walk) where
   -- the text is short, and the connection goes on to one of its states
   abbrev pub Goes : Handling → Type 0
-  Goes handling = IsShort handling × IsReached (walk_on walk handling)
+  Goes handling = IsShort handling × IsReached config (walk_on walk handling)
 
   goes_if : (test : Bool) (first other : Handling) → Goes first → Goes other → Goes (if test then first else other)
   goes_if true first other one two = one
@@ -74,48 +87,73 @@ module _ (walk : Walk) where
   prelogin_goes (Ok read) = (tt, inr (inl (read, refl)))
   prelogin_goes (Err fault) = (tt, inr (inr (inr (_, refl))))
 
-  verdict_goes : (verdict : Result ℕ ℤ) → Goes (handle_verdict verdict)
+  verdict_goes : (verdict : Result ℕ ℤ) → Goes (handle_verdict config verdict)
   verdict_goes (Ok size) = (tt, inr (inr (inl (size, refl))))
   verdict_goes (Err number) = (tt, inr (inr (inr (_, refl))))
 
-  login_goes : (config : Config) (read : Result Login LoginFault) → Goes (handle_login config read)
-  login_goes config (Ok login) = verdict_goes (judge_login login config)
-  login_goes config (Err fault) = (tt, inr (inr (inr (_, refl))))
+  login_goes : (read : Result Login LoginFault) → Goes (handle_login config read)
+  login_goes (Ok login) = verdict_goes (judge_login login config)
+  login_goes (Err fault) = (tt, inr (inr (inr (_, refl))))
 
-  batch_goes : (size : ℕ) (payload : List ℕ) → length payload ≤ payload_limit → (fault : Option BatchFault) → Goes (handle_batch size payload fault)
-  batch_goes size payload limit None = (text_short payload limit, inr (inr (inl (size, refl))))
-  batch_goes size payload limit (Some fault) = (tt, inr (inr (inr (_, refl))))
+  module _ (size : ℕ) where
+    batch_goes : (payload : List ℕ) → length payload ≤ payload_limit → (fault : Option BatchFault) → Goes (handle_batch (connected_with config size) payload fault)
+    batch_goes payload limit None = (text_short payload limit, inr (inr (inl (size, refl))))
+    batch_goes payload limit (Some fault) = ends_goes _
 
-  rpc_goes : (size : ℕ) (payload : List ℕ) → length payload ≤ payload_limit → Goes (handle_rpc size (rpc_of payload))
-  rpc_goes size payload limit = by_read (rpc_of payload) refl
-    where
-      by_read : (read : Result RpcCall RpcFault) → rpc_of payload ≡ read → Goes (handle_rpc size read)
-      by_read (Ok call) is = (call_short payload call limit is, inr (inr (inl (size, refl))))
-      by_read (Err (rpc_fault.Bad _ _)) is = (tt, inr (inr (inr (_, refl))))
-      by_read (Err rpc_fault.Memory) is = (tt, inr (inr (inr (_, refl))))
+    call_refused : (at : ℕ) (kind : RpcKind) → Goes (refuse_call (connected_with config size) at kind)
+    call_refused at rpc_kind.Headers = ends_goes _
+    call_refused at rpc_kind.Cut = ends_goes _
+    call_refused at kind = (tt, inr (inr (inl (size, refl))))
+
+    rpc_goes : (payload : List ℕ) → length payload ≤ payload_limit → Goes (handle_rpc (connected_with config size) (rpc_of payload))
+    rpc_goes payload limit = by_read (rpc_of payload) refl
+      where
+        by_read : (read : Result RpcCall RpcFault) → rpc_of payload ≡ read → Goes (handle_rpc (connected_with config size) read)
+        by_read (Ok call) is = (call_short payload call limit is, inr (inr (inl (size, refl))))
+        by_read (Err (rpc_fault.Bad at kind)) is = goes_if config.drivers _ _ (call_refused at kind) (ends_goes _)
+        by_read (Err rpc_fault.Memory) is = ends_goes _
+
+    request_refused : (at : ℕ) (kind : TransactionKind) → Goes (refuse_request (connected_with config size) at kind)
+    request_refused at transaction_kind.Headers = ends_goes _
+    request_refused at transaction_kind.Cut = ends_goes _
+    request_refused at kind = (tt, inr (inr (inl (size, refl))))
+
+    request_goes : (payload : List ℕ) → length payload ≤ payload_limit → Goes (handle_request (connected_with config size) (managed payload))
+    request_goes payload limit = by_read (managed payload) refl
+      where
+        by_read : (read : Result (List ℕ) TransactionFault) → managed payload ≡ read → Goes (handle_request (connected_with config size) read)
+        by_read (Ok text) is = (request_short payload text limit is, inr (inr (inl (size, refl))))
+        by_read (Err (transaction_fault.Bad at kind)) is = request_refused at kind
+        by_read (Err transaction_fault.Memory) is = ends_goes _
+
+    logged_goes : (message : Message) → length message.payload ≤ payload_limit → Goes (handle_logged (connected_with config size) message)
+    logged_goes message limit =
+        goes_if (message.kind == sql_batch) _ _ (batch_goes message.payload limit (batch_fault message.payload))
+        (goes_if (message.kind == rpc_request) _ _ (rpc_goes message.payload limit)
+        (goes_if (message.kind == attention) _ _ (tt, inr (inr (inl (size, refl))))
+        (goes_if (message.kind == transaction_manager && config.drivers) _ _ (request_goes message.payload limit) (ends_goes _))))
 
 -- the payload of a message is within its limit
 abbrev pub IsLimited : Message → Type 0
 IsLimited message = length message.payload ≤ payload_limit
 
 -- by where the connection stands
-abbrev pub GoesBy : {S : Type 0} → Walk → (S → Handling) → Result S End → Type 0
-GoesBy walk handled (Ok state) = Goes walk (handled state)
-GoesBy walk handled (Err end) = Unit {0}
+abbrev pub GoesBy : {S : Type 0} → Config → Walk → (S → Handling) → Result S End → Type 0
+GoesBy config walk handled (Ok state) = Goes config walk (handled state)
+GoesBy config walk handled (Err end) = Unit {0}
 
 -- a message is handled so, wherever the connection stands
-pub handled_goes : (config : Config) (walk : Walk) (message : Message) → IsLimited message → IsReached walk → GoesBy walk (λ state. handle config state message) walk.stands
-handled_goes config walk message limit (inl first) = subst (GoesBy walk (λ state. handle config state message)) (sym first)
-    (goes_if walk (message.kind == prelogin) _ _ (prelogin_goes walk (prelogin_of message.payload)) (goes_if walk (message.kind == login7) _ _ (login_goes walk config (login_of message.payload)) (ends_goes walk _)))
-handled_goes config walk message limit (inr (inl (read, ready))) = subst (GoesBy walk (λ state. handle config state message)) (sym ready)
-    (goes_if walk (message.kind == login7) _ _ (login_goes walk config (login_of message.payload)) (ends_goes walk _))
-handled_goes config walk message limit (inr (inr (inl (size, logged)))) = subst (GoesBy walk (λ state. handle config state message)) (sym logged)
-    (goes_if walk (message.kind == sql_batch) _ _ (batch_goes walk size message.payload limit (batch_fault message.payload)) (goes_if walk (message.kind == rpc_request) _ _ (rpc_goes walk size message.payload limit) (goes_if walk (message.kind == attention) _ _ (tt, inr (inr (inl (size, refl)))) (ends_goes walk _))))
-handled_goes config walk message limit (inr (inr (inr (end, ended)))) = subst (GoesBy walk (λ state. handle config state message)) (sym ended) tt
+pub handled_goes : (config : Config) (walk : Walk) (message : Message) → IsLimited message → IsReached config walk → GoesBy config walk (λ state. handle config state message) walk.stands
+handled_goes config walk message limit (inl first) = subst (GoesBy config walk (λ state. handle config state message)) (sym first)
+    (goes_if config walk (message.kind == prelogin) _ _ (prelogin_goes config walk (prelogin_of message.payload)) (goes_if config walk (message.kind == login7) _ _ (login_goes config walk (login_of message.payload)) (ends_goes config walk _)))
+handled_goes config walk message limit (inr (inl (read, ready))) = subst (GoesBy config walk (λ state. handle config state message)) (sym ready)
+    (goes_if config walk (message.kind == login7) _ _ (login_goes config walk (login_of message.payload)) (ends_goes config walk _))
+handled_goes config walk message limit (inr (inr (inl (size, logged)))) = subst (GoesBy config walk (λ state. handle config state message)) (sym logged) (logged_goes config walk size message limit)
+handled_goes config walk message limit (inr (inr (inr (end, ended)))) = subst (GoesBy config walk (λ state. handle config state message)) (sym ended) tt
 
 -- where it goes on from a state, the text is short
-pub last_short : {S : Type 0} (walk : Walk) (handled : S → Handling) (stands : Result S End) (state : S) → stands ≡ Ok state → GoesBy walk handled stands → IsShort (handled state)
-last_short walk handled stands state is goes = (subst (GoesBy walk handled) is goes).0
+pub last_short : {S : Type 0} (config : Config) (walk : Walk) (handled : S → Handling) (stands : Result S End) (state : S) → stands ≡ Ok state → GoesBy config walk handled stands → IsShort (handled state)
+last_short config walk handled stands state is goes = (subst (GoesBy config walk handled) is goes).0
 
 -- ---- all messages
 
@@ -133,31 +171,31 @@ short_append (first ∷ handled) handling all one = (all.0, short_append handled
 
 short_with : (handled : List Handling) (handling : Handling) → AreShort handled → IsShort handling → AreShort (with_handling handled handling)
 short_with handled (responds response next) all one = short_append handled (responds response next) all one
-short_with handled (runs size text) all one = short_append handled (runs size text) all one
-short_with handled (calls size call) all one = short_append handled (calls size call) all one
+short_with handled (runs connected text) all one = short_append handled (runs connected text) all one
+short_with handled (calls connected call) all one = short_append handled (calls connected call) all one
 short_with handled (refuses response number) all one = short_append handled (refuses response number) all one
 short_with handled (ends end) all one = all
 
--- all texts so far are short
-pub record IsShortWalk (walk : Walk) : Type 0 where
-  pub short : AreShort walk.handled
-  pub reached : IsReached walk
-
--- one message more
-message_short : {S : Type 0} (walk : Walk) (handled : S → Handling) (on : Result S End → Walk) → ((state : S) → on (Ok state) ≡ walk_on walk (handled state)) → ((end : End) → on (Err end) ≡ walk)
-    → IsShortWalk walk → (stands : Result S End) → GoesBy walk handled stands → IsShortWalk (on stands)
-message_short walk handled on goes stays so (Ok state) is = subst IsShortWalk (sym (goes state)) (record { short = short_with walk.handled (handled state) so.short is.0; reached = is.1 })
-message_short walk handled on goes stays so (Err end) is = subst IsShortWalk (sym (stays end)) so
-
 module _ (config : Config) where
+  -- all texts so far are short
+  pub record IsShortWalk (walk : Walk) : Type 0 where
+    pub short : AreShort walk.handled
+    pub reached : IsReached config walk
+
+  -- one message more
+  message_short : {S : Type 0} (walk : Walk) (handled : S → Handling) (on : Result S End → Walk) → ((state : S) → on (Ok state) ≡ walk_on walk (handled state)) → ((end : End) → on (Err end) ≡ walk)
+      → IsShortWalk walk → (stands : Result S End) → GoesBy config walk handled stands → IsShortWalk (on stands)
+  message_short walk handled on goes stays so (Ok state) is = subst IsShortWalk (sym (goes state)) (record { short = short_with walk.handled (handled state) so.short is.0; reached = is.1 })
+  message_short walk handled on goes stays so (Err end) is = subst IsShortWalk (sym (stays end)) so
+
   messages_short : (messages : List Message) (walk : Walk) → AllByRecursion IsLimited messages → IsShortWalk walk → IsShortWalk (fold (with_message config) walk messages)
   messages_short [] walk limits so = so
   messages_short (message ∷ messages) walk limits so = messages_short messages (with_message config walk message) limits.1
       (message_short walk (λ state. handle config state message) (λ stands. walk_by config walk stands message) (λ state. refl) (λ end. refl) so walk.stands (handled_goes config walk message limits.0 so.reached))
 
-  pub first_reached : (entry : Entry) → config.entry ≡ entry → IsReached (first_walk config)
-  first_reached AsksLogin is = inl (ap (λ entry. Ok (first_state entry)) is)
-  first_reached Bare is = inr (inr (inl (_, ap (λ entry. Ok (first_state entry)) is)))
+  pub first_reached : (entry : Entry) → config.entry ≡ entry → IsReached config (first_walk config)
+  first_reached AsksLogin is = inl (ap (λ entry. Ok (first_in config entry)) is)
+  first_reached Bare is = inr (inr (inl (default_size, ap (λ entry. Ok (first_in config entry)) is)))
 
   pub walk_short : (messages : List Message) → AllByRecursion IsLimited messages → IsShortWalk (walk_of config messages)
   unfolding walk_of
@@ -167,8 +205,8 @@ module _ (config : Config) where
 
 -- what is run reads back
 abbrev pub HandledBack : Handling → ReadText → Type 0
-HandledBack (runs size text) read_as = TextReadsBack read_as
-HandledBack (calls size call) read_as = CallReadsBack read_as
+HandledBack (runs connected text) read_as = TextReadsBack read_as
+HandledBack (calls connected call) read_as = CallReadsBack read_as
 HandledBack handling read_as = Unit {0}
 
 called_back : (text : Option (List ℕ)) (read_as : ReadText) → IsShortText text → ReadsFor text read_as → CallReadsBack read_as
@@ -176,15 +214,15 @@ called_back None read_as short none = subst CallReadsBack (sym none) tt
 called_back (Some text) read_as short reads = served_call text read_as reads short
 
 pub text_back : (handling : Handling) (read_as : ReadText) → IsShort handling → IsReadAs handling read_as → HandledBack handling read_as
-text_back (runs size text) read_as short reads = served_text text read_as reads short
-text_back (calls size call) read_as short reads = called_back (rpc_text call) read_as short reads
+text_back (runs connected text) read_as short reads = served_text text read_as reads short
+text_back (calls connected call) read_as short reads = called_back (rpc_text call) read_as short reads
 text_back (responds response next) read_as short none = tt
 text_back (refuses response number) read_as short none = tt
 text_back (ends end) read_as short none = tt
 
 with_back : (handling : Handling) (read_as : ReadText) (others : List Task) → HandledBack handling read_as → AllByRecursion TaskReadsBack others → AllByRecursion TaskReadsBack (with_task handling read_as others)
-with_back (runs size text) read_as others one back = (one, back)
-with_back (calls size call) read_as others one back = (one, back)
+with_back (runs connected text) read_as others one back = (one, back)
+with_back (calls connected call) read_as others one back = (one, back)
 with_back (responds response next) read_as others one back = back
 with_back (refuses response number) read_as others one back = back
 with_back (ends end) read_as others one back = back

@@ -1,14 +1,13 @@
 -- A talk is taken apart: the batches and calls of its requests were done, one behind another.
 use Rattle.std.proofs.Common.{◌≡◌, ℕ, List, [], ◌∷◌, ◌++◌, fold, refl, sym, ap, ◌∙◌, subst, append-nil, append_assoc}
 use Rattle.step_model.specs.Exchange.{Exchange}
-use Rattle.rpc_requests.specs.declared.call.RpcCall.{RpcCall}
 use Rattle.batch_meaning.specs.declared.form.ReadText.{ReadText}
 use Rattle.batch_meaning.specs.Doing.{Doing, over, reads, ◌then◌, Held}
 use Rattle.batch_meaning.specs.Meaning.{batch}
 use Rattle.batch_meaning.specs.Progress.{SessionProgress, first_progress}
 use Rattle.batch_meaning.specs.Rpc.{rpc}
 use Rattle.statement_paths.proofs.Apart.{held_apart}
-use Rattle.session_server.specs.Response.{Response, tabular}
+use Rattle.session_server.specs.Response.{Response}
 use Rattle.session_server.specs.Talk.{Handling, responds, runs, calls, refuses, ends, batch_response, rpc_response, response_to, talk_more, with_request, Request, talk_of}
 use Rattle.sound_laws.specs.Runs.{AreDone, Task}
 use Rattle.connection_laws.specs.Tasks.{tasks_of, with_task}
@@ -21,21 +20,16 @@ held_whole tree p mid new exchanges front back a held parts none same =
 
 -- ---- one request
 
--- the response to a batch or a call has the tokens that it sent
-abbrev pub gives_tokens : ℕ → Unit {0} → Doing Response
-gives_tokens size nothing = reads λ p. over (tabular size p.tokens)
+-- the response to a batch or a call is made of where that has come to
+abbrev pub responds_by : (SessionProgress → Response) → Unit {0} → Doing Response
+responds_by make nothing = reads λ p. over (make p)
 
-batch_done : (size : ℕ) (read_as : ReadText) (old new : SessionProgress) (exchanges : List Exchange) (response : Response) → Held (batch_response size read_as) old exchanges response new → Held (batch read_as) old exchanges tt new
-unfolding batch_response Held
-batch_done size read_as old new exchanges response held =
-    let on = held_apart (batch read_as) (gives_tokens size) old new exchanges response held in
-    held_whole (batch read_as) old on.mid new exchanges on.front on.back tt on.held on.parts on.rest.0 on.rest.2
-
-call_done : (size : ℕ) (call : RpcCall) (read_as : ReadText) (old new : SessionProgress) (exchanges : List Exchange) (response : Response) → Held (rpc_response size call read_as) old exchanges response new → Held (rpc call read_as) old exchanges tt new
-unfolding rpc_response Held
-call_done size call read_as old new exchanges response held =
-    let on = held_apart (rpc call read_as) (gives_tokens size) old new exchanges response held in
-    held_whole (rpc call read_as) old on.mid new exchanges on.front on.back tt on.held on.parts on.rest.0 on.rest.2
+-- what was asked for the response is what the batch or the call asks
+tree_done : (tree : Doing (Unit {0})) (make : SessionProgress → Response) (old new : SessionProgress) (exchanges : List Exchange) (response : Response) → Held (tree then responds_by make) old exchanges response new → Held tree old exchanges tt new
+unfolding Held
+tree_done tree make old new exchanges response held =
+    let on = held_apart tree (responds_by make) old new exchanges response held in
+    held_whole tree old on.mid new exchanges on.front on.back tt on.held on.parts on.rest.0 on.rest.2
 
 module _ (others : List Task) (old mid new : SessionProgress) (first later : List Exchange) (response : Response) (done : AreDone others mid later new) where
   -- a request that runs nothing asks nothing
@@ -43,10 +37,10 @@ module _ (others : List Task) (old mid new : SessionProgress) (first later : Lis
   still_done none same = subst (λ (l : List Exchange). AreDone others old (l ++ later) new) (sym none) (subst (λ (q : SessionProgress). AreDone others q later new) same done)
 
   request_done : (handling : Handling) (read_as : ReadText) → Held (response_to handling read_as) old first response mid → AreDone (with_task handling read_as others) old (first ++ later) new
-  unfolding Held
+  unfolding Held batch_response rpc_response
   request_done (responds answer next) read_as held = still_done held.0 held.2
-  request_done (runs size text) read_as held = (mid, first, later, refl, batch_done size read_as old mid first response held, done)
-  request_done (calls size call) read_as held = (mid, first, later, refl, call_done size call read_as old mid first response held, done)
+  request_done (runs connected text) read_as held = (mid, first, later, refl, tree_done (batch read_as) _ old mid first response held, done)
+  request_done (calls connected call) read_as held = (mid, first, later, refl, tree_done (rpc call read_as) _ old mid first response held, done)
   request_done (refuses answer number) read_as held = still_done held.0 held.2
   request_done (ends end) read_as held = absurd held
 

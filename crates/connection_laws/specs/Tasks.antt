@@ -11,8 +11,8 @@ use Rattle.sound_laws.specs.Runs.Task.{Calls, Runs}
 
 -- the batches and calls that requests run, in their order, each with what its text is read as
 abbrev pub with_task : Handling → ReadText → List Task → List Task
-with_task (runs size text) read_as others = Runs read_as ∷ others
-with_task (calls size call) read_as others = Calls call read_as ∷ others
+with_task (runs connected text) read_as others = Runs read_as ∷ others
+with_task (calls connected call) read_as others = Calls call read_as ∷ others
 with_task handling read_as others = others
 
 abbrev pub tasks_of : List Request → List Task

@@ -13,9 +13,11 @@ use Rattle.clap.proofs.SimpleLemmas.{is_nil}
 use Rattle.clap.proofs.WalkLemmas.{both}
 use Rattle.program_words.specs.declared.command.ProgramCommand.{ProgramCommand}
 use Rattle.program_words.specs.declared.command.ProgramCommand.TheVariants as commands
-use Rattle.program_words.specs.Asked.{command_in, is_on, number_or, pipe_in, port_in, text_or, transfers_in, values_of}
-use Rattle.program_words.specs.Spelled.{Called, Use, all_written, are_distinct, call, given_by, has_name, may_stand, text_of, value_of}
-use Rattle.program_words.specs.Spelled.{pipe, listen, steps, load, user, password, bare}
+use Rattle.program_words.specs.Numbers.{number_in}
+use Rattle.program_words.specs.Options.{flag_rule}
+use Rattle.program_words.specs.Asked.{command_in, is_on, listen_in, number_or, pipe_in, port_in, text_or, transfers_in, values_of}
+use Rattle.program_words.specs.Spelled.{Called, Use, all_written, are_distinct, call, given_by, has_name, may_stand, value_of}
+use Rattle.program_words.specs.Spelled.{pipe, listen, steps, load, user, password, bare, drivers, port, workers, rounds}
 use Rattle.program_words.proofs.Ranges.{none≢some, then_some}
 use Rattle.program_words.proofs.Steps.{added_at_end, held, state}
 use Rattle.program_words.proofs.Leaves.{leaf, no_override, rule}
@@ -69,6 +71,17 @@ first_other id (x ∷ xs) r other = go (bytes_eq x.id id) (first_other id xs r o
     go true e = refl
     go false e = e
 
+-- nor is anything given by it
+given_other : (id : Text) (rows : List Row) (r : Row) → bytes_eq r.id id ≡ false → is_given id (rows ++ r ∷ []) ≡ is_given id rows
+given_other id [] r other = rw other refl
+given_other id (x ∷ xs) r other = go (bytes_eq x.id id) (given_other id xs r other)
+  where
+    go : (b : Bool) → is_given id (xs ++ r ∷ []) ≡ is_given id xs
+        → option_map_or (λ (y : Row). explicit_source y.source) (cond b (Some x) (find (λ (y : Row). bytes_eq y.id id) (xs ++ r ∷ []))) false
+        ≡ option_map_or (λ (y : Row). explicit_source y.source) (cond b (Some x) (find (λ (y : Row). bytes_eq y.id id) xs)) false
+    go true e = refl
+    go false e = e
+
 -- and under this one, where it is the first
 first_last : (id : Text) (rows : List Row) (r : Row) → bytes_eq r.id id ≡ true → has_row id rows ≡ false → first_of id (rows ++ r ∷ []) ≡ slice_get r.values 0
 first_last id [] r same none = rw same refl
@@ -88,33 +101,48 @@ first_none id (x ∷ xs) none = go (bytes_eq x.id id) none (first_none id xs)
     go true e rest = absurd (true≢false e)
     go false e rest = rest e
 
--- the flag that is not given
-abbrev off : Row
-off = record { id = text_of bare; values = codes "false" ∷ []; count = None; source = Some DefaultValue; reading = reading_by (rule bare) }
+-- ---- flags
 
-with_bare : (rows : List Row) → has_row (text_of bare) rows ≡ false → with_default rows (rule bare) ≡ rows ++ off ∷ []
-with_bare rows none = rw none (added_at_end (text_of bare) (reading_by (rule bare)) DefaultValue (codes "false" ∷ []) rows none)
+module _ (name : Text) (same : bytes_eq name name ≡ true) where
+  -- the flag of this name, as it is built
+  abbrev flag : Rule
+  flag = filled (flag_rule name)
 
-bare_default : (rows : List Row) → has_row (text_of bare) rows ≡ true → with_default rows (rule bare) ≡ rows
-bare_default rows some = rw some refl
+  -- one that is not given
+  abbrev off : Row
+  off = record { id = name; values = codes "false" ∷ []; count = None; source = Some DefaultValue; reading = reading_by flag }
 
--- the default of the flag changes no other value
-bare_other : (id : Text) (rows : List Row) → bytes_eq (text_of bare) id ≡ false → first_of id (with_default rows (rule bare)) ≡ first_of id rows
-bare_other id rows other = go (has_row (text_of bare) rows) refl
-  where
-    go : (b : Bool) → has_row (text_of bare) rows ≡ b → first_of id (with_default rows (rule bare)) ≡ first_of id rows
-    go true e = ap (first_of id) (bare_default rows e)
-    go false e = ap (first_of id) (with_bare rows e) ∙ first_other id rows off other
+  with_flag : (rows : List Row) → has_row name rows ≡ false → with_default rows flag ≡ rows ++ off ∷ []
+  with_flag rows none = rw none (added_at_end name (reading_by flag) DefaultValue (codes "false" ∷ []) rows none)
 
--- and leaves the flag as it is given
-bare_on : (rows : List Row) → is_on (first_of (text_of bare) (with_default rows (rule bare))) ≡ is_on (first_of (text_of bare) rows)
-bare_on rows = go (has_row (text_of bare) rows) refl
-  where
-    go : (b : Bool) → has_row (text_of bare) rows ≡ b → is_on (first_of (text_of bare) (with_default rows (rule bare))) ≡ is_on (first_of (text_of bare) rows)
-    go true e = ap (λ rs. is_on (first_of (text_of bare) rs)) (bare_default rows e)
-    go false e =
-        ap (λ rs. is_on (first_of (text_of bare) rs)) (with_bare rows e) ∙ ap is_on (first_last (text_of bare) rows off refl e)
-        ∙ sym (ap is_on (first_none (text_of bare) rows e))
+  flag_default : (rows : List Row) → has_row name rows ≡ true → with_default rows flag ≡ rows
+  flag_default rows some = rw some refl
+
+  -- the default of the flag changes no other value
+  flag_other : (id : Text) (rows : List Row) → bytes_eq name id ≡ false → first_of id (with_default rows flag) ≡ first_of id rows
+  flag_other id rows other = go (has_row name rows) refl
+    where
+      go : (b : Bool) → has_row name rows ≡ b → first_of id (with_default rows flag) ≡ first_of id rows
+      go true e = ap (first_of id) (flag_default rows e)
+      go false e = ap (first_of id) (with_flag rows e) ∙ first_other id rows off other
+
+  -- gives nothing else
+  flag_given : (id : Text) (rows : List Row) → bytes_eq name id ≡ false → is_given id (with_default rows flag) ≡ is_given id rows
+  flag_given id rows other = go (has_row name rows) refl
+    where
+      go : (b : Bool) → has_row name rows ≡ b → is_given id (with_default rows flag) ≡ is_given id rows
+      go true e = ap (is_given id) (flag_default rows e)
+      go false e = ap (is_given id) (with_flag rows e) ∙ given_other id rows off other
+
+  -- and leaves the flag as it is given
+  flag_on : (rows : List Row) → is_on (first_of name (with_default rows flag)) ≡ is_on (first_of name rows)
+  flag_on rows = go (has_row name rows) refl
+    where
+      go : (b : Bool) → has_row name rows ≡ b → is_on (first_of name (with_default rows flag)) ≡ is_on (first_of name rows)
+      go true e = ap (λ rs. is_on (first_of name rs)) (flag_default rows e)
+      go false e =
+          ap (λ rs. is_on (first_of name rs)) (with_flag rows e) ∙ ap is_on (first_last name rows off same e)
+          ∙ sym (ap is_on (first_none name rows e))
 
 -- ---- the subcommand
 
@@ -168,23 +196,22 @@ defaults_pass listen = refl
 defaults_pass steps = refl
 defaults_pass load = refl
 
--- nothing but the flag has a default
-plain_defaults : (called : Called) → (called ≡ pipe → ⊥) → list_all (λ a. is_empty a.defaults) (leaf called).rules ≡ true
-plain_defaults pipe other = absurd (other refl)
-plain_defaults listen other = refl
-plain_defaults steps other = refl
-plain_defaults load other = refl
-
 -- `--help`, as it is built
 abbrev help : Rule
 help = filled help_rule
 
-pipe_defaults : (rows : List Row) → fold with_default rows (leaf pipe).rules ≡ with_default rows (rule bare)
+-- nothing but flags has a default
+pipe_defaults : (rows : List Row) → fold with_default rows (leaf pipe).rules ≡ with_default (with_default rows (rule bare)) (rule drivers)
 pipe_defaults rows =
     let user_is = no_default rows (rule user) refl in
     let password_is = no_default rows (rule password) refl in
-    ap (λ rs. fold with_default rs (rule password ∷ rule bare ∷ help ∷ [])) user_is
-    ∙ (ap (λ rs. fold with_default rs (rule bare ∷ help ∷ [])) password_is ∙ no_default (with_default rows (rule bare)) help refl)
+    ap (λ rs. fold with_default rs (rule password ∷ rule bare ∷ rule drivers ∷ help ∷ [])) user_is
+    ∙ (ap (λ rs. fold with_default rs (rule bare ∷ rule drivers ∷ help ∷ [])) password_is ∙ no_default (with_default (with_default rows (rule bare)) (rule drivers)) help refl)
+
+listen_defaults : (rows : List Row) → fold with_default rows (leaf listen).rules ≡ with_default rows (rule drivers)
+listen_defaults rows =
+    ap (λ rs. fold with_default rs (rule drivers ∷ help ∷ [])) (no_defaults (rule port ∷ rule workers ∷ rule rounds ∷ rule user ∷ rule password ∷ []) rows refl)
+    ∙ no_default (with_default rows (rule drivers)) help refl
 
 -- what has to be there is there
 abbrev needed : Called → List Row → Bool
@@ -218,18 +245,33 @@ module _ (uses : List Use) where
   values_are : values_of (map row_for uses) ≡ given_by uses
   values_are = λ i id. found_is uses id i
 
-  pipe_is : pipe_in (values_of (with_default (map row_for uses) (rule bare))) ≡ pipe_in (given_by uses)
+  pipe_is : pipe_in (values_of (with_default (with_default (map row_for uses) (rule bare)) (rule drivers))) ≡ pipe_in (given_by uses)
   pipe_is =
       let rows = map row_for uses in
-      let user_is = bare_other (codes "user") rows refl ∙ found_is uses (codes "user") in
-      let password_is = bare_other (codes "password") rows refl ∙ found_is uses (codes "password") in
-      let bare_is = bare_on rows ∙ ap is_on (found_is uses (codes "bare")) in
-      λ i. commands.Pipe (text_or (codes "sa") (user_is i)) (text_or (codes "A") (password_is i)) (bare_is i)
+      let front = with_default rows (rule bare) in
+      let user_is = flag_other (codes "drivers") refl (codes "user") front refl ∙ flag_other (codes "bare") refl (codes "user") rows refl ∙ found_is uses (codes "user") in
+      let password_is = flag_other (codes "drivers") refl (codes "password") front refl ∙ flag_other (codes "bare") refl (codes "password") rows refl ∙ found_is uses (codes "password") in
+      let bare_is = ap is_on (flag_other (codes "drivers") refl (codes "bare") front refl) ∙ flag_on (codes "bare") refl rows ∙ ap is_on (found_is uses (codes "bare")) in
+      let drivers_is = flag_on (codes "drivers") refl front ∙ ap is_on (flag_other (codes "bare") refl (codes "drivers") rows refl ∙ found_is uses (codes "drivers")) in
+      λ i. commands.Pipe (text_or (codes "sa") (user_is i)) (text_or (codes "A") (password_is i)) (bare_is i) (drivers_is i)
+
+  -- a value that is none of the flag's
+  listen_value : (id : Text) → bytes_eq (codes "drivers") id ≡ false → values_of (with_default (map row_for uses) (rule drivers)) id ≡ given_by uses id
+  listen_value id other = flag_other (codes "drivers") refl id (map row_for uses) other ∙ found_is uses id
+
+  listen_is : listen_in (values_of (with_default (map row_for uses) (rule drivers))) ≡ listen_in (given_by uses)
+  listen_is =
+      let port_is = ap (number_or None 65535) (listen_value (codes "port") refl) in
+      let workers_is = ap (number_or (Some 4) 64) (listen_value (codes "workers") refl) in
+      let rounds_is = ap (λ given. option_map_or (λ text. option_map (λ n. Some n) (number_in 1000000000 text)) given (Some None)) (listen_value (codes "rounds") refl) in
+      let user_is = ap (text_or (codes "sa")) (listen_value (codes "user") refl) in
+      let password_is = ap (text_or (codes "A")) (listen_value (codes "password") refl) in
+      let drivers_is = flag_on (codes "drivers") refl (map row_for uses) ∙ ap is_on (found_is uses (codes "drivers")) in
+      λ i. option_and_then (λ port. option_and_then (λ workers. option_map (λ rounds. commands.Listen port workers rounds (user_is i) (password_is i) (drivers_is i)) (rounds_is i)) (workers_is i)) (port_is i)
 
   command_is : (called : Called) → command_in (call called) (values_of (fold with_default (map row_for uses) (leaf called).rules)) ≡ command_in (call called) (given_by uses)
   command_is pipe = ap (λ rows. Some (pipe_in (values_of rows))) (pipe_defaults (map row_for uses)) ∙ ap (λ c. Some c) pipe_is
-  command_is listen =
-      ap (λ rows. command_in (call listen) (values_of rows)) (no_defaults (leaf listen).rules (map row_for uses) refl) ∙ ap (command_in (call listen)) values_are
+  command_is listen = ap (λ rows. listen_in (values_of rows)) (listen_defaults (map row_for uses)) ∙ listen_is
   command_is steps =
       ap (λ rows. command_in (call steps) (values_of rows)) (no_defaults (leaf steps).rules (map row_for uses) refl) ∙ ap (command_in (call steps)) values_are
   command_is load =
@@ -237,7 +279,7 @@ module _ (uses : List Use) where
 
   needed_after : (called : Called) → needed called (fold with_default (map row_for uses) (leaf called).rules) ≡ needed called (map row_for uses)
   needed_after pipe = refl
-  needed_after listen = ap (needed listen) (no_defaults (leaf listen).rules (map row_for uses) refl)
+  needed_after listen = ap (needed listen) (listen_defaults (map row_for uses)) ∙ flag_given (codes "drivers") refl (codes "port") (map row_for uses) refl
   needed_after steps = refl
   needed_after load = ap (needed load) (no_defaults (leaf load).rules (map row_for uses) refl)
 

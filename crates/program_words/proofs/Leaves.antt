@@ -12,8 +12,8 @@ use Rattle.clap.specs.ValueTests.{accepts}
 use Rattle.program_words.specs.Numbers.{number_in}
 use Rattle.program_words.specs.Options as options
 use Rattle.program_words.specs.Options.{top_shape, up_to}
-use Rattle.program_words.specs.Spelled.{Called, Name, has_option, is_in_form, text_of}
-use Rattle.program_words.specs.Spelled.{pipe, listen, steps, load, user, password, bare, port, workers, rounds, transfers}
+use Rattle.program_words.specs.Spelled.{Called, Name, has_flag, has_option, is_in_form, text_of}
+use Rattle.program_words.specs.Spelled.{pipe, listen, steps, load, user, password, bare, drivers, port, workers, rounds, transfers}
 use Rattle.program_words.proofs.Plain.{InForm, by_test, numeral_test, test_means, test_of}
 use Rattle.program_words.proofs.Ranges.{number_in_range}
 use Rattle.program_words.proofs.Steps.{HasFlag, HasOption, HasPlace}
@@ -33,6 +33,7 @@ abbrev pub rule : Name → Rule
 rule user = filled options.user_rule
 rule password = filled options.password_rule
 rule bare = filled options.bare_rule
+rule drivers = filled options.drivers_rule
 rule port = filled options.port_rule
 rule workers = filled options.workers_rule
 rule rounds = filled options.rounds_rule
@@ -72,6 +73,7 @@ option_of pipe password e = record {
   uses = λ value rows. refl;
 }
 option_of pipe bare e = absurd (true≢false (sym e))
+option_of pipe drivers e = absurd (true≢false (sym e))
 option_of pipe port e = absurd (true≢false (sym e))
 option_of pipe workers e = absurd (true≢false (sym e))
 option_of pipe rounds e = absurd (true≢false (sym e))
@@ -103,6 +105,7 @@ option_of listen password e = record {
   uses = λ value rows. refl;
 }
 option_of listen bare e = absurd (true≢false (sym e))
+option_of listen drivers e = absurd (true≢false (sym e))
 option_of listen port e = record {
   no_dashes = refl;
   alone = refl;
@@ -146,6 +149,7 @@ option_of listen transfers e = absurd (true≢false (sym e))
 option_of steps user e = absurd (true≢false (sym e))
 option_of steps password e = absurd (true≢false (sym e))
 option_of steps bare e = absurd (true≢false (sym e))
+option_of steps drivers e = absurd (true≢false (sym e))
 option_of steps port e = absurd (true≢false (sym e))
 option_of steps workers e = absurd (true≢false (sym e))
 option_of steps rounds e = absurd (true≢false (sym e))
@@ -153,6 +157,7 @@ option_of steps transfers e = absurd (true≢false (sym e))
 option_of load user e = absurd (true≢false (sym e))
 option_of load password e = absurd (true≢false (sym e))
 option_of load bare e = absurd (true≢false (sym e))
+option_of load drivers e = absurd (true≢false (sym e))
 option_of load port e = absurd (true≢false (sym e))
 option_of load workers e = record {
   no_dashes = refl;
@@ -170,8 +175,10 @@ option_of load workers e = record {
 option_of load rounds e = absurd (true≢false (sym e))
 option_of load transfers e = absurd (true≢false (sym e))
 
-pub bare_of_pipe : HasFlag (leaf pipe).rules (text_of bare) (rule bare)
-bare_of_pipe = record {
+pub flag_of : (called : Called) (name : Name) → has_flag called name ≡ true → HasFlag (leaf called).rules (text_of name) (rule name)
+flag_of pipe user e = absurd (true≢false (sym e))
+flag_of pipe password e = absurd (true≢false (sym e))
+flag_of pipe bare e = record {
   no_dashes = refl;
   alone = refl;
   by_long = refl;
@@ -179,6 +186,49 @@ bare_of_pipe = record {
   passes = λ rows. refl;
   uses = λ rows. refl;
 }
+flag_of pipe drivers e = record {
+  no_dashes = refl;
+  alone = refl;
+  by_long = refl;
+  takes = refl;
+  passes = λ rows. refl;
+  uses = λ rows. refl;
+}
+flag_of pipe port e = absurd (true≢false (sym e))
+flag_of pipe workers e = absurd (true≢false (sym e))
+flag_of pipe rounds e = absurd (true≢false (sym e))
+flag_of pipe transfers e = absurd (true≢false (sym e))
+flag_of listen user e = absurd (true≢false (sym e))
+flag_of listen password e = absurd (true≢false (sym e))
+flag_of listen bare e = absurd (true≢false (sym e))
+flag_of listen drivers e = record {
+  no_dashes = refl;
+  alone = refl;
+  by_long = refl;
+  takes = refl;
+  passes = λ rows. refl;
+  uses = λ rows. refl;
+}
+flag_of listen port e = absurd (true≢false (sym e))
+flag_of listen workers e = absurd (true≢false (sym e))
+flag_of listen rounds e = absurd (true≢false (sym e))
+flag_of listen transfers e = absurd (true≢false (sym e))
+flag_of steps user e = absurd (true≢false (sym e))
+flag_of steps password e = absurd (true≢false (sym e))
+flag_of steps bare e = absurd (true≢false (sym e))
+flag_of steps drivers e = absurd (true≢false (sym e))
+flag_of steps port e = absurd (true≢false (sym e))
+flag_of steps workers e = absurd (true≢false (sym e))
+flag_of steps rounds e = absurd (true≢false (sym e))
+flag_of steps transfers e = absurd (true≢false (sym e))
+flag_of load user e = absurd (true≢false (sym e))
+flag_of load password e = absurd (true≢false (sym e))
+flag_of load bare e = absurd (true≢false (sym e))
+flag_of load drivers e = absurd (true≢false (sym e))
+flag_of load port e = absurd (true≢false (sym e))
+flag_of load workers e = absurd (true≢false (sym e))
+flag_of load rounds e = absurd (true≢false (sym e))
+flag_of load transfers e = absurd (true≢false (sym e))
 
 pub transfers_of_load : HasPlace (leaf load).rules (rule transfers)
 transfers_of_load = record {
@@ -224,12 +274,14 @@ number_passes most text small given = go (test_of most text) refl
 -- it is no flag
 abbrev pub has_value : Name → Bool
 has_value bare = false
+has_value drivers = false
 has_value name = true
 
 pub value_passes_in : (name : Name) (value : Text) → is_in_form name value ≡ true → has_value name ≡ true → value_passes (rule name) value ≡ true
 value_passes_in user value e v = refl
 value_passes_in password value e v = refl
 value_passes_in bare value e v = absurd (true≢false (sym v))
+value_passes_in drivers value e v = absurd (true≢false (sym v))
 value_passes_in port value e v = number_passes 65535 value (omega arith) e
 value_passes_in workers value e v = number_passes 64 value (omega arith) e
 value_passes_in rounds value e v = number_passes 1000000000 value (omega arith) e

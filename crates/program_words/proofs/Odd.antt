@@ -16,11 +16,11 @@ use Rattle.program_words.specs.Numbers.{is_plain_number, number_in}
 use Rattle.program_words.specs.Options.{program, up_to}
 use Rattle.program_words.specs.Asked.{HasOddNumber, Values, asked, asked_of, command_in, listen_in, load_in, named, number_or, port_in, rounds_in, transfers_in, values_of, workers_in}
 use Rattle.program_words.specs.Spelled.{Called, Name, call, text_of}
-use Rattle.program_words.specs.Spelled.{pipe, listen, steps, load, user, password, port, workers, rounds, transfers}
+use Rattle.program_words.specs.Spelled.{pipe, listen, steps, load, user, password, drivers, port, workers, rounds, transfers}
 use Rattle.program_words.proofs.Plain.{by_test, numeral_is, numeral_no_plus, test_of}
 use Rattle.program_words.proofs.Ranges.{none≢some}
 use Rattle.program_words.proofs.Leaves.{leaf, no_override, no_minus, rule}
-use Rattle.program_words.proofs.Values.{Each, Keeps, Pass, level_keeps, request_keeps, set_keeps, value_fits, value_there}
+use Rattle.program_words.proofs.Values.{Each, Keeps, Pass, level_keeps, request_keeps, set_keeps, set_true_keeps, value_fits, value_there}
 
 -- `--help`, as it is built
 abbrev help : Rule
@@ -50,7 +50,7 @@ odd_number most text taken none = go (is_plain_number text) refl
 keeps_listen : Each (Keeps (leaf listen).rules) (leaf listen).rules
 keeps_listen =
     let c = (leaf listen).rules in
-    (set_keeps c (rule port) refl refl refl, (set_keeps c (rule workers) refl refl refl, (set_keeps c (rule rounds) refl refl refl, (set_keeps c (rule user) refl refl refl, (set_keeps c (rule password) refl refl refl, (request_keeps c help refl, tt))))))
+    (set_keeps c (rule port) refl refl refl, (set_keeps c (rule workers) refl refl refl, (set_keeps c (rule rounds) refl refl refl, (set_keeps c (rule user) refl refl refl, (set_keeps c (rule password) refl refl refl, (set_true_keeps c (rule drivers) refl refl refl refl, (request_keeps c help refl, tt)))))))
 
 keeps_load : Each (Keeps (leaf load).rules) (leaf load).rules
 keeps_load =
@@ -59,7 +59,7 @@ keeps_load =
 
 module _ (words : List Text) where
   listen_passes : level_passes (leaf listen) [] nothing_held words false ≡ true → Pass (leaf listen).rules (rows_after (leaf listen).rules [] words)
-  listen_passes = level_keeps (leaf listen) (no_override listen) keeps_listen words (refl, (refl, (refl, (refl, (refl, (refl, tt))))))
+  listen_passes = level_keeps (leaf listen) (no_override listen) keeps_listen words (refl, (refl, (refl, (refl, (refl, (refl, (refl, tt)))))))
 
   load_passes : level_passes (leaf load) [] nothing_held words false ≡ true → Pass (leaf load).rules (rows_after (leaf load).rules [] words)
   load_passes = level_keeps (leaf load) (no_override load) keeps_load words (refl, (refl, (refl, tt)))

@@ -18,8 +18,8 @@ use Rattle.program_words.proofs.Odd.{odd_number_found}
 pub matches_answer : (words : List Text) (found : Option (Text × List Row)) (r : Result ProgramCommand WordsFault) → found ≡ subcommand_of program (named words)
     → faults_of words ≡ [] → Reads (asked_of found) r → Answers words r
 matches_answer words found (Ok (commands.Show text)) is none reads = absurd reads
-matches_answer words found (Ok (commands.Pipe user password bare)) is none reads = (none, sym (ap asked_of is) ∙ reads)
-matches_answer words found (Ok (commands.Listen port workers rounds user password)) is none reads = (none, sym (ap asked_of is) ∙ reads)
+matches_answer words found (Ok (commands.Pipe user password bare drivers)) is none reads = (none, sym (ap asked_of is) ∙ reads)
+matches_answer words found (Ok (commands.Listen port workers rounds user password drivers)) is none reads = (none, sym (ap asked_of is) ∙ reads)
 matches_answer words found (Ok commands.Steps) is none reads = (none, sym (ap asked_of is) ∙ reads)
 matches_answer words found (Ok (commands.Load transfers workers)) is none reads = (none, sym (ap asked_of is) ∙ reads)
 matches_answer words found (Err faults.Refused) is none reads = (inr (none, sym (ap asked_of is) ∙ reads), go (takes program (named words)) refl)
@@ -58,8 +58,8 @@ error_answers words kind (Ok (commands.Show text)) passes has answers =
     among asks (inl memory) = absurd (not_memory memory)
     among (inl help) (inr is) = inl (subst (λ k. IsAmong k (faults_of words)) help is)
     among (inr version) (inr is) = inr (subst (λ k. IsAmong k (faults_of words)) version is)
-error_answers words kind (Ok (commands.Pipe user password bare)) passes has answers = absurd answers
-error_answers words kind (Ok (commands.Listen port workers rounds user password)) passes has answers = absurd answers
+error_answers words kind (Ok (commands.Pipe user password bare drivers)) passes has answers = absurd answers
+error_answers words kind (Ok (commands.Listen port workers rounds user password drivers)) passes has answers = absurd answers
 error_answers words kind (Ok commands.Steps) passes has answers = absurd answers
 error_answers words kind (Ok (commands.Load transfers workers)) passes has answers = absurd answers
 error_answers words kind (Err faults.Refused) passes has answers = (inl (kind, among has, answers.1), inl (no_memory words kind passes answers.0))

@@ -122,8 +122,8 @@ asked_in_range (Some found) c e =
 
 pub read_in_range : (found : Option (Text × List Row)) (r : Result ProgramCommand WordsFault) → Reads (asked_of found) r → IfOk r IsInRange
 read_in_range found (Ok (commands.Show text)) reads = absurd reads
-read_in_range found (Ok (commands.Pipe user password bare)) reads = tt
-read_in_range found (Ok (commands.Listen port workers rounds user password)) reads = asked_in_range found (commands.Listen port workers rounds user password) reads
+read_in_range found (Ok (commands.Pipe user password bare drivers)) reads = tt
+read_in_range found (Ok (commands.Listen port workers rounds user password drivers)) reads = asked_in_range found (commands.Listen port workers rounds user password drivers) reads
 read_in_range found (Ok commands.Steps) reads = tt
 read_in_range found (Ok (commands.Load transfers workers)) reads = asked_in_range found (commands.Load transfers workers) reads
 read_in_range found (Err fault) reads = tt

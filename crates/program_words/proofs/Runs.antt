@@ -7,10 +7,10 @@ use Rattle.clap.specs.Walk.{Row, Rule, Text, Walk, arg_by_id, has_row, reading_b
 use Rattle.clap.specs.Simple.{Shape}
 use Rattle.clap.specs.Takes.{settle_passes, use_passes, value_passes, walk_passes}
 use Rattle.clap.proofs.WalkLemmas.{both}
-use Rattle.program_words.specs.Spelled.{Called, Name, Use, all_written, apart, are_distinct, flag, has_name, has_option, joined, may_stand, name_of, placed, stands_alone, text_of, value_of, written}
-use Rattle.program_words.specs.Spelled.{pipe, listen, steps, load, user, password, bare, port, workers, rounds, transfers}
+use Rattle.program_words.specs.Spelled.{Called, Name, Use, all_written, apart, are_distinct, flag, has_flag, has_name, has_option, joined, may_stand, name_of, placed, stands_alone, text_of, value_of, written}
+use Rattle.program_words.specs.Spelled.{pipe, listen, steps, load, user, password, bare, drivers, port, workers, rounds, transfers}
 use Rattle.program_words.proofs.Steps.{Goes, apart_goes, flag_goes, held, joined_goes, new_row, place_goes, plain_word, row, state}
-use Rattle.program_words.proofs.Leaves.{bare_of_pipe, has_value, leaf, no_override, option_of, rule, transfers_of_load, value_passes_in}
+use Rattle.program_words.proofs.Leaves.{flag_of, has_value, leaf, no_override, option_of, rule, transfers_of_load, value_passes_in}
 
 -- what stands between two things that are given: what waits passes, and makes these rows
 pub record IsReady (s : Shape) (rows : List Row) (pending : Option (Text × List Text)) (total : List Row) : Type 0 where
@@ -112,24 +112,25 @@ module _ (called : Called) (rows : List Row) (pending : Option (Text × List Tex
         place = still_first q total (row a.id (reading_by a) value) place;
       }
 
-module _ (rows : List Row) (pending : Option (Text × List Text)) (q : ℕ) (total : List Row) where
-  flag_step : IsReady (leaf pipe) rows pending total → IsFirstPlace q total → has_row (text_of bare) total ≡ false
-      → Reaches (leaf pipe) (state rows pending q) (written (flag bare)) (total ++ row_for (flag bare) ∷ [])
-  flag_step ready place new =
-      let has = bare_of_pipe in
-      let a = rule bare in
-      let makes : total ++ row_for (flag bare) ∷ [] ≡ used a [] total = sym (has.uses total ∙ new_row a.id (reading_by a) (codes "true") total new) in
+  flag_step : (name : Name) → has_flag called name ≡ true → has_row (rule name).id total ≡ false
+      → Reaches (leaf called) (state rows pending q) (written (flag name)) (total ++ row (rule name).id (reading_by (rule name)) (codes "true") ∷ [])
+  flag_step name is new =
+      let has = flag_of called name is in
+      let a = rule name in
+      let made = row a.id (reading_by a) (codes "true") in
+      let makes : total ++ made ∷ [] ≡ used a [] total = sym (has.uses total ∙ new_row a.id (reading_by a) (codes "true") total new) in
       let passes : use_passes false a [] total ≡ true = has.passes total ∙ rw new refl in
       record {
-        rows = used a [] (settled_rows (leaf pipe).rules pending rows);
+        rows = used a [] (settled_rows (leaf called).rules pending rows);
         pending = None;
         position = q;
-        goes = flag_goes (leaf pipe) (no_override pipe) (text_of bare) a has rows pending q ready.settles
+        goes = flag_goes (leaf called) (no_override called) (text_of name) a has rows pending q ready.settles
             (subst (λ rs. use_passes false a [] rs ≡ true) (sym ready.are) passes);
-        ready = subst (λ rs. IsReady (leaf pipe) (used a [] rs) None (total ++ row_for (flag bare) ∷ [])) (sym ready.are) (record { settles = refl; are = sym makes });
-        place = still_first q total (row_for (flag bare)) place;
+        ready = subst (λ rs. IsReady (leaf called) (used a [] rs) None (total ++ made ∷ [])) (sym ready.are) (record { settles = refl; are = sym makes });
+        place = still_first q total made place;
       }
 
+module _ (rows : List Row) (pending : Option (Text × List Text)) (q : ℕ) (total : List Row) where
   place_step : (value : Text) → IsReady (leaf load) rows pending total → IsFirstPlace q total → stands_alone value ≡ true → value_passes (rule transfers) value ≡ true
       → has_row (text_of transfers) total ≡ false
       → Reaches (leaf load) (state rows pending q) (written (placed transfers value)) (total ++ row_for (placed transfers value) ∷ [])
@@ -160,6 +161,7 @@ id_of : (name : Name) → (rule name).id ≡ text_of name
 id_of user = refl
 id_of password = refl
 id_of bare = refl
+id_of drivers = refl
 id_of port = refl
 id_of workers = refl
 id_of rounds = refl
@@ -172,6 +174,10 @@ option_has_value pipe bare e = e
 option_has_value listen bare e = e
 option_has_value steps bare e = e
 option_has_value load bare e = e
+option_has_value pipe drivers e = e
+option_has_value listen drivers e = e
+option_has_value steps drivers e = e
+option_has_value load drivers e = e
 option_has_value called port e = refl
 option_has_value called workers e = refl
 option_has_value called rounds e = refl
@@ -193,37 +199,14 @@ step called (joined name value) rows pending q total may ready place new =
     let new_id : has_row (rule name).id total ≡ false = subst (λ i. has_row i total ≡ false) (sym (id_of name)) new in
     subst (λ i. Reaches (leaf called) (state rows pending q) (written (joined name value)) (total ++ row i (reading_by (rule name)) value ∷ [])) (id_of name)
     (joined_step called rows pending q total ready place name value outer.0 fits new_id)
-step pipe (flag user) rows pending q total may ready place new = absurd (true≢false (sym may))
-step pipe (flag password) rows pending q total may ready place new = absurd (true≢false (sym may))
-step pipe (flag bare) rows pending q total may ready place new = flag_step rows pending q total ready place new
-step pipe (flag port) rows pending q total may ready place new = absurd (true≢false (sym may))
-step pipe (flag workers) rows pending q total may ready place new = absurd (true≢false (sym may))
-step pipe (flag rounds) rows pending q total may ready place new = absurd (true≢false (sym may))
-step pipe (flag transfers) rows pending q total may ready place new = absurd (true≢false (sym may))
-step listen (flag user) rows pending q total may ready place new = absurd (true≢false (sym may))
-step listen (flag password) rows pending q total may ready place new = absurd (true≢false (sym may))
-step listen (flag bare) rows pending q total may ready place new = absurd (true≢false (sym may))
-step listen (flag port) rows pending q total may ready place new = absurd (true≢false (sym may))
-step listen (flag workers) rows pending q total may ready place new = absurd (true≢false (sym may))
-step listen (flag rounds) rows pending q total may ready place new = absurd (true≢false (sym may))
-step listen (flag transfers) rows pending q total may ready place new = absurd (true≢false (sym may))
-step steps (flag user) rows pending q total may ready place new = absurd (true≢false (sym may))
-step steps (flag password) rows pending q total may ready place new = absurd (true≢false (sym may))
-step steps (flag bare) rows pending q total may ready place new = absurd (true≢false (sym may))
-step steps (flag port) rows pending q total may ready place new = absurd (true≢false (sym may))
-step steps (flag workers) rows pending q total may ready place new = absurd (true≢false (sym may))
-step steps (flag rounds) rows pending q total may ready place new = absurd (true≢false (sym may))
-step steps (flag transfers) rows pending q total may ready place new = absurd (true≢false (sym may))
-step load (flag user) rows pending q total may ready place new = absurd (true≢false (sym may))
-step load (flag password) rows pending q total may ready place new = absurd (true≢false (sym may))
-step load (flag bare) rows pending q total may ready place new = absurd (true≢false (sym may))
-step load (flag port) rows pending q total may ready place new = absurd (true≢false (sym may))
-step load (flag workers) rows pending q total may ready place new = absurd (true≢false (sym may))
-step load (flag rounds) rows pending q total may ready place new = absurd (true≢false (sym may))
-step load (flag transfers) rows pending q total may ready place new = absurd (true≢false (sym may))
+step called (flag name) rows pending q total may ready place new =
+    let new_id : has_row (rule name).id total ≡ false = subst (λ i. has_row i total ≡ false) (sym (id_of name)) new in
+    subst (λ i. Reaches (leaf called) (state rows pending q) (written (flag name)) (total ++ row i (reading_by (rule name)) (codes "true") ∷ [])) (id_of name)
+    (flag_step called rows pending q total ready place name may new_id)
 step pipe (placed user value) rows pending q total may ready place new = absurd (true≢false (sym may))
 step pipe (placed password value) rows pending q total may ready place new = absurd (true≢false (sym may))
 step pipe (placed bare value) rows pending q total may ready place new = absurd (true≢false (sym may))
+step pipe (placed drivers value) rows pending q total may ready place new = absurd (true≢false (sym may))
 step pipe (placed port value) rows pending q total may ready place new = absurd (true≢false (sym may))
 step pipe (placed workers value) rows pending q total may ready place new = absurd (true≢false (sym may))
 step pipe (placed rounds value) rows pending q total may ready place new = absurd (true≢false (sym may))
@@ -231,6 +214,7 @@ step pipe (placed transfers value) rows pending q total may ready place new = ab
 step listen (placed user value) rows pending q total may ready place new = absurd (true≢false (sym may))
 step listen (placed password value) rows pending q total may ready place new = absurd (true≢false (sym may))
 step listen (placed bare value) rows pending q total may ready place new = absurd (true≢false (sym may))
+step listen (placed drivers value) rows pending q total may ready place new = absurd (true≢false (sym may))
 step listen (placed port value) rows pending q total may ready place new = absurd (true≢false (sym may))
 step listen (placed workers value) rows pending q total may ready place new = absurd (true≢false (sym may))
 step listen (placed rounds value) rows pending q total may ready place new = absurd (true≢false (sym may))
@@ -238,6 +222,7 @@ step listen (placed transfers value) rows pending q total may ready place new = 
 step steps (placed user value) rows pending q total may ready place new = absurd (true≢false (sym may))
 step steps (placed password value) rows pending q total may ready place new = absurd (true≢false (sym may))
 step steps (placed bare value) rows pending q total may ready place new = absurd (true≢false (sym may))
+step steps (placed drivers value) rows pending q total may ready place new = absurd (true≢false (sym may))
 step steps (placed port value) rows pending q total may ready place new = absurd (true≢false (sym may))
 step steps (placed workers value) rows pending q total may ready place new = absurd (true≢false (sym may))
 step steps (placed rounds value) rows pending q total may ready place new = absurd (true≢false (sym may))
@@ -245,6 +230,7 @@ step steps (placed transfers value) rows pending q total may ready place new = a
 step load (placed user value) rows pending q total may ready place new = absurd (true≢false (sym may))
 step load (placed password value) rows pending q total may ready place new = absurd (true≢false (sym may))
 step load (placed bare value) rows pending q total may ready place new = absurd (true≢false (sym may))
+step load (placed drivers value) rows pending q total may ready place new = absurd (true≢false (sym may))
 step load (placed port value) rows pending q total may ready place new = absurd (true≢false (sym may))
 step load (placed workers value) rows pending q total may ready place new = absurd (true≢false (sym may))
 step load (placed rounds value) rows pending q total may ready place new = absurd (true≢false (sym may))
@@ -270,6 +256,7 @@ same_both : (a b : Name) → bytes_eq (text_of a) (text_of b) ≡ bytes_eq (text
 same_both user user = refl
 same_both user password = refl
 same_both user bare = refl
+same_both user drivers = refl
 same_both user port = refl
 same_both user workers = refl
 same_both user rounds = refl
@@ -277,6 +264,7 @@ same_both user transfers = refl
 same_both password user = refl
 same_both password password = refl
 same_both password bare = refl
+same_both password drivers = refl
 same_both password port = refl
 same_both password workers = refl
 same_both password rounds = refl
@@ -284,13 +272,23 @@ same_both password transfers = refl
 same_both bare user = refl
 same_both bare password = refl
 same_both bare bare = refl
+same_both bare drivers = refl
 same_both bare port = refl
 same_both bare workers = refl
 same_both bare rounds = refl
 same_both bare transfers = refl
+same_both drivers user = refl
+same_both drivers password = refl
+same_both drivers bare = refl
+same_both drivers drivers = refl
+same_both drivers port = refl
+same_both drivers workers = refl
+same_both drivers rounds = refl
+same_both drivers transfers = refl
 same_both port user = refl
 same_both port password = refl
 same_both port bare = refl
+same_both port drivers = refl
 same_both port port = refl
 same_both port workers = refl
 same_both port rounds = refl
@@ -298,6 +296,7 @@ same_both port transfers = refl
 same_both workers user = refl
 same_both workers password = refl
 same_both workers bare = refl
+same_both workers drivers = refl
 same_both workers port = refl
 same_both workers workers = refl
 same_both workers rounds = refl
@@ -305,6 +304,7 @@ same_both workers transfers = refl
 same_both rounds user = refl
 same_both rounds password = refl
 same_both rounds bare = refl
+same_both rounds drivers = refl
 same_both rounds port = refl
 same_both rounds workers = refl
 same_both rounds rounds = refl
@@ -312,6 +312,7 @@ same_both rounds transfers = refl
 same_both transfers user = refl
 same_both transfers password = refl
 same_both transfers bare = refl
+same_both transfers drivers = refl
 same_both transfers port = refl
 same_both transfers workers = refl
 same_both transfers rounds = refl

@@ -1,20 +1,20 @@
 -- Where the walk of `clap` passes, the first value of each row passes the parser of its option.
-use Rattle.std.proofs.Common.{◌≡◌, ◌∙◌, ◌&&◌, ◌||◌, ◌<◌, ℕ, zero, suc, Bool, cond, not, true, false, refl, sym, ap, subst, arith, List, [], ◌∷◌, ◌++◌, length, Option, Some, None, true≢false, nat_le}
+use Rattle.std.proofs.Common.{◌≡◌, ◌∙◌, ◌&&◌, ◌||◌, ◌<◌, ◌≤◌, ℕ, zero, suc, Bool, cond, not, true, false, refl, sym, ap, subst, arith, List, [], ◌∷◌, ◌++◌, length, Option, Some, None, codes, true≢false, nat_le}
 use Rattle.std.specs.Prelude.{⊤, drop, encode_utf8, find, option_and_then, slice_get}
 use Rattle.std.specs.List.{fold, list_all}
 use Rattle.std.specs.Option.{is_some, option_map_or}
 use Rattle.std.specs.Str.{bytes_eq, chars}
 use Rattle.clap.specs.Lexer.{long_of, short_of}
 use Rattle.std.proofs.lemmas.Slice.Eq.{bytes_eq-Decides}
-use Rattle.std.proofs.lemmas.Bool.{ne_eqb}
+use Rattle.std.proofs.lemmas.Bool.{leb-true, ne_eqb}
 use Rattle.clap.specs.Facts.{explicit_source, unwrap_or_range}
 use Rattle.clap.specs.Values.{is_request}
-use Rattle.clap.specs.Walk.{Held, Outcome, Row, Rule, Step, Text, Waiting, Walk, action_of, after_flag, arg_by_id, arg_by_index, arg_by_long, arg_by_short, at_row, attached_value, bundle, bundle_met, bundle_step, after_step, default_rows, flag_met, pushed, subcommand_met, subcommand_or_other, walked_from, done, has_row, idle, is_empty, first_of, nothing_held, rows_after, walk, walk_from, is_pending, long_met, long_or_other, more_values, next, option, option_met, option_word, plain, plain_word, positional, reacted, reading_by, refused, settled, settled_rows, short_met, short_or_plain, subcommand, takes_several, takes_values, to_positional, trailing, used, used_by_id, value, waits, walked, with_default, with_values, without, word_met}
+use Rattle.clap.specs.Walk.{Held, Outcome, Row, Rule, Step, Text, Waiting, Walk, action_of, after_flag, arg_by_id, arg_by_index, arg_by_long, arg_by_short, at_row, attached_value, bundle, bundle_met, bundle_step, after_step, default_rows, flag_met, pushed, subcommand_met, subcommand_or_other, walked_from, done, has_row, idle, is_empty, first_of, nothing_held, rows_after, walk, walk_from, is_pending, long_met, long_or_other, more_values, most_values, next, option, option_met, option_word, plain, plain_word, positional, reacted, reading_by, refused, settled, settled_rows, short_met, short_or_plain, subcommand, takes_several, takes_values, to_positional, trailing, used, used_by_id, value, waits, walked, with_default, with_values, without, word_met}
 use Rattle.clap.specs.Simple.{Shape}
 use Rattle.clap.specs.Takes.{bundle_passes, bundle_step_passes, other_passes, default_passes, flag_word_passes, flags_pass, is_given, level_passes, long_passes, option_passes, positional_passes, react_passes, settle_passes, short_passes, step_passes, turn_passes, use_passes, value_passes, values_pass, walk_passes, word_passes}
 use Rattle.clap.specs.declared.parser.matches.ValueSource.{ValueSource}
 use Rattle.clap.specs.declared.parser.matches.ValueSource.TheVariants.{CommandLine, DefaultValue}
-use Rattle.clap.specs.declared.builder.action.ArgAction.TheVariants.{Set, Help}
+use Rattle.clap.specs.declared.builder.action.ArgAction.TheVariants.{Set, SetTrue, Help}
 use Rattle.clap.proofs.WalkLemmas.{both}
 
 -- each element
@@ -78,6 +78,13 @@ module _ (c : List Rule) where
   a_value a [] some e = absurd (omega (arith, some))
   a_value a (v ∷ vs) some e = (v, vs, refl, (both (value_passes a v) _ e).0)
 
+  -- a use with values that pass the parser
+  kept : (a : Rule) (v : Text) (vs : List Text) (rows : List Row) → arg_by_id c a.id ≡ Some a → ((not (has_row a.id rows) || false) && values_pass a (v ∷ vs)) ≡ true → Pass c rows
+      → Pass c (with_values a.id (reading_by a) CommandLine (v ∷ vs) (without a.id rows))
+  kept a v vs rows by_id passes all =
+      let value_is = (both (value_passes a v) _ (both (not (has_row a.id rows) || false) _ passes).1).0 in
+      with_passes a CommandLine v vs (without a.id rows) by_id value_is (without_passes a.id rows all)
+
   -- an option with a value
   pub set_keeps : (a : Rule) → arg_by_id c a.id ≡ Some a → action_of a ≡ Set → (unwrap_or_range a.range).start_inclusive ≡ 1 → Keeps a
   set_keeps a by_id action least [] rows fits all =
@@ -87,9 +94,22 @@ module _ (c : List Rule) where
       let outer = (both (nat_le (unwrap_or_range a.range).start_inclusive (length (v ∷ vs))) _ fits).1 in
       let inner = (both (nat_le (length (v ∷ vs)) _) _ outer).1 in
       let passes : ((not (has_row a.id rows) || false) && values_pass a (v ∷ vs)) ≡ true = rw action at inner in
-      let value_is = (both (value_passes a v) _ (both (not (has_row a.id rows) || false) _ passes).1).0 in
       let made : used a (v ∷ vs) rows ≡ with_values a.id (reading_by a) CommandLine (v ∷ vs) (without a.id rows) = rw action refl in
-      subst (Pass c) (sym made) (with_passes a CommandLine v vs (without a.id rows) by_id value_is (without_passes a.id rows all))
+      subst (Pass c) (sym made) (kept a v vs rows by_id passes all)
+
+  -- a flag, which has none
+  pub set_true_keeps : (a : Rule) → arg_by_id c a.id ≡ Some a → action_of a ≡ SetTrue → a.missing ≡ codes "true" ∷ [] → most_values a ≡ 0 → Keeps a
+  set_true_keeps a by_id action missing none [] rows fits all =
+      let outer = (both (nat_le (unwrap_or_range a.range).start_inclusive 0) _ fits).1 in
+      let inner = (both (nat_le 0 (most_values a)) _ outer).1 in
+      let passes : ((not (has_row a.id rows) || false) && values_pass a (codes "true" ∷ [])) ≡ true = rw (action, missing) at inner in
+      let made : used a [] rows ≡ with_values a.id (reading_by a) CommandLine (codes "true" ∷ []) (without a.id rows) = rw (action, missing) refl in
+      subst (Pass c) (sym made) (kept a (codes "true") [] rows by_id passes all)
+  set_true_keeps a by_id action missing none (v ∷ vs) rows fits all =
+      let outer = (both (nat_le (unwrap_or_range a.range).start_inclusive (length (v ∷ vs))) _ fits).1 in
+      let bad : nat_le (length (v ∷ vs)) 0 ≡ true = subst (λ n. nat_le (length (v ∷ vs)) n ≡ true) none (both (nat_le (length (v ∷ vs)) (most_values a)) _ outer).0 in
+      let few : length (v ∷ vs) ≤ 0 = leb-true (length (v ∷ vs)) 0 bad in
+      absurd (let no : ⊥ = omega (arith, few) in no)
 
   -- a request is no use
   pub request_keeps : (a : Rule) → action_of a ≡ Help → Keeps a

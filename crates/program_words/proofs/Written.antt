@@ -108,8 +108,8 @@ spelled_read words c r answers s = go r answers (spelled_taken words c s) (spell
 
     go : (r : Result ProgramCommand WordsFault) → Answers words r → takes program (named words) ≡ true → asked words ≡ Some c → (r ≡ Ok c) ⊎ (r ≡ Err faults.Memory)
     go (Ok (commands.Show text)) shown takes_it asks = absurd (true≢false (sym takes_it ∙ shown.0))
-    go (Ok (commands.Pipe user password bare)) is takes_it asks = inl (this (commands.Pipe user password bare) is.1 asks)
-    go (Ok (commands.Listen port workers rounds user password)) is takes_it asks = inl (this (commands.Listen port workers rounds user password) is.1 asks)
+    go (Ok (commands.Pipe user password bare drivers)) is takes_it asks = inl (this (commands.Pipe user password bare drivers) is.1 asks)
+    go (Ok (commands.Listen port workers rounds user password drivers)) is takes_it asks = inl (this (commands.Listen port workers rounds user password drivers) is.1 asks)
     go (Ok commands.Steps) is takes_it asks = inl (this commands.Steps is.1 asks)
     go (Ok (commands.Load transfers workers)) is takes_it asks = inl (this (commands.Load transfers workers) is.1 asks)
     go (Err faults.Refused) (amiss, inl refused) takes_it asks = absurd (true≢false (sym takes_it ∙ refused))

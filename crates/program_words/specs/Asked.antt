@@ -58,13 +58,16 @@ transfers_in values = number_or None 10000 (values (codes "transfers"))
 abbrev pub rounds_in : Values → Option (Option ℕ)
 rounds_in values = option_map_or (λ text. option_map (λ n. Some n) (number_in 1000000000 text)) (values (codes "rounds")) (Some None)
 
+abbrev pub drivers_in : Values → Bool
+drivers_in values = is_on (values (codes "drivers"))
+
 abbrev pub pipe_in : Values → ProgramCommand
-pipe_in values = commands.Pipe (user_in values) (password_in values) (is_on (values (codes "bare")))
+pipe_in values = commands.Pipe (user_in values) (password_in values) (is_on (values (codes "bare"))) (drivers_in values)
 
 abbrev pub listen_in : Values → Option ProgramCommand
 listen_in values =
     option_and_then (λ port. option_and_then (λ workers. option_map (λ rounds.
-    commands.Listen port workers rounds (user_in values) (password_in values))
+    commands.Listen port workers rounds (user_in values) (password_in values) (drivers_in values))
     (rounds_in values)) (workers_in values)) (port_in values)
 
 abbrev pub load_in : Values → Option ProgramCommand
@@ -141,7 +144,7 @@ Answers words (Err faults.Memory) = ⊤
 
 -- the numbers of a command are in their ranges
 abbrev pub IsInRange : ProgramCommand → Type 0
-IsInRange (commands.Listen port workers rounds user password) =
+IsInRange (commands.Listen port workers rounds user password drivers) =
     (1 ≤ port) × (port ≤ 65535) × (1 ≤ workers) × (workers ≤ 64) × IfSome rounds (λ n. (1 ≤ n) × (n ≤ 1000000000))
 IsInRange (commands.Load transfers workers) = (1 ≤ transfers) × (transfers ≤ 10000) × (1 ≤ workers) × (workers ≤ 64)
 IsInRange command = ⊤

@@ -13,6 +13,10 @@ use Rattle.clap.specs.declared.builder.value_parser.ValueParser.TheVariants.{Sig
 abbrev pub text_rule : Text → Rule
 text_rule name = record (new_rule name) { long = Some name; value_names = 1 }
 
+-- `--name`, which has no value
+abbrev pub flag_rule : Text → Rule
+flag_rule name = record (new_rule name) { long = Some name; action = Some SetTrue }
+
 -- a number from 1 to `most`; clap also takes it with a sign and with leading zeros
 abbrev pub up_to : ℕ → ValueParser
 up_to most = Signed (pos 1) (pos most)
@@ -24,7 +28,10 @@ abbrev pub password_rule : Rule
 password_rule = text_rule (codes "password")
 
 abbrev pub bare_rule : Rule
-bare_rule = record (new_rule (codes "bare")) { long = Some (codes "bare"); action = Some SetTrue }
+bare_rule = flag_rule (codes "bare")
+
+abbrev pub drivers_rule : Rule
+drivers_rule = flag_rule (codes "drivers")
 
 abbrev pub port_rule : Rule
 port_rule = record (text_rule (codes "port")) { required = true; parser = Some (up_to 65535) }
@@ -45,10 +52,10 @@ abbrev pub with_rules : Text → List Rule → App
 with_rules name rules = record { top = record (new_shape name) { rules = rules }; subs = [] }
 
 abbrev pub pipe : App
-pipe = with_rules (codes "pipe") (user_rule ∷ password_rule ∷ bare_rule ∷ [])
+pipe = with_rules (codes "pipe") (user_rule ∷ password_rule ∷ bare_rule ∷ drivers_rule ∷ [])
 
 abbrev pub listen : App
-listen = with_rules (codes "listen") (port_rule ∷ workers_rule ∷ rounds_rule ∷ user_rule ∷ password_rule ∷ [])
+listen = with_rules (codes "listen") (port_rule ∷ workers_rule ∷ rounds_rule ∷ user_rule ∷ password_rule ∷ drivers_rule ∷ [])
 
 abbrev pub steps : App
 steps = new_app (codes "steps")

@@ -27,6 +27,7 @@ pub data Name : Type 0 where
   user : Name
   password : Name
   bare : Name
+  drivers : Name
   port : Name
   workers : Name
   rounds : Name
@@ -36,6 +37,7 @@ abbrev pub text_of : Name → Text
 text_of user = codes "user"
 text_of password = codes "password"
 text_of bare = codes "bare"
+text_of drivers = codes "drivers"
 text_of port = codes "port"
 text_of workers = codes "workers"
 text_of rounds = codes "rounds"
@@ -101,11 +103,18 @@ has_option listen password = true
 has_option load workers = true
 has_option called name = false
 
+-- the flags that it has
+abbrev pub has_flag : Called → Name → Bool
+has_flag pipe bare = true
+has_flag pipe drivers = true
+has_flag listen drivers = true
+has_flag called name = false
+
 -- what may stand behind a command's name
 abbrev pub may_stand : Called → Use → Bool
 may_stand called (apart name value) = has_option called name && (stands_alone value && is_in_form name value)
 may_stand called (joined name value) = has_option called name && is_in_form name value
-may_stand pipe (flag bare) = true
+may_stand called (flag name) = has_flag called name
 may_stand load (placed transfers value) = stands_alone value && is_in_form transfers value
 may_stand called given = false
 

@@ -13,6 +13,8 @@ pub enum ProgramCommand {
         password: Units,
         /// Whether the client is logged in from the beginning.
         bare: bool,
+        /// Whether what drivers send is served.
+        drivers: bool,
     },
     /// To serve connections on a port of this machine.
     Listen {
@@ -26,6 +28,8 @@ pub enum ProgramCommand {
         user: Units,
         /// That user's password.
         password: Units,
+        /// Whether what drivers send is served.
+        drivers: bool,
     },
     /// To answer a script of engine steps.
     Steps,

@@ -3,7 +3,7 @@
 ghost use Rattle.std.specs.Prelude.{◌≡◌, IfOk, false};
 ghost use Rattle.clap.specs.Words.{app_of, rule_of};
 ghost use Rattle.clap.specs.declared.builder.command.Command.TheViews.{out-Command as fields_of};
-ghost use Rattle.program_words.specs.Options.{program, pipe, listen, steps, load, text_rule, bare_rule, port_rule, rounds_rule, transfers_rule, user_rule, password_rule, workers_rule};
+ghost use Rattle.program_words.specs.Options.{program, pipe, listen, steps, load, text_rule, flag_rule, bare_rule, drivers_rule, port_rule, rounds_rule, transfers_rule, user_rule, password_rule, workers_rule};
 
 use clap::{Arg, ArgAction, Command, value_parser};
 use std::alloc::{AllocError, Global};
@@ -44,7 +44,8 @@ fn pipe<'a>(alloc: Global) -> Result<Command<'a>, AllocError>
         .about("Serves one connection on standard input and output")
         .arg(user(alloc))?
         .arg(password(alloc))?
-        .arg(bare(alloc))
+        .arg(bare(alloc))?
+        .arg(drivers(alloc))
 }
 
 /// `listen`, with its options.
@@ -58,7 +59,8 @@ fn listen<'a>(alloc: Global) -> Result<Command<'a>, AllocError>
         .arg(workers(alloc))?
         .arg(rounds(alloc))?
         .arg(user(alloc))?
-        .arg(password(alloc))
+        .arg(password(alloc))?
+        .arg(drivers(alloc))
 }
 
 /// `steps`.
@@ -85,10 +87,15 @@ fn bare<'a>(alloc: Global) -> Arg<'a>
     ensures rule { rule_of result ≡ bare_rule }
     ensures local { result.global ≡ false }
 {
-    Arg::new(alloc, "bare")
-        .long("bare")
-        .action(ArgAction::SetTrue)
-        .help("The client is logged in from the beginning")
+    flag(alloc, "bare", "The client is logged in from the beginning")
+}
+
+/// `--drivers`.
+fn drivers<'a>(alloc: Global) -> Arg<'a>
+    ensures rule { rule_of result ≡ drivers_rule }
+    ensures local { result.global ≡ false }
+{
+    flag(alloc, "drivers", "What drivers send is served, too")
 }
 
 /// `--port`.
@@ -161,6 +168,17 @@ fn password<'a>(alloc: Global) -> Arg<'a>
         "PASSWORD",
         "That user's password [default: A]",
     )
+}
+
+/// `--name`, which has no value.
+fn flag<'a>(alloc: Global, name: &'a str, help: &'a str) -> Arg<'a>
+    ensures rule { rule_of result ≡ flag_rule name.now }
+    ensures local { result.global ≡ false }
+{
+    Arg::new(alloc, name)
+        .long(name)
+        .action(ArgAction::SetTrue)
+        .help(help)
 }
 
 /// `--name`, which has one value.

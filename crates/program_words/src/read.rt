@@ -6,7 +6,7 @@ ghost use Rattle.clap.specs.Words.{found_of, rows_of, subcommand_rows_of, kind_o
 ghost use Rattle.clap.specs.Walk.{texts};
 ghost use Rattle.program_words.specs.declared.command.ProgramCommand.{ProgramCommand};
 ghost use Rattle.program_words.specs.Spelled.{Spells};
-ghost use Rattle.program_words.specs.Asked.{asked_of, pipe_in, listen_in, load_in, number_or, text_or, user_in, password_in, rounds_in, values_of, Reads, Finds, Answers, AnswersError, IsInRange};
+ghost use Rattle.program_words.specs.Asked.{asked_of, is_on, pipe_in, listen_in, load_in, number_or, text_or, user_in, password_in, rounds_in, values_of, Reads, Finds, Answers, AnswersError, IsInRange};
 
 use crate::command::ProgramCommand;
 use crate::fault::WordsFault;
@@ -72,14 +72,11 @@ fn command_of(alloc: Global, matches: &ArgMatches<'_>) -> Result<ProgramCommand,
 fn pipe(alloc: Global, options: &ArgMatches<'_>) -> Result<ProgramCommand, WordsFault>
     ensures { Reads (Some (pipe_in (values_of (rows_of (found_of options.now))))) result }
 {
-    let bare = match value(options, "bare") {
-        Some(text) => text == "true",
-        None => false,
-    };
     Ok(ProgramCommand::Pipe {
         user: user(alloc, options)?,
         password: password(alloc, options)?,
-        bare,
+        bare: is_on(options, "bare"),
+        drivers: is_on(options, "drivers"),
     })
 }
 
@@ -96,6 +93,7 @@ fn listen(alloc: Global, options: &ArgMatches<'_>) -> Result<ProgramCommand, Wor
         rounds,
         user: user(alloc, options)?,
         password: password(alloc, options)?,
+        drivers: is_on(options, "drivers"),
     })
 }
 
@@ -118,6 +116,16 @@ fn rounds(options: &ArgMatches<'_>) -> Result<Option<u32>, WordsFault>
             None => Err(WordsFault::Refused),
         },
         None => Ok(None),
+    }
+}
+
+/// Whether a flag is given.
+fn is_on(options: &ArgMatches<'_>, id: &str) -> bool
+    ensures { result ≡ is_on (values_of (rows_of (found_of options.now)) id.now) }
+{
+    match value(options, id) {
+        Some(text) => text == "true",
+        None => false,
     }
 }
 

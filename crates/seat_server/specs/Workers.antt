@@ -8,7 +8,7 @@ use Rattle.outside_io.specs.Doors.{IsUntouched, count_on}
 use Rattle.shared_port.specs.Asked.{EngineSeat}
 use Rattle.session_server.specs.Conversation.{CountsFault}
 use Rattle.session_server.specs.declared.end.End.{End}
-use Rattle.session_server.specs.declared.end.End.TheVariants.{Closed, Cut, BadHeader, TooLong, OutOfPlace, BadPrelogin, LoginRefused, BadBatch, BadRpc, Spent, ReadFault, WriteFault, Memory}
+use Rattle.session_server.specs.declared.end.End.TheVariants.{Closed, Cut, BadHeader, TooLong, OutOfPlace, BadPrelogin, LoginRefused, BadBatch, BadRpc, BadTransaction, Spent, ReadFault, WriteFault, Memory}
 use Rattle.seat_server.specs.declared.tally.Tally.{Tally}
 use Rattle.seat_server.specs.Served.{Course, Follow, ServedConnection}
 
@@ -41,6 +41,7 @@ is_memory (BadHeader at) = false
 is_memory (TooLong at) = false
 is_memory (OutOfPlace at kind) = false
 is_memory (BadRpc at why) = false
+is_memory (BadTransaction at why) = false
 is_memory (BadPrelogin fault) = false
 is_memory (LoginRefused number) = false
 is_memory (BadBatch fault) = false

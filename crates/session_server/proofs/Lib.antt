@@ -1,6 +1,7 @@
 pub mod Ended
 pub mod Handled
 pub mod Lined
+pub mod Once
 pub mod Refusals
 pub mod Served
 pub mod Sizes

@@ -44,7 +44,7 @@ pub record Served {S : Type 0} (config : Config) (left given : S → Option (Lis
   pub stands : (walk_of config messages).stands ≡ Ok state
   pub counted : count ≡ length bytes
 
-pub nothing_served : {S : Type 0} (config : Config) (left given : S → Option (List ℕ)) (source : S) (past : PortPast) (sink : Option (List ℕ)) (spid : ℕ) {progress : SessionProgress} → progress ≡ first_progress → Served config left given source source past past sink sink spid 0 (first_state config.entry) progress
+pub nothing_served : {S : Type 0} (config : Config) (left given : S → Option (List ℕ)) (source : S) (past : PortPast) (sink : Option (List ℕ)) (spid : ℕ) {progress : SessionProgress} → progress ≡ first_progress → Served config left given source source past past sink sink spid 0 (first_state config) progress
 unfolding Joins walk_of talk_of
 nothing_served config left given source past sink spid same = record {
   bytes = [];
@@ -149,16 +149,16 @@ module _ {S : Type 0} {config : Config} {left given : S → Option (List ℕ)} {
   -- a message that has a response
   answered : (message : Message) (handling : Handling) → handle config state message ≡ handling → HasResponse handling → IsAnswered config (served.messages ++ message ∷ [])
   answered message (responds response to) is has = inl (ap (λ w. is_ok w.stands) (walk_with message) ∙ ap (λ h. is_ok (next_of h)) is)
-  answered message (runs size text) is has = inl (ap (λ w. is_ok w.stands) (walk_with message) ∙ ap (λ h. is_ok (next_of h)) is)
-  answered message (calls size call) is has = inl (ap (λ w. is_ok w.stands) (walk_with message) ∙ ap (λ h. is_ok (next_of h)) is)
+  answered message (runs connected text) is has = inl (ap (λ w. is_ok w.stands) (walk_with message) ∙ ap (λ h. is_ok (next_of h)) is)
+  answered message (calls connected call) is has = inl (ap (λ w. is_ok w.stands) (walk_with message) ∙ ap (λ h. is_ok (next_of h)) is)
   answered message (refuses response number) is has = inr (number, ends_at message (LoginRefused number) (ap next_of is))
   answered message (ends end) is has = absurd has
 
   -- one for which memory may be wanting
   wanted : (message : Message) (handling : Handling) → handle config state message ≡ handling → MayWant handling → IsUnmade config (served.messages ++ message ∷ [])
   wanted message (responds response to) is may = inl (answered message (responds response to) is tt)
-  wanted message (runs size text) is may = inl (answered message (runs size text) is tt)
-  wanted message (calls size call) is may = inl (answered message (calls size call) is tt)
+  wanted message (runs connected text) is may = inl (answered message (runs connected text) is tt)
+  wanted message (calls connected call) is may = inl (answered message (calls connected call) is tt)
   wanted message (refuses response number) is may = inl (answered message (refuses response number) is tt)
   wanted message (ends (why.BadRpc at kind)) is may = inr (at, kind, ends_at message (why.BadRpc at kind) (ap next_of is))
   wanted message (ends why.Closed) is may = absurd may
@@ -169,6 +169,7 @@ module _ {S : Type 0} {config : Config} {left given : S → Option (List ℕ)} {
   wanted message (ends (why.BadPrelogin fault)) is may = absurd may
   wanted message (ends (why.LoginRefused number)) is may = absurd may
   wanted message (ends (why.BadBatch fault)) is may = absurd may
+  wanted message (ends (why.BadTransaction at kind)) is may = absurd may
   wanted message (ends why.Spent) is may = absurd may
   wanted message (ends why.ReadFault) is may = absurd may
   wanted message (ends why.WriteFault) is may = absurd may

@@ -9,7 +9,7 @@ use Rattle.tds_login.specs.declared.config.Entry.TheVariants as entries
 use Rattle.tds_login.specs.declared.login.Login.{Login}
 use Rattle.tds_login.specs.Verdict.{judge_login, has_credentials, is_known, size_for, login_failed, unknown_database}
 use Rattle.session_server.specs.Parts.{IsSized}
-use Rattle.session_server.specs.Talk.{first_state}
+use Rattle.session_server.specs.Talk.{first_in, first_state}
 
 -- a granted size is one that packets may have
 size_for_is : (asked : ℕ) → IsPacketSize (size_for asked)
@@ -30,6 +30,9 @@ judged_size login config size is = by_test (has_credentials login config) (is_kn
     by_test false known is = absurd (let no : ⊥ = cc in no)
 
 -- where a connection begins, its size is one that packets may have
-pub first_sized : (entry : Entry) → IsSized (first_state entry)
-first_sized entries.Login = tt
-first_sized entries.Bare = (omega arith, omega arith)
+pub first_sized : (config : Config) → IsSized (first_state config)
+first_sized config = by_entry config.entry
+  where
+    by_entry : (entry : Entry) → IsSized (first_in config entry)
+    by_entry entries.Login = tt
+    by_entry entries.Bare = (omega arith, omega arith)

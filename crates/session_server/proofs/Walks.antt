@@ -60,8 +60,8 @@ talk_with_request requests request = fold-append with_request (over []) requests
 -- a message that has a response
 pub handled_more : (handled : List Handling) (handling : Handling) → HasResponse handling → with_handling handled handling ≡ handled ++ handling ∷ []
 handled_more handled (responds response next) has = refl
-handled_more handled (runs size text) has = refl
-handled_more handled (calls size call) has = refl
+handled_more handled (runs connected text) has = refl
+handled_more handled (calls connected call) has = refl
 handled_more handled (refuses response number) has = refl
 handled_more handled (ends end) has = absurd has
 

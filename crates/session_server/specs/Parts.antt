@@ -1,8 +1,15 @@
 -- Own: what the private parts of a connection give. No public clause cites this file.
-use Rattle.std.specs.Prelude.{◌≡◌, ◌⊎◌, ℕ, ◌+◌, IfOk, List, [], ◌∷◌, ◌++◌, length, Option, Result, Ok, Err}
+use Rattle.std.specs.Prelude.{◌≡◌, ◌⊎◌, ℕ, ◌+◌, Bool, true, false, IfOk, List, [], ◌∷◌, ◌++◌, length, Option, Result, Ok, Err}
 use Rattle.value_types.specs.declared.memory.Memory.{Memory}
+use Rattle.rpc_requests.specs.declared.fault.RpcKind.{RpcKind}
+use Rattle.rpc_requests.specs.declared.fault.RpcKind.TheVariants as rpc_kind
+use Rattle.transaction_requests.specs.declared.fault.TransactionKind.{TransactionKind}
+use Rattle.transaction_requests.specs.declared.fault.TransactionKind.TheVariants as transaction_kind
 use Rattle.tds_packets.specs.Header.{tabular_result}
 use Rattle.tds_packets.specs.Packets.{Packets, IsPacketSize, IsPartSent}
+use Rattle.tds_tokens.specs.declared.token.DoneKind.TheVariants.{Done}
+use Rattle.tds_tokens.specs.declared.token.Token.{Token}
+use Rattle.tds_tokens.specs.declared.token.Token.TheVariants.{Finished}
 use Rattle.step_model.specs.Exchange.{Exchange}
 use Rattle.step_model.specs.Port.{PortPast, GoesOn}
 use Rattle.session_server.specs.declared.message.Handling.{Handling as MadeHandling}
@@ -29,13 +36,28 @@ use Rattle.tds_packets.specs.Reading.{StopsBy}
 
 -- the packets that are sent in a state have a size that packets may have; before the login it is a fixed one
 abbrev pub IsSized : ServerState → Type 0
-IsSized (LoggedIn size) = IsPacketSize size
+IsSized (LoggedIn connected) = IsPacketSize connected.packet_size
 IsSized state = Unit {0}
 
 -- the packets that were prepared are the bytes of the response to a session of this SPID
 pub record Bears (spid : ℕ) (response : Response) (prepared : PreparedResponse) : Type 0 where
   pub bytes : Packets tabular_result prepared.channel.spid prepared.channel.packet_size prepared.payload.items ≡ response_bytes spid response
   pub sized : IsPacketSize prepared.channel.packet_size
+
+-- a call, or a transaction manager request, of which something is not served
+abbrev pub is_unserved_call : RpcKind → Bool
+is_unserved_call rpc_kind.Headers = false
+is_unserved_call rpc_kind.Cut = false
+is_unserved_call kind = true
+
+abbrev pub is_unserved_request : TransactionKind → Bool
+is_unserved_request transaction_kind.Headers = false
+is_unserved_request transaction_kind.Cut = false
+is_unserved_request kind = true
+
+-- a DONE
+abbrev pub IsDone : Token → Type 0
+IsDone token = (status command rows : ℕ) × (token ≡ Finished Done status command rows)
 
 -- something is answered
 abbrev pub HasResponse : Handling → Type 0

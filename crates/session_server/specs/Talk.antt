@@ -3,7 +3,7 @@
 -- leads, the message says alone; what is done for one that runs a batch or a call is said of what its
 -- text reads as. Responses depend on what the port answers, so the talk is what a session does; the code
 -- handles one message after another.
-use Rattle.std.specs.Prelude.{◌≡◌, ℕ, ℤ, pos, All, map, ◌-◌, ◌%◌, ◌==◌, ◌||◌, nat_lt, if◌then◌else◌, List, [], ◌∷◌, ◌++◌, fold, length, drop, Option, None, Some, Result, Ok, Err}
+use Rattle.std.specs.Prelude.{◌≡◌, ℕ, ℤ, pos, All, map, ◌-◌, ◌%◌, ◌==◌, ◌&&◌, ◌||◌, true, nat_lt, if◌then◌else◌, List, [], ◌∷◌, ◌++◌, fold, length, drop, Option, None, Some, Result, Ok, Err}
 use Rattle.std.specs.List.{flat_map}
 use Rattle.byteorder.specs.Endian.{little_number}
 use Rattle.value_types.specs.Units.{units_of}
@@ -11,9 +11,17 @@ use Rattle.tds_packets.specs.declared.message.Message.{Message}
 use Rattle.rpc_requests.specs.declared.call.RpcCall.{RpcCall}
 use Rattle.rpc_requests.specs.declared.fault.RpcFault.{RpcFault}
 use Rattle.rpc_requests.specs.declared.fault.RpcFault.TheVariants as rpc_fault
+use Rattle.rpc_requests.specs.declared.fault.RpcKind.{RpcKind}
+use Rattle.rpc_requests.specs.declared.fault.RpcKind.TheVariants as rpc_kind
 use Rattle.rpc_requests.specs.Reading.{rpc_of}
-use Rattle.tds_packets.specs.Header.{sql_batch, rpc as rpc_request, tabular_result, attention, login7, prelogin}
+use Rattle.transaction_requests.specs.declared.fault.TransactionFault.{TransactionFault}
+use Rattle.transaction_requests.specs.declared.fault.TransactionFault.TheVariants as transaction_fault
+use Rattle.transaction_requests.specs.declared.fault.TransactionKind.{TransactionKind}
+use Rattle.transaction_requests.specs.declared.fault.TransactionKind.TheVariants as transaction_kind
+use Rattle.transaction_requests.specs.Text.{managed}
+use Rattle.tds_packets.specs.Header.{sql_batch, rpc as rpc_request, tabular_result, attention, transaction_manager, login7, prelogin}
 use Rattle.tds_packets.specs.Packets.{Packets, default_size}
+use Rattle.tds_tokens.specs.declared.token.Token.{Token}
 use Rattle.tds_tokens.specs.Spelling.{TokenBytes}
 use Rattle.tds_login.specs.declared.config.Config.{Config}
 use Rattle.tds_login.specs.declared.config.Entry.{Entry}
@@ -28,7 +36,8 @@ use Rattle.tds_login.specs.Verdict.{judge_login, login_reply}
 use Rattle.session_server.specs.declared.end.BatchFault.{BatchFault}
 use Rattle.session_server.specs.declared.end.BatchFault.TheVariants.{HeadersShort, HeadersTotal, OddText}
 use Rattle.session_server.specs.declared.end.End.{End}
-use Rattle.session_server.specs.declared.end.End.TheVariants.{OutOfPlace, BadPrelogin, LoginRefused, BadBatch, BadRpc, Memory}
+use Rattle.session_server.specs.declared.end.End.TheVariants.{OutOfPlace, BadPrelogin, LoginRefused, BadBatch, BadRpc, BadTransaction, Memory}
+use Rattle.session_server.specs.declared.message.Connected.{Connected}
 use Rattle.session_server.specs.declared.message.ServerState.{ServerState}
 use Rattle.session_server.specs.declared.message.ServerState.TheVariants.{Initial, LoginReady, LoggedIn}
 use Rattle.batch_meaning.specs.declared.form.ReadText.{ReadText}
@@ -36,31 +45,39 @@ use Rattle.batch_meaning.specs.declared.form.ReadText.TheVariants.{Statements}
 use Rattle.batch_meaning.specs.Statements.{ReadsAs}
 use Rattle.batch_meaning.specs.Doing.{Doing, over, reads, never, ◌then◌}
 use Rattle.batch_meaning.specs.Meaning.{batch}
+use Rattle.batch_meaning.specs.Tokens.{batch_done, rpc_done}
 use Rattle.batch_meaning.specs.Rpc.{ReadsCallAs, rpc}
-use Rattle.session_server.specs.Response.{Response, options, tabular, attention_tokens, refusal_tokens}
+use Rattle.session_server.specs.Response.{Response, options, tabular, attention_tokens, refusal_tokens, call_unserved, request_unserved, unserved, ended_once}
 
 -- ---- one message
 
+-- what a connection is, once it is logged in with packets of a size
+abbrev pub connected_with : Config → ℕ → Connected
+connected_with config size = record { packet_size = size; drivers = config.drivers }
+
 -- where a connection begins: before a login, or logged in
-abbrev pub first_state : Entry → ServerState
-first_state Login = Initial
-first_state Bare = LoggedIn default_size
+abbrev pub first_in : Config → Entry → ServerState
+first_in config Login = Initial
+first_in config Bare = LoggedIn (connected_with config default_size)
+
+abbrev pub first_state : Config → ServerState
+first_state config = first_in config config.entry
 
 -- How a message is handled: by a response, behind which the connection goes on in a state; by running the
--- batch of a text, or a call, with tokens in packets of a size; by a response that refuses the login with an error's
+-- batch of a text, or a call, on a connection that is logged in so; by a response that refuses the login with an error's
 -- number, and ends the connection; or by its end alone.
 pub data Handling : Type 0 where
   responds : Response → ServerState → Handling
-  runs : ℕ → List ℕ → Handling
-  calls : ℕ → RpcCall → Handling
+  runs : Connected → List ℕ → Handling
+  calls : Connected → RpcCall → Handling
   refuses : Response → ℤ → Handling
   ends : End → Handling
 
 -- where the connection stands behind a message that is handled so, or its end
 abbrev pub next_of : Handling → Result ServerState End
 next_of (responds response next) = Ok next
-next_of (runs size text) = Ok (LoggedIn size)
-next_of (calls size call) = Ok (LoggedIn size)
+next_of (runs connected text) = Ok (LoggedIn connected)
+next_of (calls connected call) = Ok (LoggedIn connected)
 next_of (refuses response number) = Err (LoginRefused number)
 next_of (ends end) = Err end
 
@@ -76,19 +93,23 @@ abbrev pub refuse : ℤ → Handling
 refuse number = refuses (tabular default_size (refusal_tokens number)) number
 
 -- a login is granted with a packet size, which counts from the next message on
-abbrev pub handle_verdict : Result ℕ ℤ → Handling
-handle_verdict (Ok size) = responds (tabular default_size (login_reply size)) (LoggedIn size)
-handle_verdict (Err number) = refuse number
+abbrev pub handle_verdict : Config → Result ℕ ℤ → Handling
+handle_verdict config (Ok size) = responds (tabular default_size (login_reply size)) (LoggedIn (connected_with config size))
+handle_verdict config (Err number) = refuse number
 
 -- the number of the error where a LOGIN7 can't be read (own)
 abbrev pub unreadable_login : ℤ
 unreadable_login = pos 49010
 
 abbrev pub handle_login : Config → Result LoginRecord LoginFault → Handling
-handle_login config (Ok login) = handle_verdict (judge_login login config)
+handle_login config (Ok login) = handle_verdict config (judge_login login config)
 handle_login config (Err fault) = refuse unreadable_login
 
--- ---- batches, calls and attentions
+-- ---- batches, calls, attentions and transaction manager requests
+
+-- by tokens for which nothing is asked
+abbrev pub tells : Connected → List Token → Handling
+tells connected tokens = responds (tabular connected.packet_size tokens) (LoggedIn connected)
 
 -- the length of ALL_HEADERS, which counts itself ([MS-TDS] 2.2.5.3)
 abbrev pub headers_length : List ℕ → ℕ
@@ -106,21 +127,48 @@ batch_fault payload =
 abbrev pub text_of : List ℕ → List ℕ
 text_of payload = units_of (drop (headers_length payload) payload)
 
-abbrev pub handle_batch : ℕ → List ℕ → Option BatchFault → Handling
-handle_batch size payload None = runs size (text_of payload)
-handle_batch size payload (Some fault) = ends (BadBatch fault)
+abbrev pub handle_batch : Connected → List ℕ → Option BatchFault → Handling
+handle_batch connected payload None = runs connected (text_of payload)
+handle_batch connected payload (Some fault) = ends (BadBatch fault)
 
--- a call is run, or the first field that is refused ends the connection
-abbrev pub handle_rpc : ℕ → Result RpcCall RpcFault → Handling
-handle_rpc size (Ok call) = calls size call
-handle_rpc size (Err (rpc_fault.Bad at kind)) = ends (BadRpc at kind)
-handle_rpc size (Err rpc_fault.Memory) = ends Memory
+-- where drivers are served (own): what is no call at all ends the connection, and what is not served of one is refused
+abbrev pub refuse_call : Connected → ℕ → RpcKind → Handling
+refuse_call connected at rpc_kind.Headers = ends (BadRpc at rpc_kind.Headers)
+refuse_call connected at rpc_kind.Cut = ends (BadRpc at rpc_kind.Cut)
+refuse_call connected at kind = tells connected (unserved call_unserved at (rpc_done true))
+
+-- a call is run; elsewhere the first field that is refused ends the connection
+abbrev pub handle_rpc : Connected → Result RpcCall RpcFault → Handling
+handle_rpc connected (Ok call) = calls connected call
+handle_rpc connected (Err (rpc_fault.Bad at kind)) = if connected.drivers then refuse_call connected at kind else ends (BadRpc at kind)
+handle_rpc connected (Err rpc_fault.Memory) = ends Memory
 
 -- an attention is acknowledged
-abbrev pub handle_attention : ℕ → Handling
-handle_attention size = responds (tabular size attention_tokens) (LoggedIn size)
+abbrev pub handle_attention : Connected → Handling
+handle_attention connected = tells connected attention_tokens
+
+-- what is no request at all ends the connection, and what is not served of one is refused (own)
+abbrev pub refuse_request : Connected → ℕ → TransactionKind → Handling
+refuse_request connected at transaction_kind.Headers = ends (BadTransaction at transaction_kind.Headers)
+refuse_request connected at transaction_kind.Cut = ends (BadTransaction at transaction_kind.Cut)
+refuse_request connected at kind = tells connected (unserved request_unserved at (batch_done true))
+
+-- a transaction manager request is the batch of its text
+abbrev pub handle_request : Connected → Result (List ℕ) TransactionFault → Handling
+handle_request connected (Ok text) = runs connected text
+handle_request connected (Err (transaction_fault.Bad at kind)) = refuse_request connected at kind
+handle_request connected (Err transaction_fault.Memory) = ends Memory
 
 -- ---- all kinds of messages
+
+-- on a connection that is logged in
+abbrev pub handle_logged : Connected → Message → Handling
+handle_logged connected message =
+    if message.kind == sql_batch then handle_batch connected message.payload (batch_fault message.payload)
+    else if message.kind == rpc_request then handle_rpc connected (rpc_of message.payload)
+    else if message.kind == attention then handle_attention connected
+    else if message.kind == transaction_manager && connected.drivers then handle_request connected (managed message.payload)
+    else ends (OutOfPlace message.at message.kind)
 
 -- By the type of its packets ([MS-TDS] 2.2.3.1.1). A message of another type, or of one that has no place
 -- there, ends the connection.
@@ -132,11 +180,7 @@ handle config Initial message =
 handle config LoginReady message =
     if message.kind == login7 then handle_login config (login_of message.payload)
     else ends (OutOfPlace message.at message.kind)
-handle config (LoggedIn size) message =
-    if message.kind == sql_batch then handle_batch size message.payload (batch_fault message.payload)
-    else if message.kind == rpc_request then handle_rpc size (rpc_of message.payload)
-    else if message.kind == attention then handle_attention size
-    else ends (OutOfPlace message.at message.kind)
+handle config (LoggedIn connected) message = handle_logged connected message
 
 -- ---- all messages
 
@@ -147,7 +191,7 @@ pub record Walk : Type 0 where
   pub stands : Result ServerState End
 
 abbrev pub first_walk : Config → Walk
-first_walk config = record { handled = []; stands = Ok (first_state config.entry) }
+first_walk config = record { handled = []; stands = Ok (first_state config) }
 
 -- one that ends the connection by itself has none
 abbrev pub with_handling : List Handling → Handling → List Handling
@@ -179,8 +223,8 @@ pub record Request : Type 0 where
 
 -- where there is no text it is a batch of no statements
 abbrev pub IsReadAs : Handling → ReadText → Type 0
-IsReadAs (runs size text) read_as = ReadsAs text read_as
-IsReadAs (calls size call) read_as = ReadsCallAs call read_as
+IsReadAs (runs connected text) read_as = ReadsAs text read_as
+IsReadAs (calls connected call) read_as = ReadsCallAs call read_as
 IsReadAs handling read_as = read_as ≡ Statements []
 
 abbrev pub IsRequest : Request → Type 0
@@ -194,19 +238,23 @@ pub record AreRequests (handled : List Handling) (requests : List Request) : Typ
   pub handlings : map handling_in requests ≡ handled
   pub are : All IsRequest requests
 
--- the batch that a text is read as, its tokens in packets of this size
-unfoldable pub batch_response : ℕ → ReadText → Doing Response
-batch_response size read_as = batch read_as then λ _. reads λ p. over (tabular size p.tokens)
+-- the tokens of a batch; where drivers are served it has one DONE at its end
+abbrev pub batch_tokens : Connected → List Token → List Token
+batch_tokens connected tokens = if connected.drivers then ended_once tokens else tokens
+
+-- the batch that a text is read as, its tokens in packets
+unfoldable pub batch_response : Connected → ReadText → Doing Response
+batch_response connected read_as = batch read_as then λ _. reads λ p. over (tabular connected.packet_size (batch_tokens connected p.tokens))
 
 -- so that of a call
-unfoldable pub rpc_response : ℕ → RpcCall → ReadText → Doing Response
-rpc_response size call read_as = rpc call read_as then λ _. reads λ p. over (tabular size p.tokens)
+unfoldable pub rpc_response : Connected → RpcCall → ReadText → Doing Response
+rpc_response connected call read_as = rpc call read_as then λ _. reads λ p. over (tabular connected.packet_size p.tokens)
 
 -- the response to a message that is handled so, and whose text is read so
 abbrev pub response_to : Handling → ReadText → Doing Response
 response_to (responds response next) read_as = over response
-response_to (runs size text) read_as = batch_response size read_as
-response_to (calls size call) read_as = rpc_response size call read_as
+response_to (runs connected text) read_as = batch_response connected read_as
+response_to (calls connected call) read_as = rpc_response connected call read_as
 response_to (refuses response number) read_as = over response
 response_to (ends end) read_as = never
 

@@ -7,6 +7,7 @@ ghost use Rattle.session_server.specs.declared.end.End.TheVariants.{Memory};
 use rpc_requests::RpcKind;
 use tds_login::PreloginFault;
 use tds_packets::{MessageFault, SendFault};
+use transaction_requests::TransactionKind;
 use value_types::Memory as NoMemory;
 
 /// What is wrong with the payload of a batch ([MS-TDS] 2.2.5.3).
@@ -69,6 +70,13 @@ pub enum End {
         at: u32,
         /// What is wrong with it.
         kind: RpcKind,
+    },
+    /// The payload of a transaction manager request can't be read.
+    BadTransaction {
+        /// Where the first field that is refused begins in the payload, in bytes from 0.
+        at: u32,
+        /// What is wrong with it.
+        kind: TransactionKind,
     },
     /// A byte was wanted after 2^40 bytes were read.
     Spent,

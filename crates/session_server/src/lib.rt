@@ -7,9 +7,12 @@
 //! is not said to be wanting where there is enough.
 #![tactic(auto)]
 
+mod batches;
+mod calls;
 mod end;
 mod message;
 mod prepared;
+mod requests;
 mod response;
 mod serving;
 

@@ -7,7 +7,9 @@ ghost use Rattle.tds_packets.specs.Header.{tabular_result};
 ghost use Rattle.tds_packets.specs.Packets.{Packets, IsPartSent, IsPacketSize};
 ghost use Rattle.tds_tokens.specs.Spelling.{TokenBytes};
 ghost use Rattle.tds_tokens.specs.Fit.{FitTokens};
+ghost use Rattle.session_server.specs.Response.{ended_once};
 
+use crate::response::ended_once;
 use outside_io::Line;
 use std::alloc::Global;
 use tds_packets::{SendFault, TABULAR_RESULT, send_message};
@@ -45,6 +47,25 @@ impl PreparedResponse {
     {
         let mut payload = Vec::new(alloc);
         write_tokens(tokens, &mut payload)?;
+        Ok(PreparedResponse { channel, payload })
+    }
+
+    /// The tokens of a batch in packets of this channel, with one DONE at their end.
+    pub(crate) fn of_batch(
+        alloc: Global,
+        channel: Channel,
+        tokens: &[Token],
+    ) -> Result<PreparedResponse, Memory>
+        requires fit { FitTokens [] tokens.now }
+        ensures channel { IfOk result (λ prepared. prepared.channel ≡ channel) }
+        ensures payload { IfOk result (λ prepared. prepared.payload.items ≡ TokenBytes (ended_once tokens.now)) }
+    {
+        let Some((front, done)) = ended_once(tokens) else {
+            return PreparedResponse::of_tokens(alloc, channel, tokens);
+        };
+        let mut payload = Vec::new(alloc);
+        write_tokens(front, &mut payload)?;
+        write_tokens(&[done], &mut payload)?;
         Ok(PreparedResponse { channel, payload })
     }
 

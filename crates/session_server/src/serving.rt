@@ -87,7 +87,7 @@ fn serve_messages<P: Port, L: Line>(
     ensures writes_counted { L.Sink.faults line.old ≤ L.Sink.faults line.new }
     ensures held { L.held line.new ≡ L.held line.old }
 {
-    let mut state = ServerState::first(config.entry);
+    let mut state = ServerState::first(config);
     let mut reader = Reader::new();
     loop {
         match serve_message(alloc, config, spid, session, port, &mut reader, state, line) {

@@ -54,6 +54,7 @@ fn serve_over(alloc: Global, line: &mut Joined<MemorySource, MemorySink>) -> Res
         user: units_of_str(alloc, "sa")?,
         password: units_of_str(alloc, "A")?,
         entry: Entry::Login,
+        drivers: false,
     };
     let mut port = SoloPort::new(alloc, 1);
     Ok(serve_on_port(alloc, 1, &mut port, &config, line))

@@ -22,6 +22,7 @@ fn serve<P: Port>(alloc: Global, port: &mut P, input: Vec<u8>) -> (End, Vec<u8>)
         user: Units::new(alloc),
         password: Units::new(alloc),
         entry: Entry::Bare,
+        drivers: false,
     };
     let mut line = Joined {
         source: MemorySource::new(input, 4096, Vec::new(alloc)),

@@ -25,6 +25,7 @@ fn served<H: Hall, R: Threads + Wait + Sync>(
         user: Units::new(alloc),
         password: Units::new(alloc),
         entry: Entry::Bare,
+        drivers: false,
     };
     let mut house = House::open(alloc, 2)?;
     let tally = house.serve_hall(alloc, rt, workers, &config, hall, None);

@@ -15,7 +15,7 @@ use Rattle.tds_packets.proofs.PacketLaws.{one_message_sent}
 use Rattle.tds_tokens.proofs.Lengths.{length-le_bytes_of}
 use Rattle.tds_login.specs.declared.config.Config.{Config}
 use Rattle.tds_login.specs.declared.config.Entry.TheVariants.{Bare}
-use Rattle.session_server.specs.Talk.{Walk, batch_fault, first_state, handle_batch, next_of, walk_by, walk_of, with_message, first_walk}
+use Rattle.session_server.specs.Talk.{Walk, batch_fault, connected_with, first_in, handle_batch, next_of, walk_by, walk_of, with_message, first_walk}
 use Rattle.session_server.specs.Conversation.{IsUnended}
 use Rattle.transfer_load.proofs.Sent.{one_sent}
 use Rattle.transfer_load.specs.Batches.{IsShort, all_headers, batch_bytes, batch_payload, batches_bytes, batches_messages, or_text, payee, payer, transfer_text, update_text, where_text, worker_texts}
@@ -42,20 +42,20 @@ no_fault text =
     let even : (length (batch_payload text) - 22) % 2 ≡ 0 = omega arith in
     rw (le-ltb (length (batch_payload text)) 4 (omega (arith, long)), le-ltb (length (batch_payload text)) 22 (omega (arith, long)), even) refl
 
-goes_on : (config : Config) (walk : Walk) (at : ℕ) (text : List ℕ) → walk.stands ≡ Ok (first_state Bare)
-    → (with_message config walk (record { kind = sql_batch; at = at; payload = batch_payload text })).stands ≡ Ok (first_state Bare)
+goes_on : (config : Config) (walk : Walk) (at : ℕ) (text : List ℕ) → walk.stands ≡ Ok (first_in config Bare)
+    → (with_message config walk (record { kind = sql_batch; at = at; payload = batch_payload text })).stands ≡ Ok (first_in config Bare)
 goes_on config walk at text stands =
     let message : Message = record { kind = sql_batch; at = at; payload = batch_payload text } in
-    ap (λ s. (walk_by config walk s message).stands) stands ∙ ap (λ (fault : Option _). next_of (handle_batch default_size (batch_payload text) fault)) (no_fault text)
+    ap (λ s. (walk_by config walk s message).stands) stands ∙ ap (λ (fault : Option _). next_of (handle_batch (connected_with config default_size) (batch_payload text) fault)) (no_fault text)
 
-all_go_on : (config : Config) (walk : Walk) (at : ℕ) (texts : List (List ℕ)) → walk.stands ≡ Ok (first_state Bare) → (fold (with_message config) walk (batches_messages at texts)).stands ≡ Ok (first_state Bare)
+all_go_on : (config : Config) (walk : Walk) (at : ℕ) (texts : List (List ℕ)) → walk.stands ≡ Ok (first_in config Bare) → (fold (with_message config) walk (batches_messages at texts)).stands ≡ Ok (first_in config Bare)
 all_go_on config walk at [] stands = stands
 all_go_on config walk at (text ∷ texts) stands =
     all_go_on config (with_message config walk (record { kind = sql_batch; at = at; payload = batch_payload text })) (at + length (batch_bytes text)) texts (goes_on config walk at text stands)
 
 pub batches_unended : (config : Config) (texts : List (List ℕ)) → config.entry ≡ Bare → IsUnended config (batches_messages 0 texts)
 unfolding walk_of
-batches_unended config texts bare = ap is_ok (all_go_on config (first_walk config) 0 texts (ap (λ e. Ok (first_state e)) bare))
+batches_unended config texts bare = ap is_ok (all_go_on config (first_walk config) 0 texts (ap (λ e. Ok (first_in config e)) bare))
 
 -- ---- the texts of transfers are short
 

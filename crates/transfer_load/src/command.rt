@@ -81,6 +81,7 @@ fn bare_config(alloc: Global) -> Config
         user: Units::new(alloc),
         password: Units::new(alloc),
         entry: Entry::Bare,
+        drivers: false,
     }
 }
 

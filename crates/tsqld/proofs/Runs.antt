@@ -47,8 +47,8 @@ as_read words (Show text) other answers asks = absurd (elim asks.0 [
   | inl taken ↦ (let differ : true ≡ false = sym taken ∙ answers.0 in cc)
   | inr clean ↦ none_among words clean answers.1
 ])
-as_read words (Pipe user password bare) other answers asks = some_same (Pipe user password bare) other (sym answers.1 ∙ asks.1)
-as_read words (Listen port workers rounds user password) other answers asks = some_same (Listen port workers rounds user password) other (sym answers.1 ∙ asks.1)
+as_read words (Pipe user password bare drivers) other answers asks = some_same (Pipe user password bare drivers) other (sym answers.1 ∙ asks.1)
+as_read words (Listen port workers rounds user password drivers) other answers asks = some_same (Listen port workers rounds user password drivers) other (sym answers.1 ∙ asks.1)
 as_read words Steps other answers asks = some_same Steps other (sym answers.1 ∙ asks.1)
 as_read words (Load transfers workers) other answers asks = some_same (Load transfers workers) other (sym answers.1 ∙ asks.1)
 
@@ -63,8 +63,8 @@ module _ (words : List Text) (P : List ℕ → Type 0) where
 
   pub only_shown : (command : ProgramCommand) → Answers words (Ok command) → IsNoCommand words → IfText command P → (text : List ℕ) × P text × AsksForText words
   only_shown (Show text) answers other shows = (string_bytes text, shows, answers.1)
-  only_shown (Pipe user password bare) answers other shows = absurd (unread (Pipe user password bare) answers.0 answers.1 other)
-  only_shown (Listen port workers rounds user password) answers other shows = absurd (unread (Listen port workers rounds user password) answers.0 answers.1 other)
+  only_shown (Pipe user password bare drivers) answers other shows = absurd (unread (Pipe user password bare drivers) answers.0 answers.1 other)
+  only_shown (Listen port workers rounds user password drivers) answers other shows = absurd (unread (Listen port workers rounds user password drivers) answers.0 answers.1 other)
   only_shown Steps answers other shows = absurd (unread Steps answers.0 answers.1 other)
   only_shown (Load transfers workers) answers other shows = absurd (unread (Load transfers workers) answers.0 answers.1 other)
 

@@ -14,7 +14,7 @@ use Rattle.outside_io.specs.Bytes.{HasRisen}
 use Rattle.steps_command.specs.Command.{IsCutOff}
 use Rattle.steps_command.specs.Play.{Stage, first_manners}
 use Rattle.session_server.specs.declared.end.End.{End}
-use Rattle.session_server.specs.declared.end.End.TheVariants.{Closed, Cut, BadHeader, TooLong, OutOfPlace, BadPrelogin, LoginRefused, BadBatch, BadRpc, Spent, ReadFault, WriteFault, Memory}
+use Rattle.session_server.specs.declared.end.End.TheVariants.{Closed, Cut, BadHeader, TooLong, OutOfPlace, BadPrelogin, LoginRefused, BadBatch, BadRpc, BadTransaction, Spent, ReadFault, WriteFault, Memory}
 use Rattle.session_server.specs.Conversation.{IsUnended}
 use Rattle.shared_port.specs.Asked.{EngineSeat}
 use Rattle.seat_server.specs.declared.tally.Tally.{Tally}
@@ -29,13 +29,13 @@ house_seats = 64
 
 -- ---- configurations
 
--- a client logs in as this user with this password, or is logged in from the beginning
+-- a client logs in as this user with this password, or is logged in from the beginning; what drivers send is served, or not
 abbrev pub entry_of : Bool → Entry
 entry_of true = Bare
 entry_of false = Login
 
-abbrev pub config_of : List ℕ → List ℕ → Bool → Config
-config_of user password bare = record { user = user; password = password; entry = entry_of bare }
+abbrev pub config_of : List ℕ → List ℕ → Bool → Bool → Config
+config_of user password bare drivers = record { user = user; password = password; entry = entry_of bare; drivers = drivers }
 
 -- ---- what is printed
 
@@ -56,6 +56,7 @@ status_of (BadHeader at) = 5
 status_of (TooLong at) = 5
 status_of (OutOfPlace at kind) = 5
 status_of (BadRpc at why) = 5
+status_of (BadTransaction at why) = 5
 status_of (BadPrelogin fault) = 5
 status_of (LoginRefused number) = 5
 status_of (BadBatch fault) = 5

@@ -65,14 +65,14 @@ pub fn run_program<S: Source, K: Sink, H: Hall, C: Clock, R: Threads + Wait + Sy
     ensures full { IsFull house_seats house.new }
 
     // What was taken, asked, written and committed for one connection, and the status.
-    ensures pipe { (user password : List ℕ) (bare : Bool) → AsksFor (map string_bytes words.now) (ProgramCommand.Pipe user password bare)
-        → (hall.new ≡ hall.old) × (Piped (config_of user password bare) (Takes S.left S.given input.old input.new) (S.left input.new) (K.written output.old) (K.written output.new)
+    ensures pipe { (user password : List ℕ) (bare drivers : Bool) → AsksFor (map string_bytes words.now) (ProgramCommand.Pipe user password bare drivers)
+        → (hall.new ≡ hall.old) × (Piped (config_of user password bare drivers) (Takes S.left S.given input.old input.new) (S.left input.new) (K.written output.old) (K.written output.new)
         house.old.seats house.new.seats result
         ⊎ ((result ≡ 6) × (input.new ≡ input.old) × (output.new ≡ output.old) × (house.new ≡ house.old))) }
 
     // What was served of the hall's connections, and what was printed.
-    ensures listen { (port workers : ℕ) (rounds : Option ℕ) (user password : List ℕ) → AsksFor (map string_bytes words.now) (ProgramCommand.Listen port workers rounds user password)
-        → (input.new ≡ input.old) × (Listened H.Door.may_close H.Door.Line.left H.Door.Line.given H.Door.Line.Source.faults H.Door.Line.written H.Door.Line.Sink.faults (config_of user password false) workers rounds
+    ensures listen { (port workers : ℕ) (rounds : Option ℕ) (user password : List ℕ) (drivers : Bool) → AsksFor (map string_bytes words.now) (ProgramCommand.Listen port workers rounds user password drivers)
+        → (input.new ≡ input.old) × (Listened H.Door.may_close H.Door.Line.left H.Door.Line.given H.Door.Line.Source.faults H.Door.Line.written H.Door.Line.Sink.faults (config_of user password false drivers) workers rounds
         (H.told hall.old) (H.told hall.new) (numbers_of H.faults H.finished H.failed H.closed hall.old) (numbers_of H.faults H.finished H.failed H.closed hall.new)
         (K.written output.old) (K.written output.new) house.old.seats house.new.seats result
         ⊎ ((result ≡ 6) × (output.new ≡ output.old) × (hall.new ≡ hall.old) × (house.new ≡ house.old))) }
@@ -102,10 +102,10 @@ pub fn run_program<S: Source, K: Sink, H: Hall, C: Clock, R: Threads + Wait + Sy
     // that can be read, in their places, with no login that is refused, all of them are answered; so are all
     // lines of a script that is within its limit and has no other; and as many connections are served as there are rounds,
     // where no door may close.
-    ensures complete { (user password : List ℕ) (bare : Bool) → AsksFor (map string_bytes words.now) (ProgramCommand.Pipe user password bare)
-        → result ≢ 3 → result ≢ 4 → EndsWell (config_of user password bare) (S.left input.old) result }
+    ensures complete { (user password : List ℕ) (bare drivers : Bool) → AsksFor (map string_bytes words.now) (ProgramCommand.Pipe user password bare drivers)
+        → result ≢ 3 → result ≢ 4 → EndsWell (config_of user password bare drivers) (S.left input.old) result }
     ensures complete_steps { AsksFor (map string_bytes words.now) ProgramCommand.Steps → result ≢ 3 → result ≢ 4 → AllAnswered (S.left input.old) result }
-    ensures complete_listen { (port workers : ℕ) (rounds : Option ℕ) (user password : List ℕ) → AsksFor (map string_bytes words.now) (ProgramCommand.Listen port workers rounds user password)
+    ensures complete_listen { (port workers : ℕ) (rounds : Option ℕ) (user password : List ℕ) (drivers : Bool) → AsksFor (map string_bytes words.now) (ProgramCommand.Listen port workers rounds user password drivers)
         → ((door : H.Door) → H.Door.may_close door ≡ false) → result ≢ 4 → result ≢ 7 → ServesAll rounds (K.written output.old) (K.written output.new) result }
     ensures complete_load { (transfers workers : ℕ) → AsksFor (map string_bytes words.now) (ProgramCommand.Load transfers workers) → result ≢ 4 → (result ≡ 0) ⊎ (result ≡ 6) }
 {
@@ -129,16 +129,16 @@ fn run_command<S: Source, K: Sink, H: Hall, R: Threads + Wait + Sync>(
     requires full { IsFull house_seats house.old }
     requires range { IsInRange command }
     ensures full { IsFull house_seats house.new }
-    ensures pipe { (user password : List ℕ) (bare : Bool) → command ≡ ProgramCommand.Pipe user password bare
-        → (hall.new ≡ hall.old) × Piped (config_of user password bare) (Takes S.left S.given input.old input.new) (S.left input.new) (K.written output.old) (K.written output.new)
+    ensures pipe { (user password : List ℕ) (bare drivers : Bool) → command ≡ ProgramCommand.Pipe user password bare drivers
+        → (hall.new ≡ hall.old) × Piped (config_of user password bare drivers) (Takes S.left S.given input.old input.new) (S.left input.new) (K.written output.old) (K.written output.new)
         house.old.seats house.new.seats result }
-    ensures complete { (user password : List ℕ) (bare : Bool) → command ≡ ProgramCommand.Pipe user password bare
-        → result ≢ 3 → result ≢ 4 → EndsWell (config_of user password bare) (S.left input.old) result }
-    ensures listen { (port workers : ℕ) (rounds : Option ℕ) (user password : List ℕ) → command ≡ ProgramCommand.Listen port workers rounds user password
-        → (input.new ≡ input.old) × Listened H.Door.may_close H.Door.Line.left H.Door.Line.given H.Door.Line.Source.faults H.Door.Line.written H.Door.Line.Sink.faults (config_of user password false) workers rounds
+    ensures complete { (user password : List ℕ) (bare drivers : Bool) → command ≡ ProgramCommand.Pipe user password bare drivers
+        → result ≢ 3 → result ≢ 4 → EndsWell (config_of user password bare drivers) (S.left input.old) result }
+    ensures listen { (port workers : ℕ) (rounds : Option ℕ) (user password : List ℕ) (drivers : Bool) → command ≡ ProgramCommand.Listen port workers rounds user password drivers
+        → (input.new ≡ input.old) × Listened H.Door.may_close H.Door.Line.left H.Door.Line.given H.Door.Line.Source.faults H.Door.Line.written H.Door.Line.Sink.faults (config_of user password false drivers) workers rounds
         (H.told hall.old) (H.told hall.new) (numbers_of H.faults H.finished H.failed H.closed hall.old) (numbers_of H.faults H.finished H.failed H.closed hall.new)
         (K.written output.old) (K.written output.new) house.old.seats house.new.seats result }
-    ensures complete_listen { (port workers : ℕ) (rounds : Option ℕ) (user password : List ℕ) → command ≡ ProgramCommand.Listen port workers rounds user password
+    ensures complete_listen { (port workers : ℕ) (rounds : Option ℕ) (user password : List ℕ) (drivers : Bool) → command ≡ ProgramCommand.Listen port workers rounds user password drivers
         → ((door : H.Door) → H.Door.may_close door ≡ false) → result ≢ 4 → result ≢ 7 → ServesAll rounds (K.written output.old) (K.written output.new) result }
     ensures steps { command ≡ ProgramCommand.Steps → (hall.new ≡ hall.old) × (house.new ≡ house.old)
         × ((taken : List ℕ) × Takes S.left S.given input.old input.new taken
@@ -159,22 +159,20 @@ fn run_command<S: Source, K: Sink, H: Hall, R: Threads + Wait + Sync>(
             user,
             password,
             bare,
-        } => pipe(
-            alloc,
-            rt,
-            house,
-            &config_of(user, password, bare),
-            input,
-            output,
-        ),
+            drivers,
+        } => {
+            let config = config_of(user, password, bare, drivers);
+            pipe(alloc, rt, house, &config, input, output)
+        }
         ProgramCommand::Listen {
             port,
             workers,
             rounds,
             user,
             password,
+            drivers,
         } => {
-            let config = config_of(user, password, false);
+            let config = config_of(user, password, false, drivers);
             listen(
                 alloc, rt, house, output, hall, port, workers, rounds, &config,
             )
@@ -243,13 +241,14 @@ fn steps<S: Source, K: Sink>(alloc: Global, input: &mut S, output: &mut K) -> u8
 }
 
 /// The configuration for this user and password.
-fn config_of(user: Units, password: Units, bare: bool) -> Config
-    ensures { result ≡ config_of user password bare }
+fn config_of(user: Units, password: Units, bare: bool, drivers: bool) -> Config
+    ensures { result ≡ config_of user password bare drivers }
 {
     Config {
         user,
         password,
         entry: if bare { Entry::Bare } else { Entry::Login },
+        drivers,
     }
 }
 

@@ -12,7 +12,8 @@ returns-clause-app c =
     let two = c.in_ok-arg-2.ensures.shape c.workers.ensures.local ∙ ap₂ with_rule one c.workers.ensures.rule in
     let three = c.in_ok-arg-3.ensures.shape c.rounds.ensures.local ∙ ap₂ with_rule two c.rounds.ensures.rule in
     let four = c.in_ok-arg-4.ensures.shape c.user.ensures.local ∙ ap₂ with_rule three c.user.ensures.rule in
-    IfOk-weaker c.arg-5.result _ _ (λ command added. added.shape c.password.ensures.local ∙ ap₂ with_rule four c.password.ensures.rule) c.arg-5.ensures
+    let five = c.in_ok-arg-5.ensures.shape c.password.ensures.local ∙ ap₂ with_rule four c.password.ensures.rule in
+    IfOk-weaker c.arg-6.result _ _ (λ command added. added.shape c.drivers.ensures.local ∙ ap₂ with_rule five c.drivers.ensures.rule) c.arg-6.ensures
 
 pub returns-clause-local : goal.returns-clause-local
 returns-clause-local c =
@@ -21,4 +22,5 @@ returns-clause-local c =
     let two = c.in_ok-arg-2.ensures.globals ∙ ap₂ ◌||◌ one c.workers.ensures.local in
     let three = c.in_ok-arg-3.ensures.globals ∙ ap₂ ◌||◌ two c.rounds.ensures.local in
     let four = c.in_ok-arg-4.ensures.globals ∙ ap₂ ◌||◌ three c.user.ensures.local in
-    IfOk-weaker c.arg-5.result _ _ (λ command added. added.globals ∙ ap₂ ◌||◌ four c.password.ensures.local) c.arg-5.ensures
+    let five = c.in_ok-arg-5.ensures.globals ∙ ap₂ ◌||◌ four c.password.ensures.local in
+    IfOk-weaker c.arg-6.result _ _ (λ command added. added.globals ∙ ap₂ ◌||◌ five c.drivers.ensures.local) c.arg-6.ensures

@@ -1,4 +1,4 @@
-use Rattle.session_server.proofs.Handled.{answered_as, at_prelogin, at_login, at_ready_login, at_attention}
+use Rattle.session_server.proofs.Handled.{answered_as, at_prelogin, at_login, at_ready_login}
 use Rattle.session_server.proofs.message.handle.Goals as goal
 
 pub returns-in-Initial-eq18-clause-handled : goal.returns-in-Initial-eq18-clause-handled
@@ -9,6 +9,3 @@ returns-in-Initial-eq16-clause-handled g c = answered_as c.args.spid (g.P.Port.p
 
 pub returns-in-LoginReady-eq16-clause-handled : goal.returns-in-LoginReady-eq16-clause-handled
 returns-in-LoginReady-eq16-clause-handled g c = answered_as c.args.spid (g.P.Port.past c.args.port.now) _ _ c.args.session.now c.handle_login-in-LoginReady-eq16.result (at_ready_login c.args.config.now c.args.state c.args.message.now c.as_slice-payload.result.now c.as_slice-payload.ensures c.in-LoginReady-eq16.is-0 c.in-LoginReady-eq16.is-1) c.handle_login-in-LoginReady-eq16.ensures.answered
-
-pub returns-in-LoggedIn-eq6-clause-handled : goal.returns-in-LoggedIn-eq6-clause-handled
-returns-in-LoggedIn-eq6-clause-handled g c = answered_as c.args.spid (g.P.Port.past c.args.port.now) _ _ c.args.session.now c.handle_attention.result (at_attention c.args.config.now c.args.state c.args.message.now c.as_slice-payload.result.now c.as_slice-payload.ensures c.in-LoggedIn-eq6.packet_size c.in-LoggedIn-eq6.is-0 c.in-LoggedIn-eq6.is-1) c.handle_attention.ensures.answered

@@ -7,7 +7,7 @@ pub loop-next-init : goal.loop-next-init
 loop-next-init g c = record {
   served = rw c.new-reader.ensures (rw c.first-state.ensures (nothing_served c.args.config.now g.L.Source.left g.L.Source.given c.args.line.now (g.P.Port.past c.args.port.now) (g.L.Sink.written c.args.line.now) c.args.spid c.requires.first));
   ready = c.requires.ready;
-  sized = rw c.first-state.ensures (first_sized c.args.config.now.entry);
+  sized = rw c.first-state.ensures (first_sized c.args.config.now);
   reads = refl;
   writes = refl;
   held = refl;

@@ -10,13 +10,13 @@ use Rattle.tsqld.proofs.Runs.{as_read, only_shown, shown_unrefused, unasked}
 use Rattle.tsqld.proofs.program.run_program.Goals as goal
 
 pub returns-in-Ok-clause-pipe : goal.returns-in-Ok-clause-pipe
-returns-in-Ok-clause-pipe g c = λ user password bare asks. let did = c.run_command.ensures.pipe user password bare (as_read _ c.in-Ok.command _ c.in-Ok.ensures.answers asks) in (did.0, inl did.1)
+returns-in-Ok-clause-pipe g c = λ user password bare drivers asks. let did = c.run_command.ensures.pipe user password bare drivers (as_read _ c.in-Ok.command _ c.in-Ok.ensures.answers asks) in (did.0, inl did.1)
 
 pub returns-in-Ok-clause-listen : goal.returns-in-Ok-clause-listen
-returns-in-Ok-clause-listen g c = λ port workers rounds user password asks. let did = c.run_command.ensures.listen port workers rounds user password (as_read _ c.in-Ok.command _ c.in-Ok.ensures.answers asks) in (did.0, inl did.1)
+returns-in-Ok-clause-listen g c = λ port workers rounds user password drivers asks. let did = c.run_command.ensures.listen port workers rounds user password drivers (as_read _ c.in-Ok.command _ c.in-Ok.ensures.answers asks) in (did.0, inl did.1)
 
 pub returns-in-Ok-clause-complete_listen : goal.returns-in-Ok-clause-complete_listen
-returns-in-Ok-clause-complete_listen g c = λ port workers rounds user password asks. c.run_command.ensures.complete_listen port workers rounds user password (as_read _ c.in-Ok.command _ c.in-Ok.ensures.answers asks)
+returns-in-Ok-clause-complete_listen g c = λ port workers rounds user password drivers asks. c.run_command.ensures.complete_listen port workers rounds user password drivers (as_read _ c.in-Ok.command _ c.in-Ok.ensures.answers asks)
 
 pub returns-in-Ok-clause-no_command : goal.returns-in-Ok-clause-no_command
 returns-in-Ok-clause-no_command g c = λ other. let shown = only_shown _ _ c.in-Ok.command c.in-Ok.ensures.answers other c.run_command.ensures.shows in
@@ -36,10 +36,10 @@ pub returns-in-Err-Refused-clause-shown : goal.returns-in-Err-Refused-clause-sho
 returns-in-Err-Refused-clause-shown g c = λ alone two. shown_unrefused _ alone (refused _ _ c.in-Err-Refused.field-0-is c.in-Err-Refused.ensures.answers)
 
 pub returns-in-Err-Refused-clause-pipe : goal.returns-in-Err-Refused-clause-pipe
-returns-in-Err-Refused-clause-pipe g c = λ user password bare asks. absurd (unasked _ _ (refused _ _ c.in-Err-Refused.field-0-is c.in-Err-Refused.ensures.answers) asks)
+returns-in-Err-Refused-clause-pipe g c = λ user password bare drivers asks. absurd (unasked _ _ (refused _ _ c.in-Err-Refused.field-0-is c.in-Err-Refused.ensures.answers) asks)
 
 pub returns-in-Err-Refused-clause-listen : goal.returns-in-Err-Refused-clause-listen
-returns-in-Err-Refused-clause-listen g c = λ port workers rounds user password asks. absurd (unasked _ _ (refused _ _ c.in-Err-Refused.field-0-is c.in-Err-Refused.ensures.answers) asks)
+returns-in-Err-Refused-clause-listen g c = λ port workers rounds user password drivers asks. absurd (unasked _ _ (refused _ _ c.in-Err-Refused.field-0-is c.in-Err-Refused.ensures.answers) asks)
 
 pub returns-in-Err-Refused-clause-steps : goal.returns-in-Err-Refused-clause-steps
 returns-in-Err-Refused-clause-steps g c = λ asks. absurd (unasked _ _ (refused _ _ c.in-Err-Refused.field-0-is c.in-Err-Refused.ensures.answers) asks)
@@ -48,13 +48,13 @@ pub returns-in-Err-Refused-clause-load : goal.returns-in-Err-Refused-clause-load
 returns-in-Err-Refused-clause-load g c = λ transfers workers asks. absurd (unasked _ _ (refused _ _ c.in-Err-Refused.field-0-is c.in-Err-Refused.ensures.answers) asks)
 
 pub returns-in-Err-Refused-clause-complete : goal.returns-in-Err-Refused-clause-complete
-returns-in-Err-Refused-clause-complete g c = λ user password bare asks. absurd (unasked _ _ (refused _ _ c.in-Err-Refused.field-0-is c.in-Err-Refused.ensures.answers) asks)
+returns-in-Err-Refused-clause-complete g c = λ user password bare drivers asks. absurd (unasked _ _ (refused _ _ c.in-Err-Refused.field-0-is c.in-Err-Refused.ensures.answers) asks)
 
 pub returns-in-Err-Refused-clause-complete_steps : goal.returns-in-Err-Refused-clause-complete_steps
 returns-in-Err-Refused-clause-complete_steps g c = λ asks. absurd (unasked _ _ (refused _ _ c.in-Err-Refused.field-0-is c.in-Err-Refused.ensures.answers) asks)
 
 pub returns-in-Err-Refused-clause-complete_listen : goal.returns-in-Err-Refused-clause-complete_listen
-returns-in-Err-Refused-clause-complete_listen g c = λ port workers rounds user password asks. absurd (unasked _ _ (refused _ _ c.in-Err-Refused.field-0-is c.in-Err-Refused.ensures.answers) asks)
+returns-in-Err-Refused-clause-complete_listen g c = λ port workers rounds user password drivers asks. absurd (unasked _ _ (refused _ _ c.in-Err-Refused.field-0-is c.in-Err-Refused.ensures.answers) asks)
 
 pub returns-in-Err-Refused-clause-complete_load : goal.returns-in-Err-Refused-clause-complete_load
 returns-in-Err-Refused-clause-complete_load g c = λ transfers workers asks. absurd (unasked _ _ (refused _ _ c.in-Err-Refused.field-0-is c.in-Err-Refused.ensures.answers) asks)
