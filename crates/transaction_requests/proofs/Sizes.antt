@@ -7,7 +7,7 @@ use Rattle.byteorder.specs.Endian.{little_number}
 use Rattle.value_types.specs.Units.{units_of}
 use Rattle.transaction_requests.specs.declared.fault.Refusal.{Refusal}
 use Rattle.transaction_requests.specs.Reading.{NewTransaction, TransactionRequest, begins, commits, rolls_back, saves, ◌>>=◌, anew_at, begin_xact, behind_headers, byte_at, bytes_at, commit_xact, end_at, is_anew, last_level, level_at, level_of, name_at, new_at, numbered_at, numbered_of, request_of, rollback_xact, save_xact}
-use Rattle.transaction_requests.specs.Text.{anew_text, begin_text, bracket, called, doubled, guard, level_words, managed, new_text, placed, text_of}
+use Rattle.transaction_requests.specs.Text.{anew_text, bracket, called, doubled, guard, if_set, level_text, level_words, managed, new_text, placed, set_level, text_of}
 
 -- ---- what is read
 
@@ -130,37 +130,37 @@ around : (front middle back : List ℕ) → length (front ++ middle ++ back) ≡
 around front middle back = omega (arith, length-append (front ++ middle) back, length-append front middle)
 
 called_few : (n : ℕ) (name : List ℕ) → IsName n name → length (called name) ≤ n + 3
+unfolding called
 called_few n name is = few_if (n + 3) (length name == 0) [] (codes " [" ++ flat_map doubled name ++ codes "]") (omega arith) (omega (arith, is, around (codes " [") (flat_map doubled name) (codes "]"), doubled_few name))
 
-level_few : (level : ℕ) → length (level_words level) ≤ 16
-level_few level =
+words_few : (level : ℕ) → length (level_words level) ≤ 16
+unfolding level_words
+words_few level =
     few_if 16 (level == 1) (codes "READ UNCOMMITTED") _ (omega arith)
     (few_if 16 (level == 2) (codes "READ COMMITTED") _ (omega arith)
     (few_if 16 (level == 3) (codes "REPEATABLE READ") _ (omega arith)
     (few_if 16 (level == 4) (codes "SERIALIZABLE") (codes "SNAPSHOT") (omega arith) (omega arith))))
 
-begin_few : (n : ℕ) (new : NewTransaction) → IsNew n new → length (begin_text new) ≤ n + 20
-begin_few n new is = omega (arith, length-append (codes "BEGIN TRANSACTION") (called new.name), called_few n new.name is)
+level_few : (level : ℕ) → length (level_text level) ≤ 70
+unfolding level_text set_level if_set
+level_few level = few_if 70 (level == 0) [] _ (omega arith) (omega (arith, around set_level (level_words level) if_set, words_few level))
 
 new_few : (n : ℕ) (new : NewTransaction) → IsNew n new → length (new_text new) ≤ n + 90
-new_few n new is = few_if (n + 90) (new.level == 0) (begin_text new) _ (omega (arith, begin_few n new is))
-    (omega (
-      arith,
-      length-append (codes "SET TRANSACTION ISOLATION LEVEL " ++ level_words new.level ++ codes "; IF @@ERROR = 0 ") (begin_text new),
-      around (codes "SET TRANSACTION ISOLATION LEVEL ") (level_words new.level) (codes "; IF @@ERROR = 0 "),
-      level_few new.level,
-      begin_few n new is,
-    ))
+unfolding new_text
+new_few n new is = omega (arith, around (level_text new.level) (codes "BEGIN TRANSACTION") (called new.name), level_few new.level, called_few n new.name is)
 
 anew_few : (n : ℕ) (anew : Option NewTransaction) → IsAnew n anew → length (anew_text anew) ≤ n + 92
+unfolding anew_text
 anew_few n None is = omega arith
 anew_few n (Some new) is = omega (arith, length-append (codes "; ") (new_text new), new_few n new is)
 
 guard_few : (anew : Option NewTransaction) → length (guard anew) ≤ 20
+unfolding guard
 guard_few None = omega arith
 guard_few (Some new) = omega arith
 
 text_few : (n : ℕ) (request : TransactionRequest) → IsNamed n request → length (text_of request) ≤ 2 * n + 200
+unfolding text_of
 text_few n (begins new) is = omega (arith, new_few n new is)
 text_few n (commits name anew) is = omega (arith, around (codes "COMMIT TRANSACTION") (called name) (anew_text anew), called_few n name is.0, anew_few n anew is.1)
 text_few n (rolls_back name anew) is = omega (

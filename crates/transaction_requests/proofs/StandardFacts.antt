@@ -6,7 +6,7 @@ use Rattle.transaction_requests.specs.declared.fault.TransactionFault.{Transacti
 use Rattle.transaction_requests.specs.declared.fault.TransactionFault.TheVariants.{Bad}
 use Rattle.transaction_requests.specs.declared.fault.TransactionKind.TheVariants as kinds
 use Rattle.transaction_requests.specs.Reading.{byte_at, bytes_at, name_at, level_of, level_at, new_at, anew_at, end_at, numbered_of, numbered_at, behind_headers, request_of}
-use Rattle.transaction_requests.specs.Text.{managed}
+use Rattle.transaction_requests.specs.Text.{level_words, called, set_level, if_set, level_text, new_text, anew_text, guard, text_of, managed}
 
 -- ALL_HEADERS with the descriptor of no transaction
 abbrev headers : List ℕ
@@ -68,11 +68,11 @@ abbrev AreManaged : Facts → Type 0
 AreManaged rows = map (λ (row : List ℕ × Result (List ℕ) TransactionFault). managed (headers ++ row.0)) rows ≡ map (λ (row : List ℕ × Result (List ℕ) TransactionFault). row.1) rows
 
 pub texts_are_managed : AreManaged texts
-unfolding byte_at bytes_at name_at level_of level_at new_at anew_at end_at numbered_of numbered_at behind_headers request_of managed
+unfolding byte_at bytes_at name_at level_of level_at new_at anew_at end_at numbered_of numbered_at behind_headers request_of level_words called set_level if_set level_text new_text anew_text guard text_of managed
 texts_are_managed = refl
 
 pub refusals_are_managed : AreManaged refusals
-unfolding byte_at bytes_at name_at level_of level_at new_at anew_at end_at numbered_of numbered_at behind_headers request_of managed
+unfolding byte_at bytes_at name_at level_of level_at new_at anew_at end_at numbered_of numbered_at behind_headers request_of level_words called set_level if_set level_text new_text anew_text guard text_of managed
 refusals_are_managed = refl
 
 -- headers that are cut, shorter than their length, or none
@@ -85,5 +85,5 @@ no_headers_are_managed = refl
 
 -- headers of no header
 pub short_headers : managed (4 ∷ 0 ∷ 0 ∷ 0 ∷ 5 ∷ 0 ∷ 0 ∷ 0 ∷ []) ≡ Ok (codes "BEGIN TRANSACTION")
-unfolding byte_at bytes_at name_at level_of level_at new_at anew_at end_at numbered_of numbered_at behind_headers request_of managed
+unfolding byte_at bytes_at name_at level_of level_at new_at anew_at end_at numbered_of numbered_at behind_headers request_of level_words called set_level if_set level_text new_text anew_text guard text_of managed
 short_headers = refl

@@ -1,5 +1,5 @@
 -- The request of fields that lie in a payload, where a name is a part of its bytes.
-use Rattle.std.specs.Prelude.{◌≡◌, Option, option_map, Result, Ok, Err}
+use Rattle.std.specs.Prelude.{◌≡◌, option_map, Result, Ok, Err}
 use Rattle.value_types.specs.Units.{units_of}
 use Rattle.transaction_requests.specs.declared.fault.Refusal.{Refusal}
 use Rattle.transaction_requests.specs.declared.request.NewFields.{NewFields}

@@ -9,7 +9,7 @@ use Rattle.transaction_requests.specs.declared.fault.TransactionFault.TheVariant
 use Rattle.transaction_requests.specs.Reading.{NewTransaction, TransactionRequest, begins, commits, rolls_back, saves, request_of}
 
 -- a level above 0 in words
-abbrev pub level_words : ℕ → List ℕ
+unfoldable pub level_words : ℕ → List ℕ
 level_words level =
     if level == 1 then codes "READ UNCOMMITTED"
     else if level == 2 then codes "READ COMMITTED"
@@ -26,30 +26,37 @@ abbrev pub doubled : ℕ → List ℕ
 doubled unit = if unit == bracket then bracket ∷ bracket ∷ [] else unit ∷ []
 
 -- a name in brackets, where there is one
-abbrev pub called : List ℕ → List ℕ
+unfoldable pub called : List ℕ → List ℕ
 called name = if length name == 0 then [] else codes " [" ++ flat_map doubled name ++ codes "]"
 
-abbrev pub begin_text : NewTransaction → List ℕ
-begin_text new = codes "BEGIN TRANSACTION" ++ called new.name
+-- in front of a level
+unfoldable pub set_level : List ℕ
+set_level = codes "SET TRANSACTION ISOLATION LEVEL "
+
+-- behind it: what follows is run only where the level was not refused
+unfoldable pub if_set : List ℕ
+if_set = codes "; IF @@ERROR = 0 "
+
+-- in front of what begins at a level; 0 leaves the session's
+unfoldable pub level_text : ℕ → List ℕ
+level_text level = if level == 0 then [] else set_level ++ level_words level ++ if_set
 
 -- a transaction begins
-abbrev pub new_text : NewTransaction → List ℕ
-new_text new =
-    if new.level == 0 then begin_text new
-    else codes "SET TRANSACTION ISOLATION LEVEL " ++ level_words new.level ++ codes "; IF @@ERROR = 0 " ++ begin_text new
+unfoldable pub new_text : NewTransaction → List ℕ
+new_text new = level_text new.level ++ codes "BEGIN TRANSACTION" ++ called new.name
 
 -- what begins behind another, where something does
-abbrev pub anew_text : Option NewTransaction → List ℕ
+unfoldable pub anew_text : Option NewTransaction → List ℕ
 anew_text None = []
 anew_text (Some new) = codes "; " ++ new_text new
 
 -- in front of a rollback behind which something begins
-abbrev pub guard : Option NewTransaction → List ℕ
+unfoldable pub guard : Option NewTransaction → List ℕ
 guard None = []
 guard (Some new) = codes "IF @@TRANCOUNT > 0 "
 
 -- the text of a request
-abbrev pub text_of : TransactionRequest → List ℕ
+unfoldable pub text_of : TransactionRequest → List ℕ
 text_of (begins new) = new_text new
 text_of (commits name anew) = codes "COMMIT TRANSACTION" ++ called name ++ anew_text anew
 text_of (rolls_back name anew) = guard anew ++ codes "ROLLBACK TRANSACTION" ++ called name ++ anew_text anew

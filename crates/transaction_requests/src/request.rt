@@ -1,6 +1,6 @@
 //! Reading requests.
 
-ghost use Rattle.std.specs.Prelude.{◌≡◌, option_map};
+ghost use Rattle.std.specs.Prelude.{option_map};
 ghost use Rattle.value_types.specs.Units.{units_of};
 ghost use Rattle.transaction_requests.specs.Reading.{anew_at, end_at, new_at, numbered_at, numbered_of, request_of};
 ghost use Rattle.transaction_requests.specs.Fields.{Gives, seen, seen_new};

@@ -3,7 +3,7 @@
 ghost use Rattle.std.specs.Prelude.{◌≡◌, ◌<◌, ◌^◌, ◌++◌, length, option_map, IfOk, OnOk};
 ghost use Rattle.std.specs.List.{flat_map};
 ghost use Rattle.value_types.specs.Units.{units_of};
-ghost use Rattle.transaction_requests.specs.Text.{Answers, anew_text, begin_text, called, doubled, guard, level_words, managed, new_text, text_of};
+ghost use Rattle.transaction_requests.specs.Text.{Answers, anew_text, called, doubled, guard, if_set, level_text, level_words, managed, new_text, set_level, text_of};
 ghost use Rattle.transaction_requests.specs.Fields.{seen, seen_new};
 
 use crate::fault::TransactionFault;
@@ -36,8 +36,9 @@ pub fn transaction_text(alloc: Global, payload: &[u8]) -> Result<Units, Transact
 }
 
 /// The text of a request.
+#[tactic(auto, unfolding(crate::specs::Text::text_of))]
 fn text_of(alloc: Global, request: RequestFields<'_>) -> Result<Units, Memory>
-    ensures { IfOk result (λ text. text ≡ text_of (seen request)) }
+    ensures { IfOk result (λ text. text ≡ text_of (seen request.entry)) }
 {
     let mut out = Vec::new(alloc);
     match request {
@@ -57,8 +58,9 @@ fn text_of(alloc: Global, request: RequestFields<'_>) -> Result<Units, Memory>
 }
 
 /// Appends what begins behind another, where something does.
+#[tactic(auto, unfolding(crate::specs::Text::anew_text))]
 fn add_anew(alloc: Global, out: &mut Vec<u16>, anew: Option<NewFields<'_>>) -> Result<(), Memory>
-    ensures { OnOk result (out.new.items ≡ out.old.items ++ anew_text (option_map seen_new anew)) }
+    ensures { OnOk result (out.new.items ≡ out.old.items ++ anew_text (option_map seen_new anew.entry)) }
 {
     match anew {
         None => Ok(()),
@@ -70,8 +72,9 @@ fn add_anew(alloc: Global, out: &mut Vec<u16>, anew: Option<NewFields<'_>>) -> R
 }
 
 /// Appends what stands in front of a rollback behind which something begins.
+#[tactic(auto, unfolding(crate::specs::Text::guard))]
 fn add_guard(out: &mut Vec<u16>, anew: Option<NewFields<'_>>) -> Result<(), Memory>
-    ensures { OnOk result (out.new.items ≡ out.old.items ++ guard (option_map seen_new anew)) }
+    ensures { OnOk result (out.new.items ≡ out.old.items ++ guard (option_map seen_new anew.entry)) }
 {
     match anew {
         None => Ok(()),
@@ -80,18 +83,45 @@ fn add_guard(out: &mut Vec<u16>, anew: Option<NewFields<'_>>) -> Result<(), Memo
 }
 
 /// Appends that a transaction begins.
+#[tactic(auto, unfolding(crate::specs::Text::new_text))]
 fn add_new(alloc: Global, out: &mut Vec<u16>, new: NewFields<'_>) -> Result<(), Memory>
-    ensures { OnOk result (out.new.items ≡ out.old.items ++ new_text (seen_new new)) }
+    ensures { OnOk result (out.new.items ≡ out.old.items ++ new_text (seen_new new.entry)) }
 {
-    if new.level != 0 {
-        add_ascii(out, "SET TRANSACTION ISOLATION LEVEL ")?;
-        add_ascii(out, level_words(new.level))?;
-        add_ascii(out, "; IF @@ERROR = 0 ")?;
-    }
+    add_level(out, new.level)?;
     add_named(alloc, out, "BEGIN TRANSACTION", new.name)
 }
 
+/// Appends what stands in front of what begins at a level.
+#[tactic(auto, unfolding(crate::specs::Text::level_text))]
+fn add_level(out: &mut Vec<u16>, level: u8) -> Result<(), Memory>
+    ensures { OnOk result (out.new.items ≡ out.old.items ++ level_text level) }
+{
+    if level == 0 {
+        return Ok(());
+    }
+    add_ascii(out, set_level())?;
+    add_ascii(out, level_words(level))?;
+    add_ascii(out, if_set())
+}
+
+/// What stands in front of a level.
+#[tactic(auto, unfolding(crate::specs::Text::set_level))]
+fn set_level() -> &'static str
+    ensures { result.now ≡ set_level }
+{
+    "SET TRANSACTION ISOLATION LEVEL "
+}
+
+/// What stands behind a level.
+#[tactic(auto, unfolding(crate::specs::Text::if_set))]
+fn if_set() -> &'static str
+    ensures { result.now ≡ if_set }
+{
+    "; IF @@ERROR = 0 "
+}
+
 /// A level above 0 in words.
+#[tactic(auto, unfolding(crate::specs::Text::level_words))]
 fn level_words(level: u8) -> &'static str
     ensures { result.now ≡ level_words level }
 {
@@ -105,6 +135,7 @@ fn level_words(level: u8) -> &'static str
 }
 
 /// Appends words, and behind them a name in brackets, where there is one.
+#[tactic(auto, unfolding(crate::specs::Text::called))]
 fn add_named(alloc: Global, out: &mut Vec<u16>, words: &str, name: &[u8]) -> Result<(), Memory>
     ensures { OnOk result (out.new.items ≡ out.old.items ++ words.now ++ called (units_of name.now)) }
 {
