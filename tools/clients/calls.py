@@ -3,7 +3,7 @@ import sys
 
 import pymssql
 
-db = pymssql.connect(server=sys.argv[1], port=sys.argv[2], user="sa", password="A", autocommit=True, conn_properties="")
+db = pymssql.connect(server=sys.argv[1], port=sys.argv[2], user="sa", password="A")
 run = db.cursor()
 run.execute("CREATE TABLE parts (id INT NOT NULL PRIMARY KEY, name NVARCHAR(20))")
 run.execute(
@@ -18,3 +18,4 @@ try:
     run.callproc("add_part", (1, "again", pymssql.output(int)))
 except Exception as error:
     print(error)
+db.commit()

@@ -6,6 +6,7 @@ my $db = DBI->connect('dbi:ODBC:DRIVER=FreeTDS;SERVERNAME=tsqld', 'sa', 'A', { P
 $db->do('CREATE TABLE parts (id INT NOT NULL PRIMARY KEY, name NVARCHAR(20))');
 $db->do("CREATE PROCEDURE add_part \@id INT, \@count INT OUTPUT AS BEGIN
   INSERT INTO parts VALUES (\@id, N'part'); SELECT \@count = COUNT(*) FROM parts; RETURN 7 END");
+$db->begin_work;
 for my $number (1, 2) {
     my ($status, $count) = (0, 0);
     my $call = $db->prepare('{? = CALL add_part (?, ?)}');
@@ -15,3 +16,4 @@ for my $number (1, 2) {
     $call->execute;
     print "$status, $count\n";
 }
+$db->commit;

@@ -23,25 +23,22 @@ func main() {
 	ctx := context.Background()
 	db, err := sql.Open("mssql", "server="+os.Args[1]+";port="+os.Args[2]+";user id=sa;password=A")
 	must(err)
-	c, err := db.Conn(ctx)
+	tx, err := db.BeginTx(ctx, nil)
 	must(err)
-	_, err = c.ExecContext(ctx, "BEGIN TRANSACTION")
+	_, err = tx.ExecContext(ctx, fmt.Sprintf("INSERT INTO seat VALUES (%d)", me))
 	must(err)
-	_, err = c.ExecContext(ctx, fmt.Sprintf("INSERT INTO seat VALUES (%d)", me))
-	must(err)
-	_, err = c.ExecContext(ctx, "SET LOCK_TIMEOUT 0")
+	_, err = tx.ExecContext(ctx, "SET LOCK_TIMEOUT 0")
 	must(err)
 	for err == nil { // until the other has its row
 		var n int
-		err = c.QueryRowContext(ctx, fmt.Sprintf("SELECT COUNT(*) FROM seat WHERE id = %d", 3-me)).Scan(&n)
+		err = tx.QueryRowContext(ctx, fmt.Sprintf("SELECT COUNT(*) FROM seat WHERE id = %d", 3-me)).Scan(&n)
 	}
 	fmt.Println(err)
-	_, err = c.ExecContext(ctx, "SET LOCK_TIMEOUT -1")
+	_, err = tx.ExecContext(ctx, "SET LOCK_TIMEOUT -1")
 	must(err)
-	_, err = c.ExecContext(ctx, fmt.Sprintf("INSERT INTO seat VALUES (%d)", 3-me))
+	_, err = tx.ExecContext(ctx, fmt.Sprintf("INSERT INTO seat VALUES (%d)", 3-me))
 	if err == nil {
-		_, err = c.ExecContext(ctx, "COMMIT")
-		must(err)
+		must(tx.Commit())
 		fmt.Println("committed")
 	} else {
 		fmt.Println(err)

@@ -4,9 +4,8 @@ import sys
 import pyodbc
 
 me = int(sys.argv[1])
-db = pyodbc.connect("DRIVER=FreeTDS;SERVERNAME=tsqld;UID=sa;PWD=A", autocommit=True)
+db = pyodbc.connect("DRIVER=FreeTDS;SERVERNAME=tsqld;UID=sa;PWD=A")
 run = db.cursor()
-run.execute("BEGIN TRANSACTION")
 run.execute(f"INSERT INTO seat VALUES ({me})")
 run.execute("SET LOCK_TIMEOUT 0")
 try:
@@ -17,7 +16,7 @@ except pyodbc.Error as error:
 run.execute("SET LOCK_TIMEOUT -1")
 try:
     run.execute(f"INSERT INTO seat VALUES ({3 - me})")
-    run.execute("COMMIT")
+    db.commit()
     print("committed")
 except pyodbc.Error as error:
     print(error)

@@ -4,7 +4,7 @@ import pyodbc
 batches = open("orders.sql").read().split("\ngo\n")
 create, fill, totals, procedure, call, status, wrong, cursor = batches[:8]
 
-db = pyodbc.connect("DRIVER=FreeTDS;SERVERNAME=tsqld;UID=sa;PWD=A", autocommit=True)
+db = pyodbc.connect("DRIVER=FreeTDS;SERVERNAME=tsqld;UID=sa;PWD=A")
 run = db.cursor()
 run.execute(create)
 run.execute(fill)
@@ -19,3 +19,4 @@ for insert in wrong.split(";"):
     except pyodbc.IntegrityError as error:
         print(error)
 print(run.execute(cursor).fetchval())
+db.commit()

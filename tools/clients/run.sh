@@ -7,7 +7,8 @@
 # each, at once; no money is lost. locks: two of a kind, of which each meets the other's lock with LOCK_TIMEOUT 0, and one falls
 # in a deadlock. calls: four clients send parameters by calls by RPC, and tell what calls.out has, or that of their kind. Prints
 # a line for each part, and ends with 1 where one is wrong, or at once with 2 where no server is reached. The tables orders,
-# items, account, seat and parts are dropped, before and behind. The server needs two workers at least.
+# items, account, seat and parts are dropped, before and behind. The server needs two workers at least, and --drivers, which
+# ./tsqld gives it: pyodbc, go and DBD::ODBC begin transactions by requests.
 cd "$(dirname "$0")" || exit 2
 port=${1:?the port is missing}
 host=${2:-127.0.0.1}

@@ -12,10 +12,8 @@ import (
 	mssql "github.com/denisenkom/go-mssqldb"
 )
 
-const transfer = `BEGIN TRANSACTION
-UPDATE account SET balance = balance + %d WHERE id = %d
-UPDATE account SET balance = balance - %d WHERE id = %d
-COMMIT`
+const transfer = `UPDATE account SET balance = balance + %d WHERE id = %d
+UPDATE account SET balance = balance - %d WHERE id = %d`
 
 func must(err error) {
 	if err != nil {
@@ -38,7 +36,14 @@ func main() {
 		if done == 10 {
 			amount = 1000
 		}
-		_, err := c.ExecContext(ctx, fmt.Sprintf(transfer, amount, 1+(me+done)%4, amount, 1+(me+done+1)%4))
+		tx, err := c.BeginTx(ctx, nil)
+		must(err)
+		_, err = tx.ExecContext(ctx, fmt.Sprintf(transfer, amount, 1+(me+done)%4, amount, 1+(me+done+1)%4))
+		if err == nil {
+			err = tx.Commit()
+		} else {
+			tx.Rollback() // that of a victim is refused: nothing is open
+		}
 		if e, is := err.(mssql.Error); is && e.Number == 1205 {
 			fell++ // again
 			continue

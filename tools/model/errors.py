@@ -46,6 +46,7 @@ TABLE = {
     3931: Line(16, T, Y, "The transaction cannot be rolled back to a savepoint."),
     3998: Line(16, T, N, "Uncommittable transaction is detected at the end of the batch."),
     6401: Line(16, S, Y, "No transaction or savepoint named '{name}' was found."),
+    8016: Line(16, B, N, "The remote procedure call is not served at byte {name}."),
     8114: Line(16, T, Y, "Conversion failed when converting text to BIGINT."),
     8115: Line(16, S, Y, "Arithmetic overflow error."),
     8134: Line(16, S, Y, "Divide by zero error encountered."),
@@ -60,6 +61,7 @@ TABLE = {
     49008: Line(16, B, L, "Operand type is not allowed here."),
     49012: Line(16, S, Y, "Arguments do not match the procedure."),
     49013: Line(15, B, L, "Variable '{name}' is declared twice."),
+    49014: Line(16, B, N, "The transaction request is not served at byte {name}."),
 }
 
 # Who has raised an error.

@@ -1,5 +1,7 @@
 """What drivers send (docs/PROTOCOL.md, "What drivers send"): the text of the batch that a transaction manager request
 stands for, or the offset of its level where that is none; and one DONE at a batch's end."""
+from .errors import raised_by
+from .values import Failure
 
 # ALL_HEADERS, as drivers send them, and behind them the number of the request.
 FRONT = 22 + 2
@@ -40,7 +42,7 @@ def answer(session, request):
     at = refused_at(request)
     if at is None:
         return ended_once(session.batch(text_of(request)))
-    return [f"ERROR 49014 class 16 state 1 line 1: The transaction request is not served at byte {at}.", "DONE(02,0,0)"]
+    return [raised_by(Failure(49014, str(at)), "", 1).token("ERROR"), "DONE(02,0,0)"]
 
 
 def ended_once(lines):
