@@ -1,12 +1,12 @@
 -- Where the walk of `clap` passes, the first value of each row passes the parser of its option.
-use Rattle.std.proofs.Common.{◌≡◌, ◌∙◌, ◌&&◌, ◌||◌, ◌<◌, ℕ, zero, suc, Bool, cond, not, true, false, refl, sym, ap, subst, arith, List, [], ◌∷◌, ◌++◌, length, Option, Some, None, codes, true≢false, nat_le}
+use Rattle.std.proofs.Common.{◌≡◌, ◌∙◌, ◌&&◌, ◌||◌, ◌<◌, ◌≤◌, ℕ, zero, suc, Bool, cond, not, true, false, refl, sym, ap, subst, arith, List, [], ◌∷◌, ◌++◌, length, Option, Some, None, codes, true≢false, nat_le}
 use Rattle.std.specs.Prelude.{⊤, drop, encode_utf8, find, option_and_then, slice_get}
 use Rattle.std.specs.List.{fold, list_all}
 use Rattle.std.specs.Option.{is_some, option_map_or}
 use Rattle.std.specs.Str.{bytes_eq, chars}
 use Rattle.clap.specs.Lexer.{long_of, short_of}
 use Rattle.std.proofs.lemmas.Slice.Eq.{bytes_eq-Decides}
-use Rattle.std.proofs.lemmas.Bool.{ne_eqb}
+use Rattle.std.proofs.lemmas.Bool.{leb-true, ne_eqb}
 use Rattle.clap.specs.Facts.{explicit_source, unwrap_or_range}
 use Rattle.clap.specs.Values.{is_request}
 use Rattle.clap.specs.Walk.{Held, Outcome, Row, Rule, Step, Text, Waiting, Walk, action_of, after_flag, arg_by_id, arg_by_index, arg_by_long, arg_by_short, at_row, attached_value, bundle, bundle_met, bundle_step, after_step, default_rows, flag_met, pushed, subcommand_met, subcommand_or_other, walked_from, done, has_row, idle, is_empty, first_of, nothing_held, rows_after, walk, walk_from, is_pending, long_met, long_or_other, more_values, most_values, next, option, option_met, option_word, plain, plain_word, positional, reacted, reading_by, refused, settled, settled_rows, short_met, short_or_plain, subcommand, takes_several, takes_values, to_positional, trailing, used, used_by_id, value, waits, walked, with_default, with_values, without, word_met}
@@ -108,7 +108,8 @@ module _ (c : List Rule) where
   set_true_keeps a by_id action missing none (v ∷ vs) rows fits all =
       let outer = (both (nat_le (unwrap_or_range a.range).start_inclusive (length (v ∷ vs))) _ fits).1 in
       let bad : nat_le (length (v ∷ vs)) 0 ≡ true = subst (λ n. nat_le (length (v ∷ vs)) n ≡ true) none (both (nat_le (length (v ∷ vs)) (most_values a)) _ outer).0 in
-      absurd (true≢false (sym bad))
+      let few : length (v ∷ vs) ≤ 0 = leb-true (length (v ∷ vs)) 0 bad in
+      absurd (let no : ⊥ = omega (arith, few) in no)
 
   -- a request is no use
   pub request_keeps : (a : Rule) → action_of a ≡ Help → Keeps a
