@@ -41,7 +41,8 @@ def request_of(text):
 
 
 def name_bytes(name):
-    return bytes([len(name) // 2]) + name
+    """A name behind the number of its bytes."""
+    return bytes([len(name)]) + name
 
 
 def new_bytes(new):

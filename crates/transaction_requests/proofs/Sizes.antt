@@ -1,12 +1,12 @@
 -- The text of a request is at most twice as long as its payload, but for the words around its names.
-use Rattle.std.proofs.Common.{◌≡◌, ℕ, ◌+◌, ◌*◌, ◌≤◌, Bool, true, false, ◌==◌, if◌then◌else◌, List, [], ◌∷◌, ◌++◌, length, length-append, length-take, length-drop, take, drop, Option, None, Some, Result, Ok, Err, subst, arith}
+use Rattle.std.proofs.Common.{◌≡◌, ℕ, ◌+◌, ◌*◌, ◌%◌, ◌≤◌, Bool, true, false, ◌==◌, if◌then◌else◌, List, [], ◌∷◌, ◌++◌, length, length-append, length-take, length-drop, Option, None, Some, Result, Ok, Err, subst, arith}
 use Rattle.std.specs.Prelude.{◌||◌, codes, nat_lt}
 use Rattle.std.specs.List.{flat_map}
 use Rattle.std.specs.Int.{w16, from_le_bytes}
 use Rattle.byteorder.specs.Endian.{little_number}
 use Rattle.value_types.specs.Units.{units_of}
 use Rattle.transaction_requests.specs.declared.fault.Refusal.{Refusal}
-use Rattle.transaction_requests.specs.Reading.{NewTransaction, TransactionRequest, begins, commits, rolls_back, saves, ◌>>=◌, anew_at, begin_xact, behind_headers, byte_at, bytes_at, commit_xact, end_at, is_anew, last_level, level_at, level_of, name_at, new_at, numbered_at, numbered_of, request_of, rollback_xact, save_xact}
+use Rattle.transaction_requests.specs.Reading.{NewTransaction, TransactionRequest, begins, commits, rolls_back, saves, ◌>>=◌, anew_at, begin_xact, behind_headers, byte_at, bytes_at, commit_xact, end_at, is_anew, last_level, level_at, level_of, name_at, new_at, numbered_at, numbered_of, request_of, rollback_xact, save_xact, whole_at}
 use Rattle.transaction_requests.specs.Text.{anew_text, bracket, called, doubled, guard, if_set, level_text, level_words, managed, new_text, placed, set_level, text_of}
 
 -- ---- what is read
@@ -48,6 +48,10 @@ bytes_front : (count n : ℕ) (bytes : List ℕ) → length bytes ≤ n → Hold
 unfolding bytes_at
 bytes_front count n bytes le = holds_if (Front (AtMost n) n) (nat_lt (length bytes) count) _ _ tt (omega (arith, length-take count bytes), omega (arith, length-drop count bytes))
 
+whole_front : (count n : ℕ) (bytes : List ℕ) → length bytes ≤ n → Holds (Front (AtMost n) n) (whole_at count bytes)
+unfolding whole_at
+whole_front count n bytes le = holds_if (Front (AtMost n) n) (count % 2 == 1) _ _ tt (bytes_front count n bytes le)
+
 units_half : (bytes : List ℕ) → 2 * length (units_of bytes) ≤ length bytes
 units_half [] = omega arith
 units_half (low ∷ []) = omega arith
@@ -56,7 +60,7 @@ units_half (low ∷ high ∷ bytes) = omega (arith, units_half bytes)
 name_front : (n : ℕ) (bytes : List ℕ) → length bytes ≤ n → Holds (Front (IsName n) n) (name_at bytes)
 unfolding name_at
 name_front n bytes le = holds_then (Front {A = ℕ} Any n) (Front (IsName n) n) (byte_at bytes) _ (byte_front n bytes le) (λ count had.
-    holds_then (Front (AtMost n) n) (Front (IsName n) n) (bytes_at (2 * count.0) count.1) _ (bytes_front (2 * count.0) n count.1 had.1) (λ part was. (omega (arith, units_half part.0, was.0), was.1)))
+    holds_then (Front (AtMost n) n) (Front (IsName n) n) (whole_at count.0 count.1) _ (whole_front count.0 n count.1 had.1) (λ part was. (omega (arith, units_half part.0, was.0), was.1)))
 
 level_front : (n : ℕ) (bytes : List ℕ) → length bytes ≤ n → Holds (Front {A = ℕ} Any n) (level_at bytes)
 unfolding level_at level_of
@@ -141,9 +145,17 @@ words_few level =
     (few_if 16 (level == 3) (codes "REPEATABLE READ") _ (omega arith)
     (few_if 16 (level == 4) (codes "SERIALIZABLE") (codes "SNAPSHOT") (omega arith) (omega arith))))
 
-level_few : (level : ℕ) → length (level_text level) ≤ 70
-unfolding level_text set_level if_set
-level_few level = few_if 70 (level == 0) [] _ (omega arith) (omega (arith, around set_level (level_words level) if_set, words_few level))
+set_few : length set_level ≤ 32
+unfolding set_level
+set_few = omega arith
+
+if_few : length if_set ≤ 17
+unfolding if_set
+if_few = omega arith
+
+level_few : (level : ℕ) → length (level_text level) ≤ 65
+unfolding level_text
+level_few level = few_if 65 (level == 0) [] _ (omega arith) (omega (arith, around set_level (level_words level) if_set, set_few, words_few level, if_few))
 
 new_few : (n : ℕ) (new : NewTransaction) → IsNew n new → length (new_text new) ≤ n + 90
 unfolding new_text

@@ -3,7 +3,7 @@
 -- A refusal tells how many bytes are left where its field begins.
 -- Not looked at: what stands within the headers, the transaction's descriptor too, the other bits of the flags,
 -- and what stands behind the request.
-use Rattle.std.specs.Prelude.{ℕ, ◌*◌, ◌%◌, Bool, ◌==◌, ◌||◌, nat_lt, if◌then◌else◌, List, [], ◌∷◌, length, take, drop, Option, Some, None, Result, Ok, Err}
+use Rattle.std.specs.Prelude.{ℕ, ◌%◌, Bool, ◌==◌, ◌||◌, nat_lt, if◌then◌else◌, List, [], ◌∷◌, length, take, drop, Option, Some, None, Result, Ok, Err}
 use Rattle.std.specs.Int.{w16, from_le_bytes}
 use Rattle.byteorder.specs.Endian.{little_number}
 use Rattle.value_types.specs.Units.{units_of}
@@ -74,11 +74,15 @@ byte_at (byte ∷ rest) = Ok (byte, rest)
 unfoldable pub bytes_at : ℕ → List ℕ → Result (List ℕ × List ℕ) Refusal
 bytes_at count bytes = if nat_lt (length bytes) count then refuse kinds.Cut bytes else Ok (take count bytes, drop count bytes)
 
--- B_VARCHAR: a count of units in a byte, and the units
+-- so many bytes that are whole units
+unfoldable pub whole_at : ℕ → List ℕ → Result (List ℕ × List ℕ) Refusal
+whole_at count bytes = if count % 2 == 1 then refuse kinds.Cut bytes else bytes_at count bytes
+
+-- a name, B_VARBYTE: a count of bytes in a byte, and its units
 unfoldable pub name_at : List ℕ → Result (List ℕ × List ℕ) Refusal
 name_at bytes = do
   count ← byte_at bytes
-  name ← bytes_at (2 * count.0) count.1
+  name ← whole_at count.0 count.1
   Ok (units_of name.0, name.1)
 
 -- ISOLATION_LEVEL; `bytes` begin with it

@@ -7,7 +7,7 @@ use thiserror::Error;
 pub enum TransactionKind {
     /// The headers have fewer than four bytes, or more than the payload.
     Headers,
-    /// The payload ends within the field.
+    /// The payload ends within the field, or a name within a unit.
     Cut,
     /// The request has a number that is not known.
     Request,

@@ -2,7 +2,7 @@
 
 ghost use Rattle.std.specs.Prelude.{◌≡◌, length, IfOk};
 ghost use Rattle.value_types.specs.Units.{units_of};
-ghost use Rattle.transaction_requests.specs.Reading.{behind_headers, byte_at, bytes_at, level_at, level_of, name_at};
+ghost use Rattle.transaction_requests.specs.Reading.{behind_headers, byte_at, bytes_at, level_at, level_of, name_at, whole_at};
 ghost use Rattle.transaction_requests.specs.Fields.{Gives};
 
 use crate::fault::{Refusal, TransactionKind};
@@ -66,7 +66,18 @@ pub(crate) fn name_at(bytes: &[u8]) -> Result<(&[u8], &[u8]), Refusal>
     ensures { Gives (λ x. (units_of x.0.now, x.1.now)) result (name_at bytes.now) }
 {
     let (count, rest) = byte_at(bytes)?;
-    bytes_at(2 * usize::from(count), rest)
+    whole_at(usize::from(count), rest)
+}
+
+/// So many bytes that are whole units.
+#[tactic(auto, unfolding(crate::specs::Reading::whole_at))]
+fn whole_at(count: usize, bytes: &[u8]) -> Result<(&[u8], &[u8]), Refusal>
+    ensures { Gives (λ x. (x.0.now, x.1.now)) result (whole_at count bytes.now) }
+{
+    if count % 2 == 1 {
+        return Err(refused(TransactionKind::Cut, bytes));
+    }
+    bytes_at(count, bytes)
 }
 
 /// A level.
