@@ -91,7 +91,7 @@ module _ (error : LockError) where
     call_refused : (at : ℕ) (kind : RpcKind) → HandlesOther (refuse_call (connected_with config size) at kind)
     call_refused at rpc_kind.Headers = tt
     call_refused at rpc_kind.Cut = tt
-    call_refused at kind = (usual_other error (pos 8016) refl, (tt, tt))
+    call_refused at _ = (usual_other error (pos 8016) refl, (tt, tt))
 
     rpc_other : (read : Result RpcCall RpcFault) → HandlesOther (handle_rpc (connected_with config size) read)
     rpc_other (Ok call) = tt
@@ -101,7 +101,7 @@ module _ (error : LockError) where
     request_refused : (at : ℕ) (kind : TransactionKind) → HandlesOther (refuse_request (connected_with config size) at kind)
     request_refused at transaction_kind.Headers = tt
     request_refused at transaction_kind.Cut = tt
-    request_refused at kind = (usual_other error (pos 49014) refl, (tt, tt))
+    request_refused at _ = (usual_other error (pos 49014) refl, (tt, tt))
 
     request_other : (read : Result (List ℕ) TransactionFault) → HandlesOther (handle_request (connected_with config size) read)
     request_other (Ok text) = tt

@@ -103,7 +103,7 @@ module _ (config : Config) (walk : Walk) where
     call_refused : (at : ℕ) (kind : RpcKind) → Goes (refuse_call (connected_with config size) at kind)
     call_refused at rpc_kind.Headers = ends_goes _
     call_refused at rpc_kind.Cut = ends_goes _
-    call_refused at kind = (tt, inr (inr (inl (size, refl))))
+    call_refused at _ = (tt, inr (inr (inl (size, refl))))
 
     rpc_goes : (payload : List ℕ) → length payload ≤ payload_limit → Goes (handle_rpc (connected_with config size) (rpc_of payload))
     rpc_goes payload limit = by_read (rpc_of payload) refl
@@ -116,7 +116,7 @@ module _ (config : Config) (walk : Walk) where
     request_refused : (at : ℕ) (kind : TransactionKind) → Goes (refuse_request (connected_with config size) at kind)
     request_refused at transaction_kind.Headers = ends_goes _
     request_refused at transaction_kind.Cut = ends_goes _
-    request_refused at kind = (tt, inr (inr (inl (size, refl))))
+    request_refused at _ = (tt, inr (inr (inl (size, refl))))
 
     request_goes : (payload : List ℕ) → length payload ≤ payload_limit → Goes (handle_request (connected_with config size) (managed payload))
     request_goes payload limit = by_read (managed payload) refl

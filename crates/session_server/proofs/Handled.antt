@@ -1,5 +1,5 @@
 -- How one message is handled, from what its parts do.
-use Rattle.std.proofs.Common.{◌≡◌, ℕ, ◌&&◌, Bool, true, false, if◌then◌else◌, List, [], length, Result, Ok, Err, is_ok, inl, inr, refl, sym, subst, ap, ◌∙◌}
+use Rattle.std.proofs.Common.{◌≡◌, ℕ, Bool, true, false, if◌then◌else◌, List, [], length, Result, Ok, Err, is_ok, inl, inr, refl, sym, subst, ap, ◌∙◌}
 use Rattle.value_types.specs.declared.memory.Memory.{Memory}
 use Rattle.step_model.specs.Port.{PortPast}
 use Rattle.step_model.proofs.Pasts.{goes_nowhere}
@@ -12,32 +12,28 @@ use Rattle.session_server.specs.declared.message.Handling.TheVariants.{Responds,
 use Rattle.session_server.specs.declared.prepared.PreparedResponse.{PreparedResponse}
 use Rattle.session_server.specs.declared.prepared.Channel.{Channel}
 use Rattle.batch_meaning.specs.Progress.{SessionProgress}
-use Rattle.session_server.specs.Parts.{Bears, Answers, HasResponse, MayWant, Says, IsHandled, IsUnasked, is_unserved_call, is_unserved_request}
-use Rattle.session_server.specs.Response.{Response, tabular, unserved, call_unserved, request_unserved}
+use Rattle.session_server.specs.Parts.{Bears, Answers, HasResponse, MayWant, Says, IsHandled, IsUnasked}
+use Rattle.session_server.specs.Response.{Response, tabular}
 use Rattle.std.specs.Result.{IsErr}
 use Rattle.tds_login.specs.declared.config.Config.{Config}
 use Rattle.tds_login.specs.Prelogin.{prelogin_of}
 use Rattle.tds_login.specs.Login.{login_of}
 use Rattle.tds_packets.specs.declared.message.Message.{Message}
-use Rattle.session_server.specs.declared.end.End.TheVariants.{BadRpc, BadTransaction}
+use Rattle.session_server.specs.declared.end.End.TheVariants.{BadRpc}
 use Rattle.session_server.specs.declared.message.Connected.{Connected}
 use Rattle.session_server.specs.declared.message.ServerState.{ServerState}
 use Rattle.session_server.specs.declared.message.ServerState.TheVariants.{Initial, LoginReady}
 use Rattle.batch_meaning.specs.declared.form.ReadText.{ReadText}
 use Rattle.batch_meaning.specs.declared.form.ReadText.TheVariants.{Statements}
 use Rattle.batch_meaning.specs.Doing.{Did}
-use Rattle.session_server.specs.Talk.{Handling, responds, runs, calls, refuses, ends, IsReadAs, handle, handle_logged, handle_prelogin, handle_login, handle_rpc, handle_attention, handle_request, refuse_call, refuse_request, tells, response_to}
+use Rattle.session_server.specs.Talk.{Handling, responds, runs, calls, refuses, ends, IsReadAs, handle, handle_logged, handle_prelogin, handle_login, handle_rpc, handle_attention, handle_request, refuse_call, response_to}
 use Rattle.rpc_requests.specs.declared.call.RpcCall.{RpcCall}
 use Rattle.rpc_requests.specs.declared.fault.RpcFault.{RpcFault}
 use Rattle.rpc_requests.specs.declared.fault.RpcFault.TheVariants.{Bad}
 use Rattle.rpc_requests.specs.declared.fault.RpcKind.{RpcKind}
 use Rattle.rpc_requests.specs.declared.fault.RpcKind.TheVariants as kinds
 use Rattle.transaction_requests.specs.declared.fault.TransactionFault.{TransactionFault}
-use Rattle.transaction_requests.specs.declared.fault.TransactionKind.{TransactionKind}
-use Rattle.transaction_requests.specs.declared.fault.TransactionKind.TheVariants as fields
-use Rattle.transaction_requests.specs.Text.{managed}
 use Rattle.rpc_requests.specs.Reading.{placed, rpc_of, whole_call}
-use Rattle.batch_meaning.specs.Tokens.{batch_done, rpc_done}
 use Rattle.batch_meaning.proofs.Composed.{does_over}
 
 -- what was prepared of tokens
@@ -82,12 +78,8 @@ module _ (config : Config) (state : ServerState) (message : Message) (payload : 
   pub at_ready_login : state ≡ LoginReady → message.kind ≡ 16 → handle config state message ≡ handle_login config (login_of payload)
   at_ready_login at is = rw at (rw is_payload (rw is refl))
 
-module _ (connected : Connected) (message : Message) (payload : List ℕ) (is_payload : payload ≡ message.payload) where
-  pub at_attention : message.kind ≡ 6 → handle_logged connected message ≡ handle_attention connected
-  at_attention is = rw is refl
-
-  pub at_request : message.kind ≡ 14 → connected.drivers ≡ true → handle_logged connected message ≡ handle_request connected (managed payload)
-  at_request is drivers = rw is (rw drivers (rw is_payload refl))
+pub at_attention : (connected : Connected) (message : Message) → message.kind ≡ 6 → handle_logged connected message ≡ handle_attention connected
+at_attention connected message is = rw is refl
 
 -- ---- a batch, and a call
 
@@ -129,44 +121,3 @@ may_want_rpc connected payload = by_read (placed (length payload)) (λ (read : R
 pub may_want_request : (connected : Connected) (read : Result (List ℕ) TransactionFault) → is_ok read ≡ true → MayWant (handle_request connected read)
 may_want_request connected (Ok text) is = tt
 may_want_request connected (Err fault) is = absurd (let no : false ≡ true = is in cc)
-
--- ---- what is not served
-
--- where drivers are served, a call of which something is not served is told so
-pub unserved_call : (connected : Connected) (at : ℕ) (kind : RpcKind) → connected.drivers ≡ true → is_unserved_call kind ≡ true
-    → handle_rpc connected (Err (Bad at kind)) ≡ tells connected (unserved call_unserved at (rpc_done true))
-unserved_call connected at kind drivers is = rw drivers (by_kind kind is)
-  where
-    by_kind : (why : RpcKind) → is_unserved_call why ≡ true → refuse_call connected at why ≡ tells connected (unserved call_unserved at (rpc_done true))
-    by_kind kinds.Headers is = absurd (let no : false ≡ true = is in cc)
-    by_kind kinds.Cut is = absurd (let no : false ≡ true = is in cc)
-    by_kind kinds.Procedure is = refl
-    by_kind kinds.Kind is = refl
-    by_kind kinds.Value is = refl
-    by_kind kinds.Trailing is = refl
-
--- every other one ends the connection
-pub ended_call : (connected : Connected) (at : ℕ) (kind : RpcKind) → (connected.drivers && is_unserved_call kind) ≡ false → handle_rpc connected (Err (Bad at kind)) ≡ ends (BadRpc at kind)
-ended_call connected at kind is = by_drivers connected.drivers kind is
-  where
-    by_drivers : (drivers : Bool) (why : RpcKind) → (drivers && is_unserved_call why) ≡ false → (if drivers then refuse_call connected at why else ends (BadRpc at why)) ≡ ends (BadRpc at why)
-    by_drivers false why is = refl
-    by_drivers true kinds.Headers is = refl
-    by_drivers true kinds.Cut is = refl
-    by_drivers true kinds.Procedure is = absurd (let no : true ≡ false = is in cc)
-    by_drivers true kinds.Kind is = absurd (let no : true ≡ false = is in cc)
-    by_drivers true kinds.Value is = absurd (let no : true ≡ false = is in cc)
-    by_drivers true kinds.Trailing is = absurd (let no : true ≡ false = is in cc)
-
--- so it is with requests
-pub unserved_request : (connected : Connected) (at : ℕ) (kind : TransactionKind) → is_unserved_request kind ≡ true → refuse_request connected at kind ≡ tells connected (unserved request_unserved at (batch_done true))
-unserved_request connected at fields.Headers is = absurd (let no : false ≡ true = is in cc)
-unserved_request connected at fields.Cut is = absurd (let no : false ≡ true = is in cc)
-unserved_request connected at fields.Request is = refl
-unserved_request connected at fields.Level is = refl
-
-pub ended_request : (connected : Connected) (at : ℕ) (kind : TransactionKind) → is_unserved_request kind ≡ false → refuse_request connected at kind ≡ ends (BadTransaction at kind)
-ended_request connected at fields.Headers is = refl
-ended_request connected at fields.Cut is = refl
-ended_request connected at fields.Request is = absurd (let no : true ≡ false = is in cc)
-ended_request connected at fields.Level is = absurd (let no : true ≡ false = is in cc)

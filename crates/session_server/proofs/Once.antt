@@ -1,5 +1,6 @@
 -- A batch's tokens with one DONE at their end, and their bytes.
 use Rattle.std.proofs.Common.{◌≡◌, ℕ, ◌<◌, ◌&&◌, Bool, true, false, if◌then◌else◌, List, [], ◌∷◌, ◌++◌, length, Option, Some, None, refl, sym, ap, subst, ◌∙◌, append_assoc, arith}
+use Rattle.std.specs.Prelude.{IfNone}
 use Rattle.tds_tokens.specs.declared.columns.ColumnInfo.{ColumnInfo}
 use Rattle.tds_tokens.specs.declared.token.DoneKind.TheVariants.{Done}
 use Rattle.tds_tokens.specs.declared.token.Token.{Token}
@@ -23,6 +24,11 @@ unfolding ended_once
 once_short [] short = refl
 once_short (token ∷ []) short = refl
 once_short (first ∷ second ∷ rest) short = absurd (let no : ⊥ = omega (arith, short) in no)
+
+-- of what gives nothing, whatever it gave
+pub none_too : {A P : Type 0} (given : Option A) → P → IfNone given P
+none_too None holds = holds
+none_too (Some it) holds = tt
 
 module _ (tokens front : List Token) (first last : Token) (whole : tokens ≡ front ++ first ∷ last ∷ []) where
   -- one takes the place of the last two

@@ -48,12 +48,12 @@ pub record Bears (spid : ℕ) (response : Response) (prepared : PreparedResponse
 abbrev pub is_unserved_call : RpcKind → Bool
 is_unserved_call rpc_kind.Headers = false
 is_unserved_call rpc_kind.Cut = false
-is_unserved_call kind = true
+is_unserved_call other = true
 
 abbrev pub is_unserved_request : TransactionKind → Bool
 is_unserved_request transaction_kind.Headers = false
 is_unserved_request transaction_kind.Cut = false
-is_unserved_request kind = true
+is_unserved_request other = true
 
 -- a DONE
 abbrev pub IsDone : Token → Type 0

@@ -135,7 +135,7 @@ handle_batch connected payload (Some fault) = ends (BadBatch fault)
 abbrev pub refuse_call : Connected → ℕ → RpcKind → Handling
 refuse_call connected at rpc_kind.Headers = ends (BadRpc at rpc_kind.Headers)
 refuse_call connected at rpc_kind.Cut = ends (BadRpc at rpc_kind.Cut)
-refuse_call connected at kind = tells connected (unserved call_unserved at (rpc_done true))
+refuse_call connected at other = tells connected (unserved call_unserved at (rpc_done true))
 
 -- a call is run; elsewhere the first field that is refused ends the connection
 abbrev pub handle_rpc : Connected → Result RpcCall RpcFault → Handling
@@ -151,7 +151,7 @@ handle_attention connected = tells connected attention_tokens
 abbrev pub refuse_request : Connected → ℕ → TransactionKind → Handling
 refuse_request connected at transaction_kind.Headers = ends (BadTransaction at transaction_kind.Headers)
 refuse_request connected at transaction_kind.Cut = ends (BadTransaction at transaction_kind.Cut)
-refuse_request connected at kind = tells connected (unserved request_unserved at (batch_done true))
+refuse_request connected at other = tells connected (unserved request_unserved at (batch_done true))
 
 -- a transaction manager request is the batch of its text
 abbrev pub handle_request : Connected → Result (List ℕ) TransactionFault → Handling
