@@ -19,12 +19,10 @@ use Rattle.rpc_requests.specs.declared.call.RpcCall.{RpcCall}
 use Rattle.rpc_requests.specs.declared.fault.RpcFault.{RpcFault}
 use Rattle.rpc_requests.specs.declared.fault.RpcFault.TheVariants as rpc_fault
 use Rattle.rpc_requests.specs.declared.fault.RpcKind.{RpcKind}
-use Rattle.rpc_requests.specs.declared.fault.RpcKind.TheVariants as rpc_kind
 use Rattle.rpc_requests.specs.Reading.{rpc_of}
 use Rattle.transaction_requests.specs.declared.fault.TransactionFault.{TransactionFault}
 use Rattle.transaction_requests.specs.declared.fault.TransactionFault.TheVariants as transaction_fault
 use Rattle.transaction_requests.specs.declared.fault.TransactionKind.{TransactionKind}
-use Rattle.transaction_requests.specs.declared.fault.TransactionKind.TheVariants as transaction_kind
 use Rattle.transaction_requests.specs.Text.{managed}
 use Rattle.batch_meaning.specs.declared.form.ReadText.{ReadText}
 use Rattle.batch_meaning.specs.Rpc.{rpc}
@@ -40,7 +38,7 @@ use Rattle.session_server.specs.declared.end.End.{End}
 use Rattle.session_server.specs.Conversation.{Abandons, IsAsked, closed}
 use Rattle.session_server.specs.Ends.{Cause, no_message, by_message, unsent, unmade}
 use Rattle.session_server.specs.Response.{Response, ended_once, is_final, is_followed, unfollowed}
-use Rattle.session_server.specs.Talk.{AreRequests, Handling, IsReadAs, IsRequest, Request, Walk, batch_fault, batch_response, calls, connected_with, ends, first_walk, handle, handle_batch, handle_logged, handle_login, handle_prelogin, handle_request, handle_rpc, handle_verdict, handling_in, refuse_call, refuse_request, refuses, responds, response_to, rpc_response, runs, talk_of, walk_by, walk_of, walk_on, with_handling, with_message, with_request}
+use Rattle.session_server.specs.Talk.{AreRequests, Handling, IsReadAs, IsRequest, Request, Walk, batch_fault, batch_response, calls, connected_with, ends, first_walk, handle, handle_batch, handle_logged, handle_login, handle_prelogin, handle_request, handle_rpc, handle_verdict, handling_in, is_unserved_call, is_unserved_request, refuse_call, refuse_request, refuses, responds, response_to, rpc_response, runs, talk_of, walk_by, walk_of, walk_on, with_handling, with_message, with_request}
 use Rattle.sound_laws.proofs.Looked.{all_left}
 use Rattle.connection_laws.specs.Causes.{AreCaused, ConnectionCauses, HasCauses, ResponseTellsNone}
 use Rattle.connection_laws.proofs.Short.{GoesBy, IsLimited, IsReached, all_limited, first_reached, handled_goes}
@@ -89,9 +87,7 @@ module _ (error : LockError) where
     batch_other payload (Some fault) = tt
 
     call_refused : (at : ℕ) (kind : RpcKind) → HandlesOther (refuse_call (connected_with config size) at kind)
-    call_refused at rpc_kind.Headers = tt
-    call_refused at rpc_kind.Cut = tt
-    call_refused at _ = (usual_other error (pos 8016) refl, (tt, tt))
+    call_refused at kind = other_if (is_unserved_call kind) _ _ (usual_other error (pos 8016) refl, (tt, tt)) tt
 
     rpc_other : (read : Result RpcCall RpcFault) → HandlesOther (handle_rpc (connected_with config size) read)
     rpc_other (Ok call) = tt
@@ -99,9 +95,7 @@ module _ (error : LockError) where
     rpc_other (Err rpc_fault.Memory) = tt
 
     request_refused : (at : ℕ) (kind : TransactionKind) → HandlesOther (refuse_request (connected_with config size) at kind)
-    request_refused at transaction_kind.Headers = tt
-    request_refused at transaction_kind.Cut = tt
-    request_refused at _ = (usual_other error (pos 49014) refl, (tt, tt))
+    request_refused at kind = other_if (is_unserved_request kind) _ _ (usual_other error (pos 49014) refl, (tt, tt)) tt
 
     request_other : (read : Result (List ℕ) TransactionFault) → HandlesOther (handle_request (connected_with config size) read)
     request_other (Ok text) = tt

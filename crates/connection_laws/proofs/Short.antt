@@ -23,19 +23,17 @@ use Rattle.rpc_requests.specs.declared.call.RpcCall.{RpcCall}
 use Rattle.rpc_requests.specs.declared.fault.RpcFault.{RpcFault}
 use Rattle.rpc_requests.specs.declared.fault.RpcFault.TheVariants as rpc_fault
 use Rattle.rpc_requests.specs.declared.fault.RpcKind.{RpcKind}
-use Rattle.rpc_requests.specs.declared.fault.RpcKind.TheVariants as rpc_kind
 use Rattle.rpc_requests.specs.Reading.{rpc_of}
 use Rattle.transaction_requests.specs.declared.fault.TransactionFault.{TransactionFault}
 use Rattle.transaction_requests.specs.declared.fault.TransactionFault.TheVariants as transaction_fault
 use Rattle.transaction_requests.specs.declared.fault.TransactionKind.{TransactionKind}
-use Rattle.transaction_requests.specs.declared.fault.TransactionKind.TheVariants as transaction_kind
 use Rattle.transaction_requests.specs.Text.{managed}
 use Rattle.transaction_requests.proofs.Sizes.{managed_few}
 use Rattle.batch_meaning.specs.Rpc.{ReadsFor, rpc_text}
 use Rattle.batch_meaning.specs.declared.form.ReadText.{ReadText}
 use Rattle.session_server.specs.declared.end.BatchFault.{BatchFault}
 use Rattle.session_server.specs.declared.end.End.{End}
-use Rattle.session_server.specs.Talk.{Handling, responds, runs, calls, refuses, ends, connected_with, first_in, next_of, handle_prelogin, handle_verdict, handle_login, refuse_call, handle_rpc, refuse_request, handle_request, headers_length, batch_fault, text_of, handle_batch, handle_logged, handle, Walk, with_handling, walk_on, walk_by, with_message, first_walk, walk_of, Request, IsReadAs, IsRequest, handling_in, AreRequests}
+use Rattle.session_server.specs.Talk.{Handling, responds, runs, calls, refuses, ends, connected_with, first_in, next_of, handle_prelogin, handle_verdict, handle_login, refuse_call, handle_rpc, refuse_request, handle_request, headers_length, is_unserved_call, is_unserved_request, batch_fault, text_of, handle_batch, handle_logged, handle, Walk, with_handling, walk_on, walk_by, with_message, first_walk, walk_of, Request, IsReadAs, IsRequest, handling_in, AreRequests}
 use Rattle.sound_laws.specs.Runs.{Task, TaskReadsBack}
 use Rattle.text_laws.specs.Laws.{CallReadsBack, TextReadsBack}
 use Rattle.text_laws.proofs.Served.{served_call, served_text}
@@ -101,9 +99,7 @@ module _ (config : Config) (walk : Walk) where
     batch_goes payload limit (Some fault) = ends_goes _
 
     call_refused : (at : ℕ) (kind : RpcKind) → Goes (refuse_call (connected_with config size) at kind)
-    call_refused at rpc_kind.Headers = ends_goes _
-    call_refused at rpc_kind.Cut = ends_goes _
-    call_refused at _ = (tt, inr (inr (inl (size, refl))))
+    call_refused at kind = goes_if (is_unserved_call kind) _ _ (tt, inr (inr (inl (size, refl)))) (ends_goes _)
 
     rpc_goes : (payload : List ℕ) → length payload ≤ payload_limit → Goes (handle_rpc (connected_with config size) (rpc_of payload))
     rpc_goes payload limit = by_read (rpc_of payload) refl
@@ -114,9 +110,7 @@ module _ (config : Config) (walk : Walk) where
         by_read (Err rpc_fault.Memory) is = ends_goes _
 
     request_refused : (at : ℕ) (kind : TransactionKind) → Goes (refuse_request (connected_with config size) at kind)
-    request_refused at transaction_kind.Headers = ends_goes _
-    request_refused at transaction_kind.Cut = ends_goes _
-    request_refused at _ = (tt, inr (inr (inl (size, refl))))
+    request_refused at kind = goes_if (is_unserved_request kind) _ _ (tt, inr (inr (inl (size, refl)))) (ends_goes _)
 
     request_goes : (payload : List ℕ) → length payload ≤ payload_limit → Goes (handle_request (connected_with config size) (managed payload))
     request_goes payload limit = by_read (managed payload) refl

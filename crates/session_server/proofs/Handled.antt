@@ -13,7 +13,7 @@ use Rattle.session_server.specs.declared.prepared.PreparedResponse.{PreparedResp
 use Rattle.session_server.specs.declared.prepared.Channel.{Channel}
 use Rattle.batch_meaning.specs.Progress.{SessionProgress}
 use Rattle.session_server.specs.Parts.{Bears, Answers, HasResponse, MayWant, Says, IsHandled, IsUnasked}
-use Rattle.session_server.specs.Response.{Response, tabular}
+use Rattle.session_server.specs.Response.{Response, call_unserved, tabular, unserved}
 use Rattle.std.specs.Result.{IsErr}
 use Rattle.tds_login.specs.declared.config.Config.{Config}
 use Rattle.tds_login.specs.Prelogin.{prelogin_of}
@@ -26,12 +26,12 @@ use Rattle.session_server.specs.declared.message.ServerState.TheVariants.{Initia
 use Rattle.batch_meaning.specs.declared.form.ReadText.{ReadText}
 use Rattle.batch_meaning.specs.declared.form.ReadText.TheVariants.{Statements}
 use Rattle.batch_meaning.specs.Doing.{Did}
-use Rattle.session_server.specs.Talk.{Handling, responds, runs, calls, refuses, ends, IsReadAs, handle, handle_logged, handle_prelogin, handle_login, handle_rpc, handle_attention, handle_request, refuse_call, response_to}
+use Rattle.batch_meaning.specs.Tokens.{rpc_done}
+use Rattle.session_server.specs.Talk.{Handling, responds, runs, calls, refuses, ends, IsReadAs, handle, handle_logged, handle_prelogin, handle_login, handle_rpc, handle_attention, handle_request, is_unserved_call, refuse_call, response_to, tells}
 use Rattle.rpc_requests.specs.declared.call.RpcCall.{RpcCall}
 use Rattle.rpc_requests.specs.declared.fault.RpcFault.{RpcFault}
 use Rattle.rpc_requests.specs.declared.fault.RpcFault.TheVariants.{Bad}
 use Rattle.rpc_requests.specs.declared.fault.RpcKind.{RpcKind}
-use Rattle.rpc_requests.specs.declared.fault.RpcKind.TheVariants as kinds
 use Rattle.transaction_requests.specs.declared.fault.TransactionFault.{TransactionFault}
 use Rattle.rpc_requests.specs.Reading.{placed, rpc_of, whole_call}
 use Rattle.batch_meaning.proofs.Composed.{does_over}
@@ -103,14 +103,13 @@ by_read told P called refused (Err refusal) = refused refusal
 may_want_bad : (connected : Connected) (at : ℕ) (kind : RpcKind) → MayWant (handle_rpc connected (Err (Bad at kind)))
 may_want_bad connected at kind = by_drivers connected.drivers kind
   where
+    by_kind : (unserved_one : Bool) (why : RpcKind) → MayWant (if unserved_one then tells connected (unserved call_unserved at (rpc_done true)) else ends (BadRpc at why))
+    by_kind true why = tt
+    by_kind false why = tt
+
     by_drivers : (drivers : Bool) (why : RpcKind) → MayWant (if drivers then refuse_call connected at why else ends (BadRpc at why))
     by_drivers false why = tt
-    by_drivers true kinds.Headers = tt
-    by_drivers true kinds.Cut = tt
-    by_drivers true kinds.Procedure = tt
-    by_drivers true kinds.Kind = tt
-    by_drivers true kinds.Value = tt
-    by_drivers true kinds.Trailing = tt
+    by_drivers true why = by_kind (is_unserved_call why) why
 
 -- while a call is read, memory may be wanting whatever it is
 pub may_want_rpc : (connected : Connected) (payload : List ℕ) → MayWant (handle_rpc connected (rpc_of payload))

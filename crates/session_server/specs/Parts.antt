@@ -1,10 +1,6 @@
 -- Own: what the private parts of a connection give. No public clause cites this file.
-use Rattle.std.specs.Prelude.{◌≡◌, ◌⊎◌, ℕ, ◌+◌, Bool, true, false, IfOk, List, [], ◌∷◌, ◌++◌, length, Option, Result, Ok, Err}
+use Rattle.std.specs.Prelude.{◌≡◌, ◌⊎◌, ℕ, ◌+◌, IfOk, List, [], ◌∷◌, ◌++◌, length, Option, Result, Ok, Err}
 use Rattle.value_types.specs.declared.memory.Memory.{Memory}
-use Rattle.rpc_requests.specs.declared.fault.RpcKind.{RpcKind}
-use Rattle.rpc_requests.specs.declared.fault.RpcKind.TheVariants as rpc_kind
-use Rattle.transaction_requests.specs.declared.fault.TransactionKind.{TransactionKind}
-use Rattle.transaction_requests.specs.declared.fault.TransactionKind.TheVariants as transaction_kind
 use Rattle.tds_packets.specs.Header.{tabular_result}
 use Rattle.tds_packets.specs.Packets.{Packets, IsPacketSize, IsPartSent}
 use Rattle.tds_tokens.specs.declared.token.DoneKind.TheVariants.{Done}
@@ -43,17 +39,6 @@ IsSized state = Unit {0}
 pub record Bears (spid : ℕ) (response : Response) (prepared : PreparedResponse) : Type 0 where
   pub bytes : Packets tabular_result prepared.channel.spid prepared.channel.packet_size prepared.payload.items ≡ response_bytes spid response
   pub sized : IsPacketSize prepared.channel.packet_size
-
--- a call, or a transaction manager request, of which something is not served
-abbrev pub is_unserved_call : RpcKind → Bool
-is_unserved_call rpc_kind.Headers = false
-is_unserved_call rpc_kind.Cut = false
-is_unserved_call other = true
-
-abbrev pub is_unserved_request : TransactionKind → Bool
-is_unserved_request transaction_kind.Headers = false
-is_unserved_request transaction_kind.Cut = false
-is_unserved_request other = true
 
 -- a DONE
 abbrev pub IsDone : Token → Type 0

@@ -3,7 +3,7 @@
 -- leads, the message says alone; what is done for one that runs a batch or a call is said of what its
 -- text reads as. Responses depend on what the port answers, so the talk is what a session does; the code
 -- handles one message after another.
-use Rattle.std.specs.Prelude.{◌≡◌, ℕ, ℤ, pos, All, map, ◌-◌, ◌%◌, ◌==◌, ◌&&◌, ◌||◌, true, nat_lt, if◌then◌else◌, List, [], ◌∷◌, ◌++◌, fold, length, drop, Option, None, Some, Result, Ok, Err}
+use Rattle.std.specs.Prelude.{◌≡◌, ℕ, ℤ, pos, All, map, Bool, ◌-◌, ◌%◌, ◌==◌, ◌&&◌, ◌||◌, true, false, nat_lt, if◌then◌else◌, List, [], ◌∷◌, ◌++◌, fold, length, drop, Option, None, Some, Result, Ok, Err}
 use Rattle.std.specs.List.{flat_map}
 use Rattle.byteorder.specs.Endian.{little_number}
 use Rattle.value_types.specs.Units.{units_of}
@@ -131,11 +131,15 @@ abbrev pub handle_batch : Connected → List ℕ → Option BatchFault → Handl
 handle_batch connected payload None = runs connected (text_of payload)
 handle_batch connected payload (Some fault) = ends (BadBatch fault)
 
+-- it is a call, of which something is not served
+abbrev pub is_unserved_call : RpcKind → Bool
+is_unserved_call rpc_kind.Headers = false
+is_unserved_call rpc_kind.Cut = false
+is_unserved_call other = true
+
 -- where drivers are served (own): what is no call at all ends the connection, and what is not served of one is refused
 abbrev pub refuse_call : Connected → ℕ → RpcKind → Handling
-refuse_call connected at rpc_kind.Headers = ends (BadRpc at rpc_kind.Headers)
-refuse_call connected at rpc_kind.Cut = ends (BadRpc at rpc_kind.Cut)
-refuse_call connected at other = tells connected (unserved call_unserved at (rpc_done true))
+refuse_call connected at kind = if is_unserved_call kind then tells connected (unserved call_unserved at (rpc_done true)) else ends (BadRpc at kind)
 
 -- a call is run; elsewhere the first field that is refused ends the connection
 abbrev pub handle_rpc : Connected → Result RpcCall RpcFault → Handling
@@ -147,11 +151,16 @@ handle_rpc connected (Err rpc_fault.Memory) = ends Memory
 abbrev pub handle_attention : Connected → Handling
 handle_attention connected = tells connected attention_tokens
 
+-- it is a transaction manager request, of which something is not served
+abbrev pub is_unserved_request : TransactionKind → Bool
+is_unserved_request transaction_kind.Headers = false
+is_unserved_request transaction_kind.Cut = false
+is_unserved_request other = true
+
 -- what is no request at all ends the connection, and what is not served of one is refused (own)
 abbrev pub refuse_request : Connected → ℕ → TransactionKind → Handling
-refuse_request connected at transaction_kind.Headers = ends (BadTransaction at transaction_kind.Headers)
-refuse_request connected at transaction_kind.Cut = ends (BadTransaction at transaction_kind.Cut)
-refuse_request connected at other = tells connected (unserved request_unserved at (batch_done true))
+refuse_request connected at kind = if is_unserved_request kind then tells connected (unserved request_unserved at (batch_done true))
+    else ends (BadTransaction at kind)
 
 -- a transaction manager request is the batch of its text
 abbrev pub handle_request : Connected → Result (List ℕ) TransactionFault → Handling

@@ -1,9 +1,9 @@
 //! How a call by RPC is handled.
 
 ghost use Rattle.std.specs.Prelude.{◌≡◌, ◌<◌, ◌^◌, All, length, Err};
-ghost use Rattle.session_server.specs.Parts.{IsHandled, IsUnasked, is_unserved_call};
+ghost use Rattle.session_server.specs.Parts.{IsHandled, IsUnasked};
 ghost use Rattle.batch_meaning.specs.Progress.{Ready};
-ghost use Rattle.session_server.specs.Talk.{calls, handle_rpc};
+ghost use Rattle.session_server.specs.Talk.{is_unserved_call, calls, handle_rpc};
 ghost use Rattle.rpc_requests.specs.Fit.{IsParameter};
 ghost use Rattle.rpc_requests.specs.Reading.{rpc_of};
 ghost use Rattle.rpc_requests.specs.declared.fault.RpcFault.TheVariants.{Bad};

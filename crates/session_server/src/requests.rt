@@ -1,9 +1,9 @@
 //! How a transaction manager request is handled.
 
 ghost use Rattle.std.specs.Prelude.{◌≡◌, ◌<◌, ◌^◌, length};
-ghost use Rattle.session_server.specs.Parts.{IsHandled, IsUnasked, is_unserved_request};
+ghost use Rattle.session_server.specs.Parts.{IsHandled, IsUnasked};
 ghost use Rattle.batch_meaning.specs.Progress.{Ready};
-ghost use Rattle.session_server.specs.Talk.{handle_request, refuse_request};
+ghost use Rattle.session_server.specs.Talk.{handle_request, is_unserved_request, refuse_request};
 ghost use Rattle.transaction_requests.specs.Text.{managed};
 ghost use Rattle.tds_packets.specs.Packets.{IsPacketSize};
 
