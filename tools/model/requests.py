@@ -15,8 +15,9 @@ def called(name):
     return " [" + text.replace("]", "]]") + "]" if text else ""
 
 
-def new_text(new):
-    begins = "BEGIN TRANSACTION" + called(new.name)
+def new_text(new, guard=""):
+    """What begins; `guard` stands in front of its BEGIN."""
+    begins = guard + "BEGIN TRANSACTION" + called(new.name)
     return f"SET TRANSACTION ISOLATION LEVEL {LEVELS[new.level]}; IF @@ERROR = 0 {begins}" if new.level else begins
 
 
@@ -27,7 +28,7 @@ def text_of(request):
     if not request.new:
         return first
     guard = "IF @@TRANCOUNT > 0 " if request.what == "rollback" else ""
-    return f"{guard}{first}; {new_text(request.new)}"
+    return f"{guard}{first}; {new_text(request.new, 'IF @@TRANCOUNT = 0 ')}"
 
 
 def refused_at(request):

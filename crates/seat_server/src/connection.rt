@@ -21,7 +21,7 @@ use turn_desk::{Desk, Seat, law_within};
 ///
 /// One log of commits stands. Every byte written is what the messages mean, where each statement's answers are those of
 /// the database at its transaction's place in that log, or at what it fetched; each commit of a transaction stands once in the log;
-/// each keeps its database sound; and no transaction is left open.
+/// each keeps its database intact; and no transaction is left open.
 pub fn serve_connection<L: Line, R: Wait>(
     alloc: Global,
     rt: &R,

@@ -1,4 +1,5 @@
--- What a message is answered by ([MS-TDS] 2.2.7): options, or tokens, of which those of a batch or a call are its own.
+-- What a message is answered by ([MS-TDS] 2.2.7): options, or tokens, of which those of a call are its own, and
+-- those of a batch too, or with one DONE in the place of two.
 use Rattle.std.specs.Prelude.{ℕ, ℤ, pos, ◌-◌, ◌%◌, ◌==◌, ◌&&◌, Bool, false, if◌then◌else◌, List, [], ◌∷◌, Some}
 use Rattle.std.specs.Fmt.{decimal}
 use Rattle.tds_tokens.specs.Numbers.{done_final, done_more, done_error, done_attn, command_none}
@@ -61,7 +62,7 @@ ended_once (first ∷ second ∷ third ∷ rest) = first ∷ ended_once (second 
 -- ---- responses
 
 -- The options that answer every PRELOGIN ([MS-TDS] 2.2.6.5), or tokens in packets of a size: those of a login,
--- a batch, a call or an attention.
+-- a batch, a call or an attention, or of what is not served.
 pub data Response : Type 0 where
   options : Response
   tabular : ℕ → List Token → Response

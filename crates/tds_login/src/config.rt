@@ -20,6 +20,6 @@ pub struct Config {
     pub password: Units,
     /// How a connection begins.
     pub entry: Entry,
-    /// Whether what drivers send is served: transaction manager requests, calls that can't be read, one DONE at a batch's end.
+    /// Whether what drivers send is served: transaction manager requests, calls that are not served, which leave the connection, and one DONE at a batch's end.
     pub drivers: bool,
 }

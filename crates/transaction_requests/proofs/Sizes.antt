@@ -7,7 +7,7 @@ use Rattle.byteorder.specs.Endian.{little_number}
 use Rattle.value_types.specs.Units.{units_of}
 use Rattle.transaction_requests.specs.declared.fault.Refusal.{Refusal}
 use Rattle.transaction_requests.specs.Reading.{NewTransaction, TransactionRequest, begins, commits, rolls_back, saves, ◌>>=◌, anew_at, begin_xact, behind_headers, byte_at, bytes_at, commit_xact, end_at, is_anew, last_level, level_at, level_of, name_at, new_at, numbered_at, numbered_of, request_of, rollback_xact, save_xact, whole_at}
-use Rattle.transaction_requests.specs.Text.{anew_text, bracket, called, doubled, guard, if_set, level_text, level_words, managed, new_text, placed, set_level, text_of}
+use Rattle.transaction_requests.specs.Text.{anew_text, bracket, called, doubled, guard, if_closed, if_set, level_text, level_words, managed, new_text, next_text, placed, set_level, text_of}
 
 -- ---- what is read
 
@@ -161,10 +161,18 @@ new_few : (n : ℕ) (new : NewTransaction) → IsNew n new → length (new_text 
 unfolding new_text
 new_few n new is = omega (arith, around (level_text new.level) (codes "BEGIN TRANSACTION") (called new.name), level_few new.level, called_few n new.name is)
 
-anew_few : (n : ℕ) (anew : Option NewTransaction) → IsAnew n anew → length (anew_text anew) ≤ n + 92
+closed_few : length if_closed ≤ 19
+unfolding if_closed
+closed_few = omega arith
+
+next_few : (n : ℕ) (new : NewTransaction) → IsNew n new → length (next_text new) ≤ n + 109
+unfolding next_text
+next_few n new is = omega (arith, around (level_text new.level ++ if_closed) (codes "BEGIN TRANSACTION") (called new.name), length-append (level_text new.level) if_closed, level_few new.level, closed_few, called_few n new.name is)
+
+anew_few : (n : ℕ) (anew : Option NewTransaction) → IsAnew n anew → length (anew_text anew) ≤ n + 111
 unfolding anew_text
 anew_few n None is = omega arith
-anew_few n (Some new) is = omega (arith, length-append (codes "; ") (new_text new), new_few n new is)
+anew_few n (Some new) is = omega (arith, length-append (codes "; ") (next_text new), next_few n new is)
 
 guard_few : (anew : Option NewTransaction) → length (guard anew) ≤ 20
 unfolding guard

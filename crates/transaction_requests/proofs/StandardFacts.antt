@@ -6,7 +6,7 @@ use Rattle.transaction_requests.specs.declared.fault.TransactionFault.{Transacti
 use Rattle.transaction_requests.specs.declared.fault.TransactionFault.TheVariants.{Bad}
 use Rattle.transaction_requests.specs.declared.fault.TransactionKind.TheVariants as kinds
 use Rattle.transaction_requests.specs.Reading.{byte_at, bytes_at, whole_at, name_at, level_of, level_at, new_at, anew_at, end_at, numbered_of, numbered_at, behind_headers, request_of}
-use Rattle.transaction_requests.specs.Text.{level_words, called, set_level, if_set, level_text, new_text, anew_text, guard, text_of, managed}
+use Rattle.transaction_requests.specs.Text.{level_words, called, set_level, if_closed, if_set, level_text, new_text, next_text, anew_text, guard, text_of, managed}
 
 -- ALL_HEADERS with the descriptor of no transaction
 abbrev headers : List ℕ
@@ -20,8 +20,8 @@ abbrev texts : Facts
 texts =
     -- FreeTDS: begin, commit and begin, rollback and begin, rollback
     (5 ∷ 0 ∷ 0 ∷ 0 ∷ [], Ok (codes "BEGIN TRANSACTION"))
-    ∷ (7 ∷ 0 ∷ 0 ∷ 1 ∷ 0 ∷ 0 ∷ [], Ok (codes "COMMIT TRANSACTION; BEGIN TRANSACTION"))
-    ∷ (8 ∷ 0 ∷ 0 ∷ 1 ∷ 0 ∷ 0 ∷ [], Ok (codes "IF @@TRANCOUNT > 0 ROLLBACK TRANSACTION; BEGIN TRANSACTION"))
+    ∷ (7 ∷ 0 ∷ 0 ∷ 1 ∷ 0 ∷ 0 ∷ [], Ok (codes "COMMIT TRANSACTION; IF @@TRANCOUNT = 0 BEGIN TRANSACTION"))
+    ∷ (8 ∷ 0 ∷ 0 ∷ 1 ∷ 0 ∷ 0 ∷ [], Ok (codes "IF @@TRANCOUNT > 0 ROLLBACK TRANSACTION; IF @@TRANCOUNT = 0 BEGIN TRANSACTION"))
     ∷ (8 ∷ 0 ∷ 0 ∷ 0 ∷ [], Ok (codes "ROLLBACK TRANSACTION"))
     -- go-mssqldb: begin at a level, commit
     ∷ (5 ∷ 0 ∷ 4 ∷ 0 ∷ [], Ok (codes "SET TRANSACTION ISOLATION LEVEL SERIALIZABLE; IF @@ERROR = 0 BEGIN TRANSACTION"))
@@ -36,10 +36,10 @@ texts =
     ∷ (9 ∷ 0 ∷ 2 ∷ 0x73 ∷ 0 ∷ [], Ok (codes "SAVE TRANSACTION [s]"))
     ∷ (9 ∷ 0 ∷ 0 ∷ [], Ok (codes "SAVE TRANSACTION"))
     ∷ (8 ∷ 0 ∷ 2 ∷ 0x73 ∷ 0 ∷ 0 ∷ [], Ok (codes "ROLLBACK TRANSACTION [s]"))
-    ∷ (7 ∷ 0 ∷ 2 ∷ 0x61 ∷ 0 ∷ 1 ∷ 2 ∷ 2 ∷ 0x62 ∷ 0 ∷ [], Ok (codes "COMMIT TRANSACTION [a]; SET TRANSACTION ISOLATION LEVEL READ COMMITTED; IF @@ERROR = 0 BEGIN TRANSACTION [b]"))
+    ∷ (7 ∷ 0 ∷ 2 ∷ 0x61 ∷ 0 ∷ 1 ∷ 2 ∷ 2 ∷ 0x62 ∷ 0 ∷ [], Ok (codes "COMMIT TRANSACTION [a]; SET TRANSACTION ISOLATION LEVEL READ COMMITTED; IF @@ERROR = 0 IF @@TRANCOUNT = 0 BEGIN TRANSACTION [b]"))
     -- other bits of the flags, and bytes behind a request
     ∷ (7 ∷ 0 ∷ 0 ∷ 2 ∷ [], Ok (codes "COMMIT TRANSACTION"))
-    ∷ (7 ∷ 0 ∷ 0 ∷ 3 ∷ 0 ∷ 0 ∷ [], Ok (codes "COMMIT TRANSACTION; BEGIN TRANSACTION"))
+    ∷ (7 ∷ 0 ∷ 0 ∷ 3 ∷ 0 ∷ 0 ∷ [], Ok (codes "COMMIT TRANSACTION; IF @@TRANCOUNT = 0 BEGIN TRANSACTION"))
     ∷ (5 ∷ 0 ∷ 0 ∷ 0 ∷ 9 ∷ [], Ok (codes "BEGIN TRANSACTION"))
     ∷ []
 
@@ -69,11 +69,11 @@ abbrev AreManaged : Facts → Type 0
 AreManaged rows = map (λ (row : List ℕ × Result (List ℕ) TransactionFault). managed (headers ++ row.0)) rows ≡ map (λ (row : List ℕ × Result (List ℕ) TransactionFault). row.1) rows
 
 pub texts_are_managed : AreManaged texts
-unfolding byte_at bytes_at whole_at name_at level_of level_at new_at anew_at end_at numbered_of numbered_at behind_headers request_of level_words called set_level if_set level_text new_text anew_text guard text_of managed
+unfolding byte_at bytes_at whole_at name_at level_of level_at new_at anew_at end_at numbered_of numbered_at behind_headers request_of level_words called set_level if_closed if_set level_text new_text next_text anew_text guard text_of managed
 texts_are_managed = refl
 
 pub refusals_are_managed : AreManaged refusals
-unfolding byte_at bytes_at whole_at name_at level_of level_at new_at anew_at end_at numbered_of numbered_at behind_headers request_of level_words called set_level if_set level_text new_text anew_text guard text_of managed
+unfolding byte_at bytes_at whole_at name_at level_of level_at new_at anew_at end_at numbered_of numbered_at behind_headers request_of level_words called set_level if_closed if_set level_text new_text next_text anew_text guard text_of managed
 refusals_are_managed = refl
 
 -- headers that are cut, shorter than their length, or none
@@ -86,5 +86,5 @@ no_headers_are_managed = refl
 
 -- headers of no header
 pub short_headers : managed (4 ∷ 0 ∷ 0 ∷ 0 ∷ 5 ∷ 0 ∷ 0 ∷ 0 ∷ []) ≡ Ok (codes "BEGIN TRANSACTION")
-unfolding byte_at bytes_at whole_at name_at level_of level_at new_at anew_at end_at numbered_of numbered_at behind_headers request_of level_words called set_level if_set level_text new_text anew_text guard text_of managed
+unfolding byte_at bytes_at whole_at name_at level_of level_at new_at anew_at end_at numbered_of numbered_at behind_headers request_of level_words called set_level if_closed if_set level_text new_text next_text anew_text guard text_of managed
 short_headers = refl

@@ -45,10 +45,18 @@ level_text level = if level == 0 then [] else set_level ++ level_words level ++ 
 unfoldable pub new_text : NewTransaction → List ℕ
 new_text new = level_text new.level ++ codes "BEGIN TRANSACTION" ++ called new.name
 
--- what begins behind another, where something does
+-- in front of what begins behind another: none begins within one that is still open
+unfoldable pub if_closed : List ℕ
+if_closed = codes "IF @@TRANCOUNT = 0 "
+
+-- a transaction begins behind another
+unfoldable pub next_text : NewTransaction → List ℕ
+next_text new = level_text new.level ++ if_closed ++ codes "BEGIN TRANSACTION" ++ called new.name
+
+-- the same, where one does
 unfoldable pub anew_text : Option NewTransaction → List ℕ
 anew_text None = []
-anew_text (Some new) = codes "; " ++ new_text new
+anew_text (Some new) = codes "; " ++ next_text new
 
 -- in front of a rollback behind which something begins
 unfoldable pub guard : Option NewTransaction → List ℕ

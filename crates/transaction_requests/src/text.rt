@@ -3,7 +3,7 @@
 ghost use Rattle.std.specs.Prelude.{◌≡◌, ◌<◌, ◌^◌, ◌++◌, length, option_map, IfOk, OnOk};
 ghost use Rattle.std.specs.List.{flat_map};
 ghost use Rattle.value_types.specs.Units.{units_of};
-ghost use Rattle.transaction_requests.specs.Text.{Answers, anew_text, called, doubled, guard, if_set, level_text, level_words, managed, new_text, set_level, text_of};
+ghost use Rattle.transaction_requests.specs.Text.{Answers, anew_text, called, doubled, guard, if_closed, if_set, level_text, level_words, managed, new_text, next_text, set_level, text_of};
 ghost use Rattle.transaction_requests.specs.Fields.{seen, seen_new};
 
 use crate::fault::TransactionFault;
@@ -66,9 +66,19 @@ fn add_anew(alloc: Global, out: &mut Vec<u16>, anew: Option<NewFields<'_>>) -> R
         None => Ok(()),
         Some(new) => {
             add_ascii(out, "; ")?;
-            add_new(alloc, out, new)
+            add_next(alloc, out, new)
         }
     }
+}
+
+/// Appends that a transaction begins behind another.
+#[tactic(auto, unfolding(crate::specs::Text::next_text))]
+fn add_next(alloc: Global, out: &mut Vec<u16>, new: NewFields<'_>) -> Result<(), Memory>
+    ensures { OnOk result (out.new.items ≡ out.old.items ++ next_text (seen_new new.entry)) }
+{
+    add_level(out, new.level)?;
+    add_ascii(out, if_closed())?;
+    add_named(alloc, out, "BEGIN TRANSACTION", new.name)
 }
 
 /// Appends what stands in front of a rollback behind which something begins.
@@ -118,6 +128,14 @@ fn if_set() -> &'static str
     ensures { result.now ≡ if_set }
 {
     "; IF @@ERROR = 0 "
+}
+
+/// What stands in front of what begins behind another.
+#[tactic(auto, unfolding(crate::specs::Text::if_closed))]
+fn if_closed() -> &'static str
+    ensures { result.now ≡ if_closed }
+{
+    "IF @@TRANCOUNT = 0 "
 }
 
 /// A level above 0 in words.

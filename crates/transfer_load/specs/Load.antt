@@ -1,6 +1,6 @@
 -- Own: what a load does. It is said of the seats of a house before and behind it, and of the replies that came; the code serves one
 -- connection, then those of the workers at once, and then one more.
-use Rattle.std.specs.Prelude.{◌≡◌, ℕ, ◌+◌, ◌*◌, List, [], ◌∷◌, length, take, drop, Some}
+use Rattle.std.specs.Prelude.{◌≡◌, ℕ, ◌+◌, ◌*◌, List, [], ◌∷◌, false, length, take, drop, Some}
 use Rattle.std.specs.List.{AllByRecursion}
 use Rattle.outside_io.specs.Bytes.{Takes}
 use Rattle.outside_io.specs.Memory.{SourceState, told_given, told_left}
@@ -46,6 +46,7 @@ pub record Transferred (config : Config) (workers transfers : ℕ) (olds news : 
 pub record Loaded (workers transfers : ℕ) (olds news : List EngineSeat) (printed : List ℕ) : Type 0 where
   pub config : Config
   pub bare : config.entry ≡ Bare
+  pub plain : config.drivers ≡ false
   pub opened : List EngineSeat
   pub opening_written : List ℕ
   pub opening : ServesFirst (ServesBytes config (batches_bytes opening_texts) opening_written) olds opened

@@ -1,6 +1,6 @@
 //! The load.
 
-ghost use Rattle.std.specs.Prelude.{◌≡◌, ◌≤◌, ◌<◌, ◌++◌, ℕ, List, IfOk, OnErr, length, string_bytes};
+ghost use Rattle.std.specs.Prelude.{◌≡◌, ◌≤◌, ◌<◌, ◌++◌, ℕ, false, List, IfOk, OnErr, length, string_bytes};
 ghost use Rattle.seat_server.specs.House.{IsFull, ServesFirst};
 ghost use Rattle.tds_login.specs.declared.config.Entry.TheVariants.{Bare};
 ghost use Rattle.transfer_load.specs.Load.{Loaded, OnlyServes, ServesBytes};
@@ -75,7 +75,8 @@ fn run<R: Threads + Wait + Sync>(
 
 /// The configuration of clients that are logged in from the beginning.
 fn bare_config(alloc: Global) -> Config
-    ensures { result.entry ≡ Bare }
+    ensures bare { result.entry ≡ Bare }
+    ensures plain { result.drivers ≡ false }
 {
     Config {
         user: Units::new(alloc),

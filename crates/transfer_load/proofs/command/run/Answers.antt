@@ -18,7 +18,8 @@ returns-clause-loaded g c =
     let config = c.bare_config-config.result in
     record {
       config = config;
-      bare = c.bare_config-config.ensures;
+      bare = c.bare_config-config.ensures.bare;
+      plain = c.bare_config-config.ensures.plain;
       opened = c.serve_bytes.new.house.seats;
       opening_written = c.in_ok-serve_bytes.field-0.items;
       opening = subst (λ (s : List ℕ). ServesFirst (ServesBytes config s c.in_ok-serve_bytes.field-0.items) c.args.house.now.seats c.serve_bytes.new.house.seats) c.in_ok-opening_bytes.ensures c.in_ok-serve_bytes.ensures.served;
