@@ -25,7 +25,8 @@ use Rattle.batch_meaning.specs.Progress.{SessionProgress, first_progress}
 use Rattle.statement_paths.proofs.Apart.{held_apart}
 use Rattle.cause_laws.specs.Causes.{LockError, IsOther, NeverAnswered, is_answer}
 use Rattle.cause_laws.proofs.Causes.{batch_causes, call_causes}
-use Rattle.cause_laws.proofs.Clean.{all_both, all_front, usual_other}
+use Rattle.cause_laws.proofs.Clean.{all_both, all_front}
+use Rattle.cause_laws.proofs.Locks.{lock_usual}
 use Rattle.session_server.specs.declared.end.BatchFault.{BatchFault}
 use Rattle.session_server.specs.declared.end.End.{End}
 use Rattle.session_server.specs.Conversation.{Abandons, IsAsked, closed}
@@ -49,8 +50,8 @@ verdict_other error login config P granted refused = by_tests (has_credentials l
   where
     by_tests : (a b : Bool) → P (if a then if b then Ok (size_for login.packet_size) else Err unknown_database else Err login_failed)
     by_tests true true = granted (size_for login.packet_size)
-    by_tests true false = refused unknown_database (usual_other error (pos 49011) refl)
-    by_tests false b = refused login_failed (usual_other error (pos 18456) refl)
+    by_tests true false = refused unknown_database (lock_usual error (pos 49011) refl)
+    by_tests false b = refused login_failed (lock_usual error (pos 18456) refl)
 
 module _ (error : LockError) where
   -- ---- how messages are handled
@@ -71,7 +72,7 @@ module _ (error : LockError) where
 
   login_other : (config : Config) (read : Result Login LoginFault) → HandlesOther (handle_login config read)
   login_other config (Ok login) = verdict_other error login config (λ verdict. HandlesOther (handle_verdict verdict)) (λ size. (tt, (tt, (tt, (tt, (tt, tt)))))) (λ number other. (other, (tt, tt)))
-  login_other config (Err fault) = (usual_other error (pos 49010) refl, (tt, tt))
+  login_other config (Err fault) = (lock_usual error (pos 49010) refl, (tt, tt))
 
   batch_other : (size : ℕ) (payload : List ℕ) (fault : Option BatchFault) → HandlesOther (handle_batch size payload fault)
   batch_other size payload None = tt
