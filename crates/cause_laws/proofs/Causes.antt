@@ -57,7 +57,7 @@ use Rattle.batch_meaning.specs.Writes.{Written, change_bound, creates_definition
 use Rattle.cause_laws.specs.Causes as law
 use Rattle.cause_laws.specs.Causes.{BatchCauses, CallCauses, StatementCauses}
 use Rattle.cause_laws.proofs.UsualValues.{Anything, RefusedUsual, UsualOr, assigned_usual, call_usual, option_usual, read_usual}
-use Rattle.cause_laws.proofs.Watch.{CaughtBy, CaughtOther, Guard, IsOther, LeavesBy, LeavesOther, TellsNone, TellsOther, Watch}
+use Rattle.cause_laws.proofs.Watch.{CaughtBy, CaughtOther, Guard, IsOther, LeavesBy, LeavesOther, TellsBy, TellsNone, TellsOther, Watch}
 use Rattle.cause_laws.proofs.Locks.{caught_other, leaves_other, lock_watch, told_none}
 use Rattle.cause_laws.proofs.Clean.{Clean, OtherOr, clean_bind, clean_comes, clean_done, clean_ended, clean_enough, clean_if, clean_naming, clean_room, clean_then, held_clean, usual_other}
 use Rattle.cause_laws.proofs.CleanParts.{EffectOther, Effects, Plainly, RaisesOther, WrittenOther, clean_assigns, clean_binds, clean_bound, clean_call, clean_change, clean_closes, clean_composes, clean_drops, clean_enters, clean_leaves, clean_relaxes, clean_statuses, clean_tests, clean_works, messages_other}
@@ -555,6 +555,11 @@ module _ (error : Guard) where
         (clean_if error (LeavesOther error) (is_sql call.target) (runs_sql (λ inner at. mean_of statement_limit inner at) call read) (execs (λ inner at. mean_of statement_limit inner at) call (finds_named call (object_in read)))
         (clean_sql call read usual) (clean_execs call (finds_named call (object_in read)) (clean_named call (object_in read)))))
 
+-- what is read for a call is refused by a usual error, too
+pub called_usual : (units : Option (List ℕ)) (read : ReadText) → ReadsFor units read → RefusedUsual read
+called_usual None read is = subst RefusedUsual (sym is) tt
+called_usual (Some units) read is = read_usual units read is
+
 -- ---- the cycle
 
 -- A statement of so many levels, where at most so many are left: one that begins leaves one less.
@@ -572,17 +577,21 @@ module _ (watch : Watch) where
       by_left p at true is = clean_raises (at_left (suc levels)) around statement (raised_in around.procedure (line_of statement) (plain statements_spent)) (watch.spent (suc levels) p at is)
       by_left p at false is = (tt, clean_by (at_left levels) (λ inner at. mean_of levels inner at) (λ inner at so. clean_mean levels inner at so) around statement caught)
 
-  -- a text's statements, and a call, behind its beginning
-  pub clean_read_text : (read : ReadText) → RefusedUsual read → Exits (at_left statement_limit) (runs_text read)
-  clean_read_text read usual = clean_text (at_left statement_limit) (clean_mean statement_limit) read usual
+  -- ---- batches and calls, behind their beginning
 
-  pub clean_call_text : (call : RpcCall) (read : ReadText) → RefusedUsual read → Exits (at_left statement_limit) (runs_rpc (λ inner at. mean_of statement_limit inner at) call read)
-  clean_call_text call read usual = clean_rpc (at_left statement_limit) (clean_mean statement_limit) call read usual
+  pub clean_body_of : (read : ReadText) → RefusedUsual read → Exits (at_left statement_limit) (runs_text read)
+  clean_body_of read usual = clean_text (at_left statement_limit) (clean_mean statement_limit) read usual
 
--- what is read for a call is refused by a usual error, too
-pub called_usual : (units : Option (List ℕ)) (read : ReadText) → ReadsFor units read → RefusedUsual read
-called_usual None read is = subst RefusedUsual (sym is) tt
-called_usual (Some units) read is = read_usual units read is
+  pub clean_call_of : (call : RpcCall) (read : ReadText) → RefusedUsual read → Exits (at_left statement_limit) (runs_rpc (λ inner at. mean_of statement_limit inner at) call read)
+  clean_call_of call read usual = clean_rpc (at_left statement_limit) (clean_mean statement_limit) call read usual
+
+  -- with their end
+  pub clean_batch : ((failed : Bool) → TellsBy watch (batch_done failed)) → (read : ReadText) → RefusedUsual read → Plainly (at_left statement_limit) (runs_text read then ends)
+  clean_batch last read usual = clean_then (at_left statement_limit) (LeavesBy watch) Anything (runs_text read) ends (clean_body_of read usual) (λ exit other. clean_end (at_left statement_limit) last exit)
+
+  pub clean_whole_call : ((failed : Bool) → TellsBy watch (rpc_done failed)) → (call : RpcCall) (read : ReadText) → RefusedUsual read → Plainly (at_left statement_limit) (runs_rpc (λ inner at. mean_of statement_limit inner at) call read then ends_rpc)
+  clean_whole_call last call read usual = clean_then (at_left statement_limit) (LeavesBy watch) Anything (runs_rpc (λ inner at. mean_of statement_limit inner at) call read) ends_rpc (clean_call_of call read usual)
+      (λ exit other. clean_rpc_end (at_left statement_limit) last exit)
 
 -- ---- the laws
 
@@ -596,14 +605,12 @@ pub batch_causes : BatchCauses
 unfolding batch Held
 batch_causes error units read old new exchanges reads_so none held =
     let come = held_clean (lock_watch error) statement_limit {A = Unit {0}} Anything (runs_text read then ends) (made (begins (vars_in_text read)) old) new exchanges tt (λ enough. tt) (λ few q. tt)
-    (clean_then (at_left (lock_watch error) statement_limit) (LeavesBy (lock_watch error)) Anything (runs_text read) ends (clean_read_text (lock_watch error) read (read_usual units read reads_so))
-    (λ exit other. clean_end (at_left (lock_watch error) statement_limit) (λ failed. tt) exit)) none held in
+    (clean_batch (lock_watch error) (λ failed. tt) read (read_usual units read reads_so)) none held in
     subst (law.TellsNone error) (sym come.1.1) (told_none error come.1.0 come.1.2)
 
 pub call_causes : CallCauses
 unfolding rpc Held
 call_causes error call read old new exchanges reads_so none held =
     let come = held_clean (lock_watch error) statement_limit {A = Unit {0}} Anything (runs_rpc (λ inner at. mean_of statement_limit inner at) call read then ends_rpc) (made counts (made (begins (rpc_vars call)) old)) new exchanges tt (λ enough. tt) (λ few q. tt)
-    (clean_then (at_left (lock_watch error) statement_limit) (LeavesBy (lock_watch error)) Anything (runs_rpc (λ inner at. mean_of statement_limit inner at) call read) ends_rpc
-    (clean_call_text (lock_watch error) call read (called_usual (rpc_text call) read reads_so)) (λ exit other. clean_rpc_end (at_left (lock_watch error) statement_limit) (λ failed. tt) exit)) none held in
+    (clean_whole_call (lock_watch error) (λ failed. tt) call read (called_usual (rpc_text call) read reads_so)) none held in
     subst (law.TellsNone error) (sym come.1.1) (told_none error come.1.0 come.1.2)

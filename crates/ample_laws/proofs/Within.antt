@@ -1,0 +1,167 @@
+-- 49001 is looked for, where statements are left: a batch that begins counts down from what it may begin, and never up.
+use Rattle.std.proofs.Common.{◌≡◌, ◌≢◌, refl, sym, ap, ◌∙◌, subst, ℕ, zero, suc, ◌-◌, ℤ, pos, Bool, true, false, List, [], ◌∷◌, Option, None, Some, ◌==◌, nat_le}
+use Rattle.std.specs.Ordering.{int_eq}
+use Rattle.step_model.specs.Exchange.{Exchange}
+use Rattle.rpc_requests.specs.declared.call.RpcCall.{RpcCall}
+use Rattle.batch_meaning.specs.declared.raised.Raised.{Raised}
+use Rattle.batch_meaning.specs.Doing.{Doing, Held, over, reads, makes, defines, asks, room, never, ◌then◌}
+use Rattle.batch_meaning.specs.Meaning.{batch, ends, mean_of, runs_text, vars_in_text}
+use Rattle.batch_meaning.specs.Progress.{SessionProgress, SessionStep, asked, begins, counts, made, statement_limit}
+use Rattle.batch_meaning.specs.Rpc.{ends_rpc, rpc, rpc_text, rpc_vars, runs_rpc}
+use Rattle.cause_laws.proofs.Usual.{differs, no_spending}
+use Rattle.cause_laws.proofs.UsualValues.{Anything, read_usual}
+use Rattle.cause_laws.proofs.Watch.{CaughtBy, LeavesBy, Watch}
+use Rattle.cause_laws.proofs.Clean.{CleanAt, CleanStep, SendsNone, left_behind, sends_both, sends_nothing, sends_step}
+use Rattle.cause_laws.proofs.Causes.{called_usual, clean_batch, clean_mean, clean_whole_call}
+use Rattle.ample_laws.specs.Laws.{BatchesWithin, CallsWithin, StatementsWithin}
+use Rattle.ample_laws.specs.Telling.{IsNoLimit, TellsOnly}
+use Rattle.ample_laws.proofs.Amply.{caught_only, done_watch, leaves_only, tells_only}
+
+-- ---- counts
+
+abbrev AreLeft : ℕ → Type 0
+AreLeft n = (n == 0) ≡ false
+
+abbrev AtMost : ℕ → ℕ → Type 0
+AtMost most n = nat_le n most ≡ true
+
+some_of : (n : ℕ) → n ≢ 0 → AreLeft n
+some_of zero is = absurd (is refl)
+some_of (suc n) is = refl
+
+none_at_zero : (n : ℕ) → AreLeft n → AtMost 0 n → ⊥
+none_at_zero zero some most = absurd (let no : true ≡ false = some in cc)
+none_at_zero (suc n) some most = absurd (let no : false ≡ true = most in cc)
+
+le_refl : (n : ℕ) → AtMost n n
+le_refl zero = refl
+le_refl (suc n) = le_refl n
+
+le_suc : (n most : ℕ) → AtMost most n → AtMost (suc most) n
+le_suc zero most is = refl
+le_suc (suc n) zero is = absurd (let no : false ≡ true = is in cc)
+le_suc (suc n) (suc most) is = le_suc n most is
+
+le_trans : (a b c : ℕ) → AtMost b a → AtMost c b → AtMost c a
+le_trans zero b c one two = refl
+le_trans (suc a) zero c one two = absurd (let no : false ≡ true = one in cc)
+le_trans (suc a) (suc b) zero one two = absurd (let no : false ≡ true = two in cc)
+le_trans (suc a) (suc b) (suc c) one two = le_trans a b c one two
+
+le_fewer : (n most : ℕ) → AtMost (most - 1) n → AtMost most n
+le_fewer n zero is = is
+le_fewer n (suc most) is = le_suc n most is
+
+fewer_le : (n : ℕ) → AtMost n (n - 1)
+fewer_le zero = refl
+fewer_le (suc n) = le_suc n n (le_refl n)
+
+both_fewer : (n most : ℕ) → AtMost most n → AtMost (most - 1) (n - 1)
+both_fewer zero most is = refl
+both_fewer (suc n) zero is = absurd (let no : false ≡ true = is in cc)
+both_fewer (suc n) (suc most) is = is
+
+-- where some are left behind a moment, some are at it
+some_before : (n later : ℕ) → AtMost n later → AreLeft later → AreLeft n
+some_before zero later most some = absurd (none_at_zero later some most)
+some_before (suc n) later most some = refl
+
+-- ---- what is looked for
+
+limit_other : (number : ℤ) → int_eq number (pos 49001) ≡ false → IsNoLimit number
+limit_other number is = differs number (pos 49001) is
+
+abbrev limit_watch : Watch
+limit_watch = record {
+  Other = IsNoLimit;
+  Goes = λ status. Unit {0};
+  Says = λ reply. Unit {0};
+  May = λ enough. Unit {0};
+  At = λ left p. AreLeft p.statements_left × AtMost left p.statements_left;
+  usual = no_spending;
+  wants = λ may. limit_other (pos 701) refl;
+  lacks = λ may. tt;
+  memory = λ says. limit_other (pos 701) refl;
+  missing = λ says. limit_other (pos 701) refl;
+  victim = λ cycle says. limit_other (pos 1205) refl;
+  timed = λ holder held wanted on says. limit_other (pos 1222) refl;
+  spent = λ left p at none. absurd (let no : true ≡ false = sym none ∙ at.0 in cc);
+  none_left = λ p at. absurd (none_at_zero p.statements_left at.0 at.1);
+  fewer = λ left p at. (at.0, le_fewer p.statements_left left at.1);
+  more = tt;
+  counted = tt;
+  failed = tt;
+}
+
+-- nothing is asked
+abbrev free_watch : Watch
+free_watch = done_watch (λ status. Unit {0}) tt tt tt
+
+free_caught : (caught : Option Raised) → CaughtBy free_watch caught
+free_caught None = tt
+free_caught (Some raised) = tt
+
+-- ---- no statement more is left
+
+step_falls : (step : SessionStep) (p : SessionProgress) → CleanStep free_watch step → AtMost p.statements_left (made step p).statements_left
+step_falls (begins vars) p clean = absurd clean
+step_falls counts p clean = fewer_le p.statements_left
+step_falls step p clean = le_refl p.statements_left
+
+held_falls : (left : ℕ) {A : Type 0} (P : A → Type 0) (tree : Doing A) (p new : SessionProgress) (exchanges : List Exchange) (a : A) → CleanAt free_watch left P tree → Held tree p exchanges a new → AtMost p.statements_left new.statements_left
+unfolding Held
+held_falls left P (over c) p new exchanges a clean held = subst (λ (q : SessionProgress). AtMost p.statements_left q.statements_left) (sym held.2) (le_refl p.statements_left)
+held_falls left P (reads look) p new exchanges a clean held = held_falls left P (look p) p new exchanges a (clean p tt) held
+held_falls left P (makes step next) p new exchanges a clean held =
+    le_trans new.statements_left (made step p).statements_left p.statements_left (held_falls (left_behind step left) P next (made step p) new exchanges a clean.1 held) (step_falls step p clean.0)
+held_falls left P (defines entry go) p new exchanges a clean held = held_falls left P (go held.0) p new exchanges a (clean held.0) held.2
+held_falls left P (asks op go) p new [] a clean held = absurd held
+held_falls left P (asks op go) p new (x ∷ later) a clean held = held_falls left P (go x.reply) (asked op x.reply p) new later a (clean x.reply tt) held.3
+held_falls left P (room go) p new exchanges a clean held = held_falls left P (go held.0) p new exchanges a (clean held.0 tt) held.1
+held_falls left P never p new exchanges a clean held = absurd held
+
+-- ---- where some are left at the end
+
+step_within : (left : ℕ) (step : SessionStep) (p : SessionProgress) → CleanStep limit_watch step → AtMost left p.statements_left → AtMost (left_behind step left) (made step p).statements_left
+step_within left (begins vars) p clean most = absurd clean
+step_within left counts p clean most = both_fewer p.statements_left left most
+step_within left step p clean most = most
+
+held_within : (left : ℕ) {A : Type 0} (P Q : A → Type 0) (tree : Doing A) (p new : SessionProgress) (exchanges : List Exchange) (a : A) → CleanAt free_watch left Q tree → CleanAt limit_watch left P tree
+    → AtMost left p.statements_left → AreLeft new.statements_left → Held tree p exchanges a new → P a × SendsNone limit_watch p new
+unfolding Held
+held_within left P Q (over c) p new exchanges a free clean most some held = (subst P (sym held.1) clean, sends_nothing limit_watch p new (ap (λ (q : SessionProgress). q.tokens) held.2))
+held_within left P Q (reads look) p new exchanges a free clean most some held =
+    held_within left P Q (look p) p new exchanges a (free p tt) (clean p (some_before p.statements_left new.statements_left (held_falls left Q (look p) p new exchanges a (free p tt) held) some, most)) most some held
+held_within left P Q (makes step next) p new exchanges a free clean most some held =
+    let more = held_within (left_behind step left) P Q next (made step p) new exchanges a free.1 clean.1 (step_within left step p clean.0 most) some held in
+    (more.0, sends_both limit_watch p (made step p) new (sends_step limit_watch step p clean.0) more.1)
+held_within left P Q (defines entry go) p new exchanges a free clean most some held = held_within left P Q (go held.0) p new exchanges a (free held.0) (clean held.0) most some held.2
+held_within left P Q (asks op go) p new [] a free clean most some held = absurd held
+held_within left P Q (asks op go) p new (x ∷ later) a free clean most some held = held_within left P Q (go x.reply) (asked op x.reply p) new later a (free x.reply tt) (clean x.reply tt) most some held.3
+held_within left P Q (room go) p new exchanges a free clean most some held = held_within left P Q (go held.0) p new exchanges a (free held.0 tt) (clean held.0 tt) most some held.1
+held_within left P Q never p new exchanges a free clean most some held = absurd held
+
+-- ---- the laws
+
+pub statements_within : StatementsWithin
+statements_within levels around statement old new exchanges exit caught most some held =
+    let came = held_within levels (LeavesBy limit_watch) (LeavesBy free_watch) (mean_of levels statement around) old new exchanges exit
+    (clean_mean free_watch levels statement around (free_caught around.caught)) (clean_mean limit_watch levels statement around (caught_only limit_watch around.caught caught)) most (some_of new.statements_left some) held in
+    (leaves_only limit_watch exit came.0, (came.1.0, came.1.1, tells_only limit_watch came.1.0 came.1.2))
+
+pub batches_within : BatchesWithin
+unfolding batch Held
+batches_within text read old new exchanges reads_so some held =
+    let usual = read_usual text read reads_so in
+    let came = held_within statement_limit {A = Unit {0}} Anything Anything (runs_text read then ends) (made (begins (vars_in_text read)) old) new exchanges tt
+    (clean_batch free_watch (λ failed. tt) read usual) (clean_batch limit_watch (λ failed. tt) read usual) (le_refl statement_limit) (some_of new.statements_left some) held in
+    subst (TellsOnly IsNoLimit) (sym came.1.1) (tells_only limit_watch came.1.0 came.1.2)
+
+pub calls_within : CallsWithin
+unfolding rpc Held
+calls_within call read old new exchanges reads_so some held =
+    let usual = called_usual (rpc_text call) read reads_so in
+    let came = held_within statement_limit {A = Unit {0}} Anything Anything (runs_rpc (λ inner at. mean_of statement_limit inner at) call read then ends_rpc) (made counts (made (begins (rpc_vars call)) old)) new exchanges tt
+    (clean_whole_call free_watch (λ failed. tt) call read usual) (clean_whole_call limit_watch (λ failed. tt) call read usual) (fewer_le statement_limit) (some_of new.statements_left some) held in
+    subst (TellsOnly IsNoLimit) (sym came.1.1) (tells_only limit_watch came.1.0 came.1.2)
