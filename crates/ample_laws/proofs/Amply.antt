@@ -1,6 +1,6 @@
 -- What was done where memory was never wanting was done. And of a tree that tells no error which is looked for, where each question for room is answered by yes, what was
 -- done so has told none.
-use Rattle.std.proofs.Common.{◌≡◌, sym, ap, subst, ℕ, ◌+◌, ℤ, List, [], ◌∷◌, Option, Some, None, true}
+use Rattle.std.proofs.Common.{◌≡◌, refl, sym, ap, subst, ℕ, ◌+◌, ℤ, List, [], ◌∷◌, ◌++◌, Option, Some, None, true}
 use Rattle.std.specs.List.{AllByRecursion}
 use Rattle.step_model.specs.Exchange.{Exchange}
 use Rattle.tds_tokens.specs.Numbers.{done_more, done_error, done_count}
@@ -9,7 +9,7 @@ use Rattle.tds_tokens.specs.declared.token.Token.TheVariants.{Error}
 use Rattle.batch_meaning.specs.declared.exit.Exit.{Exit}
 use Rattle.batch_meaning.specs.declared.exit.Exit.TheVariants.{Raise, RaiseUp}
 use Rattle.batch_meaning.specs.declared.raised.Raised.{Raised}
-use Rattle.batch_meaning.specs.Doing.{Doing, over, reads, makes, defines, asks, room, never, Held}
+use Rattle.batch_meaning.specs.Doing.{Doing, over, reads, makes, defines, asks, room, never, ◌then◌, Held}
 use Rattle.batch_meaning.specs.Progress.{SessionProgress, asked, made}
 use Rattle.cause_laws.proofs.Watch.{CaughtBy, LeavesBy, SaysAll, TellsBy, Watch}
 use Rattle.cause_laws.proofs.Clean.{CleanAt, SendsNone, left_behind, sends_both, sends_nothing, sends_step}
@@ -28,6 +28,34 @@ ample_held (asks op go) p new [] a ample = absurd ample
 ample_held (asks op go) p new (x ∷ later) a ample = (ample.0, ample.1, ample.2, ample_held (go x.reply) (asked op x.reply p) new later a ample.3)
 ample_held (room go) p new exchanges a ample = (true, ample_held (go true) p new exchanges a ample)
 ample_held never p new exchanges a ample = absurd ample
+
+-- one tree behind another: the first came to something, and the rest did what is left
+pub record RunApart {A : Type 0} (exchanges : List Exchange) (First : List Exchange → A → SessionProgress → Type 0) (Rest : A → SessionProgress → List Exchange → Type 0) : Type 0 where
+  pub front : List Exchange
+  pub back : List Exchange
+  pub came : A
+  pub mid : SessionProgress
+  pub parts : exchanges ≡ front ++ back
+  pub first : First front came mid
+  pub rest : Rest came mid back
+
+pub ample_apart : {A B : Type 0} (tree : Doing A) (go : A → Doing B) (p new : SessionProgress) (exchanges : List Exchange) (b : B)
+    → Ample (tree then go) p exchanges b new → RunApart exchanges (λ front came mid. Ample tree p front came mid) (λ came mid back. Ample (go came) mid back b new)
+unfolding Ample ◌then◌
+ample_apart (over c) go p new exchanges b ample = record { front = []; back = exchanges; came = c; mid = p; parts = refl; first = (refl, refl, refl); rest = ample }
+ample_apart (reads look) go p new exchanges b ample =
+    let on = ample_apart (look p) go p new exchanges b ample in record { front = on.front; back = on.back; came = on.came; mid = on.mid; parts = on.parts; first = on.first; rest = on.rest }
+ample_apart (makes step next) go p new exchanges b ample =
+    let on = ample_apart next go (made step p) new exchanges b ample in record { front = on.front; back = on.back; came = on.came; mid = on.mid; parts = on.parts; first = on.first; rest = on.rest }
+ample_apart (defines entry next) go p new exchanges b ample =
+    let on = ample_apart (next ample.0) go p new exchanges b ample.2 in record { front = on.front; back = on.back; came = on.came; mid = on.mid; parts = on.parts; first = (ample.0, ample.1, on.first); rest = on.rest }
+ample_apart (asks op next) go p new [] b ample = absurd ample
+ample_apart (asks op next) go p new (x ∷ later) b ample =
+    let on = ample_apart (next x.reply) go (asked op x.reply p) new later b ample.3 in
+    record { front = x ∷ on.front; back = on.back; came = on.came; mid = on.mid; parts = ap (λ (l : List Exchange). x ∷ l) on.parts; first = (ample.0, ample.1, ample.2, on.first); rest = on.rest }
+ample_apart (room next) go p new exchanges b ample =
+    let on = ample_apart (next true) go p new exchanges b ample in record { front = on.front; back = on.back; came = on.came; mid = on.mid; parts = on.parts; first = on.first; rest = on.rest }
+ample_apart never go p new exchanges b ample = absurd ample
 
 -- ---- where nothing is asked of replies, of room and of counts
 

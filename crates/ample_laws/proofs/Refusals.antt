@@ -19,7 +19,7 @@ ample_is_held = (λ tree old new exchanges exit. ample_held tree old new exchang
 
 -- ---- what is looked for
 
-usual_none : (number : ℤ) → IsUsual number → IsNoRefusal number
+pub usual_none : (number : ℤ) → IsUsual number → IsNoRefusal number
 usual_none number usual = (no_want number usual, no_deadlock number usual, no_timeout number usual)
 
 limit_none : IsNoRefusal (pos 49001)
