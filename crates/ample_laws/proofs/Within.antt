@@ -1,5 +1,5 @@
 -- 49001 is looked for, where statements are left: a batch that begins counts down from what it may begin, and never up.
-use Rattle.std.proofs.Common.{◌≡◌, ◌≢◌, refl, sym, ap, ◌∙◌, subst, ℕ, zero, suc, ◌-◌, ℤ, pos, Bool, true, false, List, [], ◌∷◌, Option, None, Some, ◌==◌, nat_le}
+use Rattle.std.proofs.Common.{◌≡◌, ◌≢◌, refl, sym, ap, ◌∙◌, subst, ℕ, zero, suc, pred, ◌-◌, ℤ, pos, Bool, true, false, List, [], ◌∷◌, Option, None, Some, ◌==◌, nat_le}
 use Rattle.std.specs.Ordering.{int_eq}
 use Rattle.step_model.specs.Exchange.{Exchange}
 use Rattle.rpc_requests.specs.declared.call.RpcCall.{RpcCall}
@@ -48,18 +48,28 @@ le_trans (suc a) zero c one two = absurd (let no : false ≡ true = one in cc)
 le_trans (suc a) (suc b) zero one two = absurd (let no : false ≡ true = two in cc)
 le_trans (suc a) (suc b) (suc c) one two = le_trans a b c one two
 
-le_fewer : (n most : ℕ) → AtMost (most - 1) n → AtMost most n
+le_fewer : (n most : ℕ) → AtMost (pred most) n → AtMost most n
 le_fewer n zero is = is
 le_fewer n (suc most) is = le_suc n most is
 
-fewer_le : (n : ℕ) → AtMost n (n - 1)
-fewer_le zero = refl
-fewer_le (suc n) = le_suc n n (le_refl n)
+less_one : (n : ℕ) → n - 1 ≡ pred n
+less_one zero = refl
+less_one (suc n) = let less : suc n - 1 ≡ n = omega arith in less
 
-both_fewer : (n most : ℕ) → AtMost most n → AtMost (most - 1) (n - 1)
-both_fewer zero most is = refl
-both_fewer (suc n) zero is = absurd (let no : false ≡ true = is in cc)
-both_fewer (suc n) (suc most) is = is
+pred_le : (n : ℕ) → AtMost n (pred n)
+pred_le zero = refl
+pred_le (suc n) = le_suc n n (le_refl n)
+
+fewer_le : (n : ℕ) → AtMost n (n - 1)
+fewer_le n = subst (AtMost n) (sym (less_one n)) (pred_le n)
+
+both_pred : (n most : ℕ) → AtMost most n → AtMost (pred most) (pred n)
+both_pred zero most is = refl
+both_pred (suc n) zero is = absurd (let no : false ≡ true = is in cc)
+both_pred (suc n) (suc most) is = is
+
+both_fewer : (n most : ℕ) → AtMost most n → AtMost (pred most) (n - 1)
+both_fewer n most is = subst (AtMost (pred most)) (sym (less_one n)) (both_pred n most is)
 
 -- where some are left behind a moment, some are at it
 some_before : (n later : ℕ) → AtMost n later → AreLeft later → AreLeft n

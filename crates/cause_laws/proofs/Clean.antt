@@ -1,6 +1,6 @@
 -- Trees that tell no error that is looked for, and come to something of which a fact holds, whatever is replied, answered and left that may be. What was held of such a tree
 -- has sent none.
-use Rattle.std.proofs.Common.{◌≡◌, refl, sym, ap, ◌∙◌, subst, ℕ, ◌-◌, pos, List, [], ◌∷◌, ◌++◌, Option, Bool, true, false, Result, Ok, Err, if◌then◌else◌, append-nil, append_assoc, ℤ}
+use Rattle.std.proofs.Common.{◌≡◌, refl, sym, ap, ◌∙◌, subst, ℕ, pred, pos, List, [], ◌∷◌, ◌++◌, Option, Bool, true, false, Result, Ok, Err, if◌then◌else◌, append-nil, append_assoc, ℤ}
 use Rattle.std.specs.List.{AllByRecursion}
 use Rattle.tsql_tree.specs.declared.definition.Definition.{Definition}
 use Rattle.step_model.specs.declared.reply.Reply.{Reply}
@@ -54,7 +54,7 @@ CleanStep watch step = Unit {0}
 
 -- how many statements are left behind a step
 abbrev pub left_behind : SessionStep → ℕ → ℕ
-left_behind counts left = left - 1
+left_behind counts left = pred left
 left_behind step left = left
 
 abbrev pub CleanAt : Watch → ℕ → {A : Type 0} → (A → Type 0) → Doing A → Type 0
@@ -72,13 +72,13 @@ Clean error P tree = CleanAt error.watch error.left P tree
 
 -- ---- with fewer statements left
 
-clean_fewer : (watch : Watch) (left : ℕ) {A : Type 0} (P : A → Type 0) (tree : Doing A) → CleanAt watch left P tree → CleanAt watch (left - 1) P tree
+clean_fewer : (watch : Watch) (left : ℕ) {A : Type 0} (P : A → Type 0) (tree : Doing A) → CleanAt watch left P tree → CleanAt watch (pred left) P tree
 clean_fewer watch left P (over a) clean = clean
 clean_fewer watch left P (reads look) clean = λ p at. clean_fewer watch left P (look p) (clean p (watch.fewer left p at))
 clean_fewer watch left P (makes step next) clean = (clean.0, by_step step (λ few. clean_fewer watch few P next) clean.1)
   where
-    by_step : (step : SessionStep) → ((few : ℕ) → CleanAt watch few P next → CleanAt watch (few - 1) P next) → CleanAt watch (left_behind step left) P next → CleanAt watch (left_behind step (left - 1)) P next
-    by_step counts on is = on (left - 1) is
+    by_step : (step : SessionStep) → ((few : ℕ) → CleanAt watch few P next → CleanAt watch (pred few) P next) → CleanAt watch (left_behind step left) P next → CleanAt watch (left_behind step (pred left)) P next
+    by_step counts on is = on (pred left) is
     by_step step on is = on left is
 clean_fewer watch left P (defines entry go) clean = λ found. clean_fewer watch left P (go found) (clean found)
 clean_fewer watch left P (asks op go) clean = λ reply says. clean_fewer watch left P (go reply) (clean reply says)

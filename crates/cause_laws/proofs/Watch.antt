@@ -1,6 +1,6 @@
 -- What is looked for in the tokens of a session: which numbers an error may have, and which status the end of a statement, where replies, the answers to questions for
 -- room and the count of statements are such. The laws of causes look for the error of a lock; laws above look for other errors.
-use Rattle.std.proofs.Common.{◌≡◌, ℕ, ◌+◌, ◌-◌, ℤ, pos, List, Option, None, Some, Bool, true, false, ◌==◌}
+use Rattle.std.proofs.Common.{◌≡◌, ℕ, pred, ◌+◌, ℤ, pos, List, Option, None, Some, Bool, true, false, ◌==◌}
 use Rattle.std.specs.List.{AllByRecursion}
 use Rattle.lock_modes.specs.declared.Pair.{Pair}
 use Rattle.step_model.specs.declared.edge.Cycle.{Cycle}
@@ -38,7 +38,7 @@ pub record Watch : Type 1 where
   pub timed : (holder : ℕ) (held wanted : Pair) (on : Resource) → Says (replies.TimedOut holder held wanted on) → Other (pos lock_timeout)
   pub spent : (left : ℕ) (p : SessionProgress) → At left p → (p.statements_left == 0) ≡ true → Other (pos statements_spent)
   pub none_left : (p : SessionProgress) → At 0 p → Other (pos statements_spent)
-  pub fewer : (left : ℕ) (p : SessionProgress) → At (left - 1) p → At left p
+  pub fewer : (left : ℕ) (p : SessionProgress) → At (pred left) p → At left p
   pub more : Goes done_more
   pub counted : Goes (done_more + done_count)
   pub failed : Goes (done_more + done_error)
