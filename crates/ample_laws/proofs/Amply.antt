@@ -85,18 +85,18 @@ done_watch Goes more counted failed = record {
 -- ---- what a tree tells
 
 module _ (watch : Watch) where
-  pub ample_clean : (left : ℕ) {A : Type 0} (P : A → Type 0) (tree : Doing A) (p new : SessionProgress) (exchanges : List Exchange) (a : A) → watch.May true → ((few : ℕ) (q : SessionProgress) → watch.At few q)
-      → CleanAt watch left P tree → SaysAll watch exchanges → Ample tree p exchanges a new → P a × SendsNone watch p new
+  pub ample_clean : {A : Type 0} (P : A → Type 0) (left : ℕ) (tree : Doing A) (p new : SessionProgress) (exchanges : List Exchange) (a : A) → watch.May true → ((few : ℕ) (q : SessionProgress) → watch.At few q)
+      → CleanAt watch P left tree → SaysAll watch exchanges → Ample tree p exchanges a new → P a × SendsNone watch p new
   unfolding Ample
-  ample_clean left P (over c) p new exchanges a may at clean says ample = (subst P (sym ample.1) clean, sends_nothing watch p new (ap (λ (q : SessionProgress). q.tokens) ample.2))
-  ample_clean left P (reads look) p new exchanges a may at clean says ample = ample_clean left P (look p) p new exchanges a may at (clean p (at left p)) says ample
-  ample_clean left P (makes step next) p new exchanges a may at clean says ample =
-      let more = ample_clean (left_behind step left) P next (made step p) new exchanges a may at clean.1 says ample in (more.0, sends_both watch p (made step p) new (sends_step watch step p clean.0) more.1)
-  ample_clean left P (defines entry go) p new exchanges a may at clean says ample = ample_clean left P (go ample.0) p new exchanges a may at (clean ample.0) says ample.2
-  ample_clean left P (asks op go) p new [] a may at clean says ample = absurd ample
-  ample_clean left P (asks op go) p new (x ∷ later) a may at clean says ample = ample_clean left P (go x.reply) (asked op x.reply p) new later a may at (clean x.reply says.0) says.1 ample.3
-  ample_clean left P (room go) p new exchanges a may at clean says ample = ample_clean left P (go true) p new exchanges a may at (clean true may) says ample
-  ample_clean left P never p new exchanges a may at clean says ample = absurd ample
+  ample_clean P left (over c) p new exchanges a may at clean says ample = (subst P (sym ample.1) clean, sends_nothing watch p new (ap (λ (q : SessionProgress). q.tokens) ample.2))
+  ample_clean P left (reads look) p new exchanges a may at clean says ample = ample_clean P left (look p) p new exchanges a may at (clean p (at left p)) says ample
+  ample_clean P left (makes step next) p new exchanges a may at clean says ample =
+      let more = ample_clean P (left_behind step left) next (made step p) new exchanges a may at clean.1 says ample in (more.0, sends_both watch p (made step p) new (sends_step watch step p clean.0) more.1)
+  ample_clean P left (defines entry go) p new exchanges a may at clean says ample = ample_clean P left (go ample.0) p new exchanges a may at (clean ample.0) says ample.2
+  ample_clean P left (asks op go) p new [] a may at clean says ample = absurd ample
+  ample_clean P left (asks op go) p new (x ∷ later) a may at clean says ample = ample_clean P left (go x.reply) (asked op x.reply p) new later a may at (clean x.reply says.0) says.1 ample.3
+  ample_clean P left (room go) p new exchanges a may at clean says ample = ample_clean P left (go true) p new exchanges a may at (clean true may) says ample
+  ample_clean P left never p new exchanges a may at clean says ample = absurd ample
 
   -- ---- as the laws say it
 

@@ -46,9 +46,9 @@ more_follows (token ∷ tokens) all = (by_token token all.0, more_follows tokens
 abbrev SendsMore : SessionProgress → SessionProgress → Type 0
 SendsMore p new = (sent : List Token) × (new.tokens ≡ p.tokens ++ sent) × AllMore sent
 
-held_more : (left : ℕ) {A : Type 0} (P : A → Type 0) (tree : Doing A) (p new : SessionProgress) (exchanges : List Exchange) (a : A) → CleanAt end_watch left P tree → Held tree p exchanges a new → SendsMore p new
-held_more left P tree p new exchanges a clean held =
-    let came = held_clean end_watch left P tree p new exchanges a (λ enough. tt) (λ few q. tt) clean (any_says exchanges) held in
+held_more : {A : Type 0} (P : A → Type 0) (left : ℕ) (tree : Doing A) (p new : SessionProgress) (exchanges : List Exchange) (a : A) → CleanAt end_watch P left tree → Held tree p exchanges a new → SendsMore p new
+held_more P left tree p new exchanges a clean held =
+    let came = held_clean end_watch P left tree p new exchanges a (λ enough. tt) (λ few q. tt) clean (any_says exchanges) held in
     (came.1.0, came.1.1, more_follows came.1.0 came.1.2)
 
 -- ---- the end
@@ -66,7 +66,7 @@ module _ (last : Bool → Token) (p new : SessionProgress) (exchanges : List Exc
   doomed_ending held =
       let error = error_token (raised_at (pos 1) (plain doomed_at_end)) in
       let on = held_apart rolls_back_told (λ done. makes (sends (last true ∷ [])) (over tt)) (made (sends (error ∷ [])) p) new exchanges tt held in
-      let back = held_more 0 {A = Unit {0}} Anything rolls_back_told (made (sends (error ∷ [])) p) on.mid on.front on.came (clean_told (at_left end_watch 0)) on.held in
+      let back = held_more {A = Unit {0}} Anything 0 rolls_back_told (made (sends (error ∷ [])) p) on.mid on.front on.came (clean_told (at_left end_watch 0)) on.held in
       record {
         sent = error ∷ back.0;
         failed = true;
@@ -104,7 +104,7 @@ unfolding batch ends ends_doomed Held
 batches_end text read old new exchanges reads_so held =
     let begun = made (begins (vars_in_text read)) old in
     let on = held_apart (runs_text read) ends begun new exchanges tt held in
-    let first = held_more statement_limit (LeavesBy end_watch) (runs_text read) begun on.mid on.front on.came (clean_body_of end_watch read (read_usual text read reads_so)) on.held in
+    let first = held_more (LeavesBy end_watch) statement_limit (runs_text read) begun on.mid on.front on.came (clean_body_of end_watch read (read_usual text read reads_so)) on.held in
     ends_with batch_done begun on.mid new refl first (ending batch_done on.mid new on.back on.came on.rest)
 
 pub calls_end : CallsEnd
@@ -113,5 +113,5 @@ calls_end call read old new exchanges reads_so held =
     let begun = made counts (made (begins (rpc_vars call)) old) in
     let runs = runs_rpc (λ inner at. mean_of statement_limit inner at) call read in
     let on = held_apart runs ends_rpc begun new exchanges tt held in
-    let first = held_more statement_limit (LeavesBy end_watch) runs begun on.mid on.front on.came (clean_call_of end_watch call read (called_usual (rpc_text call) read reads_so)) on.held in
+    let first = held_more (LeavesBy end_watch) statement_limit runs begun on.mid on.front on.came (clean_call_of end_watch call read (called_usual (rpc_text call) read reads_so)) on.held in
     ends_with rpc_done begun on.mid new refl first (ending rpc_done on.mid new on.back on.came on.rest)

@@ -57,20 +57,20 @@ refusal_watch = record {
 
 pub ample_statements : AmpleStatements
 ample_statements levels around statement old new exchanges exit caught none ample =
-    let came = ample_clean refusal_watch levels (LeavesBy refusal_watch) (mean_of levels statement around) old new exchanges exit refl (λ few q. tt)
+    let came = ample_clean refusal_watch (LeavesBy refusal_watch) levels (mean_of levels statement around) old new exchanges exit refl (λ few q. tt)
     (clean_mean refusal_watch levels statement around (caught_only refusal_watch around.caught caught)) none ample in
     (leaves_only refusal_watch exit came.0, (came.1.0, came.1.1, tells_only refusal_watch came.1.0 came.1.2))
 
 pub ample_batches : AmpleBatches
 unfolding batch Ample
 ample_batches text read old new exchanges reads_so none ample =
-    let came = ample_clean refusal_watch statement_limit {A = Unit {0}} Anything (runs_text read then ends) (made (begins (vars_in_text read)) old) new exchanges tt refl (λ few q. tt)
+    let came = ample_clean refusal_watch {A = Unit {0}} Anything statement_limit (runs_text read then ends) (made (begins (vars_in_text read)) old) new exchanges tt refl (λ few q. tt)
     (clean_batch refusal_watch (λ failed. tt) read (read_usual text read reads_so)) none ample in
     subst (TellsOnly IsNoRefusal) (sym came.1.1) (tells_only refusal_watch came.1.0 came.1.2)
 
 pub ample_calls : AmpleCalls
 unfolding rpc Ample
 ample_calls call read old new exchanges reads_so none ample =
-    let came = ample_clean refusal_watch statement_limit {A = Unit {0}} Anything (runs_rpc (λ inner at. mean_of statement_limit inner at) call read then ends_rpc) (made counts (made (begins (rpc_vars call)) old)) new exchanges tt refl (λ few q. tt)
+    let came = ample_clean refusal_watch {A = Unit {0}} Anything statement_limit (runs_rpc (λ inner at. mean_of statement_limit inner at) call read then ends_rpc) (made counts (made (begins (rpc_vars call)) old)) new exchanges tt refl (λ few q. tt)
     (clean_whole_call refusal_watch (λ failed. tt) call read (called_usual (rpc_text call) read reads_so)) none ample in
     subst (TellsOnly IsNoRefusal) (sym came.1.1) (tells_only refusal_watch came.1.0 came.1.2)

@@ -118,17 +118,17 @@ step_falls (begins vars) p clean = absurd clean
 step_falls counts p clean = fewer_le p.statements_left
 step_falls step p clean = le_refl p.statements_left
 
-held_falls : (left : ℕ) {A : Type 0} (P : A → Type 0) (tree : Doing A) (p new : SessionProgress) (exchanges : List Exchange) (a : A) → CleanAt free_watch left P tree → Held tree p exchanges a new → AtMost p.statements_left new.statements_left
+held_falls : {A : Type 0} (P : A → Type 0) (left : ℕ) (tree : Doing A) (p new : SessionProgress) (exchanges : List Exchange) (a : A) → CleanAt free_watch P left tree → Held tree p exchanges a new → AtMost p.statements_left new.statements_left
 unfolding Held
-held_falls left P (over c) p new exchanges a clean held = subst (λ (q : SessionProgress). AtMost p.statements_left q.statements_left) (sym held.2) (le_refl p.statements_left)
-held_falls left P (reads look) p new exchanges a clean held = held_falls left P (look p) p new exchanges a (clean p tt) held
-held_falls left P (makes step next) p new exchanges a clean held =
-    le_trans new.statements_left (made step p).statements_left p.statements_left (held_falls (left_behind step left) P next (made step p) new exchanges a clean.1 held) (step_falls step p clean.0)
-held_falls left P (defines entry go) p new exchanges a clean held = held_falls left P (go held.0) p new exchanges a (clean held.0) held.2
-held_falls left P (asks op go) p new [] a clean held = absurd held
-held_falls left P (asks op go) p new (x ∷ later) a clean held = held_falls left P (go x.reply) (asked op x.reply p) new later a (clean x.reply tt) held.3
-held_falls left P (room go) p new exchanges a clean held = held_falls left P (go held.0) p new exchanges a (clean held.0 tt) held.1
-held_falls left P never p new exchanges a clean held = absurd held
+held_falls P left (over c) p new exchanges a clean held = subst (λ (q : SessionProgress). AtMost p.statements_left q.statements_left) (sym held.2) (le_refl p.statements_left)
+held_falls P left (reads look) p new exchanges a clean held = held_falls P left (look p) p new exchanges a (clean p tt) held
+held_falls P left (makes step next) p new exchanges a clean held =
+    le_trans new.statements_left (made step p).statements_left p.statements_left (held_falls P (left_behind step left) next (made step p) new exchanges a clean.1 held) (step_falls step p clean.0)
+held_falls P left (defines entry go) p new exchanges a clean held = held_falls P left (go held.0) p new exchanges a (clean held.0) held.2
+held_falls P left (asks op go) p new [] a clean held = absurd held
+held_falls P left (asks op go) p new (x ∷ later) a clean held = held_falls P left (go x.reply) (asked op x.reply p) new later a (clean x.reply tt) held.3
+held_falls P left (room go) p new exchanges a clean held = held_falls P left (go held.0) p new exchanges a (clean held.0 tt) held.1
+held_falls P left never p new exchanges a clean held = absurd held
 
 -- ---- where some are left at the end
 
@@ -137,26 +137,26 @@ step_within left (begins vars) p clean most = absurd clean
 step_within left counts p clean most = both_fewer p.statements_left left most
 step_within left step p clean most = most
 
-held_within : (left : ℕ) {A : Type 0} (P Q : A → Type 0) (tree : Doing A) (p new : SessionProgress) (exchanges : List Exchange) (a : A) → CleanAt free_watch left Q tree → CleanAt limit_watch left P tree
+held_within : {A : Type 0} (P Q : A → Type 0) (left : ℕ) (tree : Doing A) (p new : SessionProgress) (exchanges : List Exchange) (a : A) → CleanAt free_watch Q left tree → CleanAt limit_watch P left tree
     → AtMost left p.statements_left → AreLeft new.statements_left → Held tree p exchanges a new → P a × SendsNone limit_watch p new
 unfolding Held
-held_within left P Q (over c) p new exchanges a free clean most some held = (subst P (sym held.1) clean, sends_nothing limit_watch p new (ap (λ (q : SessionProgress). q.tokens) held.2))
-held_within left P Q (reads look) p new exchanges a free clean most some held =
-    held_within left P Q (look p) p new exchanges a (free p tt) (clean p (some_before p.statements_left new.statements_left (held_falls left Q (look p) p new exchanges a (free p tt) held) some, most)) most some held
-held_within left P Q (makes step next) p new exchanges a free clean most some held =
-    let more = held_within (left_behind step left) P Q next (made step p) new exchanges a free.1 clean.1 (step_within left step p clean.0 most) some held in
+held_within P Q left (over c) p new exchanges a free clean most some held = (subst P (sym held.1) clean, sends_nothing limit_watch p new (ap (λ (q : SessionProgress). q.tokens) held.2))
+held_within P Q left (reads look) p new exchanges a free clean most some held =
+    held_within P Q left (look p) p new exchanges a (free p tt) (clean p (some_before p.statements_left new.statements_left (held_falls Q left (look p) p new exchanges a (free p tt) held) some, most)) most some held
+held_within P Q left (makes step next) p new exchanges a free clean most some held =
+    let more = held_within P Q (left_behind step left) next (made step p) new exchanges a free.1 clean.1 (step_within left step p clean.0 most) some held in
     (more.0, sends_both limit_watch p (made step p) new (sends_step limit_watch step p clean.0) more.1)
-held_within left P Q (defines entry go) p new exchanges a free clean most some held = held_within left P Q (go held.0) p new exchanges a (free held.0) (clean held.0) most some held.2
-held_within left P Q (asks op go) p new [] a free clean most some held = absurd held
-held_within left P Q (asks op go) p new (x ∷ later) a free clean most some held = held_within left P Q (go x.reply) (asked op x.reply p) new later a (free x.reply tt) (clean x.reply tt) most some held.3
-held_within left P Q (room go) p new exchanges a free clean most some held = held_within left P Q (go held.0) p new exchanges a (free held.0 tt) (clean held.0 tt) most some held.1
-held_within left P Q never p new exchanges a free clean most some held = absurd held
+held_within P Q left (defines entry go) p new exchanges a free clean most some held = held_within P Q left (go held.0) p new exchanges a (free held.0) (clean held.0) most some held.2
+held_within P Q left (asks op go) p new [] a free clean most some held = absurd held
+held_within P Q left (asks op go) p new (x ∷ later) a free clean most some held = held_within P Q left (go x.reply) (asked op x.reply p) new later a (free x.reply tt) (clean x.reply tt) most some held.3
+held_within P Q left (room go) p new exchanges a free clean most some held = held_within P Q left (go held.0) p new exchanges a (free held.0 tt) (clean held.0 tt) most some held.1
+held_within P Q left never p new exchanges a free clean most some held = absurd held
 
 -- ---- the laws
 
 pub statements_within : StatementsWithin
 statements_within levels around statement old new exchanges exit caught most some held =
-    let came = held_within levels (LeavesBy limit_watch) (LeavesBy free_watch) (mean_of levels statement around) old new exchanges exit
+    let came = held_within (LeavesBy limit_watch) (LeavesBy free_watch) levels (mean_of levels statement around) old new exchanges exit
     (clean_mean free_watch levels statement around (free_caught around.caught)) (clean_mean limit_watch levels statement around (caught_only limit_watch around.caught caught)) most (some_of new.statements_left some) held in
     (leaves_only limit_watch exit came.0, (came.1.0, came.1.1, tells_only limit_watch came.1.0 came.1.2))
 
@@ -164,7 +164,7 @@ pub batches_within : BatchesWithin
 unfolding batch Held
 batches_within text read old new exchanges reads_so some held =
     let usual = read_usual text read reads_so in
-    let came = held_within statement_limit {A = Unit {0}} Anything Anything (runs_text read then ends) (made (begins (vars_in_text read)) old) new exchanges tt
+    let came = held_within {A = Unit {0}} Anything Anything statement_limit (runs_text read then ends) (made (begins (vars_in_text read)) old) new exchanges tt
     (clean_batch free_watch (λ failed. tt) read usual) (clean_batch limit_watch (λ failed. tt) read usual) (le_refl statement_limit) (some_of new.statements_left some) held in
     subst (TellsOnly IsNoLimit) (sym came.1.1) (tells_only limit_watch came.1.0 came.1.2)
 
@@ -172,6 +172,6 @@ pub calls_within : CallsWithin
 unfolding rpc Held
 calls_within call read old new exchanges reads_so some held =
     let usual = called_usual (rpc_text call) read reads_so in
-    let came = held_within statement_limit {A = Unit {0}} Anything Anything (runs_rpc (λ inner at. mean_of statement_limit inner at) call read then ends_rpc) (made counts (made (begins (rpc_vars call)) old)) new exchanges tt
+    let came = held_within {A = Unit {0}} Anything Anything statement_limit (runs_rpc (λ inner at. mean_of statement_limit inner at) call read then ends_rpc) (made counts (made (begins (rpc_vars call)) old)) new exchanges tt
     (clean_whole_call free_watch (λ failed. tt) call read usual) (clean_whole_call limit_watch (λ failed. tt) call read usual) (fewer_le statement_limit) (some_of new.statements_left some) held in
     subst (TellsOnly IsNoLimit) (sym came.1.1) (tells_only limit_watch came.1.0 came.1.2)

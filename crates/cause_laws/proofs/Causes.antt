@@ -570,12 +570,12 @@ module _ (watch : Watch) where
   pub clean_mean : (levels : ℕ) (statement : Statement) (around : Around) → CaughtBy watch around.caught → Exits (at_left levels) (mean_of levels statement around)
   unfolding mean_of raises_at
   clean_mean zero statement around caught = λ p at. clean_raises (at_left 0) around statement (raised_in around.procedure (line_of statement) (plain statements_spent)) (watch.none_left p at) p at
-  clean_mean (suc levels) statement around caught = λ p at. by_left p at (p.statements_left == 0) refl
+  clean_mean (suc levels) statement around caught = λ p at. by_left (λ inner so is. clean_mean levels inner so is) p at (p.statements_left == 0) refl
     where
-      by_left : (p : SessionProgress) → watch.At (suc levels) p → (none : Bool) → (p.statements_left == 0) ≡ none
+      by_left : ((inner : Statement) (so : Around) → CaughtBy watch so.caught → Exits (at_left levels) (mean_of levels inner so)) → (p : SessionProgress) → watch.At (suc levels) p → (none : Bool) → (p.statements_left == 0) ≡ none
           → Clean (at_left (suc levels)) (LeavesBy watch) (if none then spends statement around else makes counts (mean_by (λ inner at. mean_of levels inner at) statement around))
-      by_left p at true is = clean_raises (at_left (suc levels)) around statement (raised_in around.procedure (line_of statement) (plain statements_spent)) (watch.spent (suc levels) p at is)
-      by_left p at false is = (tt, clean_by (at_left levels) (λ inner at. mean_of levels inner at) (λ inner at so. clean_mean levels inner at so) around statement caught)
+      by_left each p at true is = clean_raises (at_left (suc levels)) around statement (raised_in around.procedure (line_of statement) (plain statements_spent)) (watch.spent (suc levels) p at is)
+      by_left each p at false is = (tt, clean_by (at_left levels) (λ inner at. mean_of levels inner at) each around statement caught)
 
   -- ---- batches and calls, behind their beginning
 
@@ -597,20 +597,20 @@ module _ (watch : Watch) where
 
 pub statement_causes : StatementCauses
 statement_causes error levels around statement old new exchanges exit caught none held =
-    let came = held_clean (lock_watch error) levels (LeavesBy (lock_watch error)) (mean_of levels statement around) old new exchanges exit (λ enough. tt) (λ few q. tt)
+    let came = held_clean (lock_watch error) (LeavesBy (lock_watch error)) levels (mean_of levels statement around) old new exchanges exit (λ enough. tt) (λ few q. tt)
     (clean_mean (lock_watch error) levels statement around (caught_other error around.caught caught)) none held in
     (leaves_other error exit came.0, (came.1.0, came.1.1, told_none error came.1.0 came.1.2))
 
 pub batch_causes : BatchCauses
 unfolding batch Held
 batch_causes error units read old new exchanges reads_so none held =
-    let come = held_clean (lock_watch error) statement_limit {A = Unit {0}} Anything (runs_text read then ends) (made (begins (vars_in_text read)) old) new exchanges tt (λ enough. tt) (λ few q. tt)
+    let come = held_clean (lock_watch error) {A = Unit {0}} Anything statement_limit (runs_text read then ends) (made (begins (vars_in_text read)) old) new exchanges tt (λ enough. tt) (λ few q. tt)
     (clean_batch (lock_watch error) (λ failed. tt) read (read_usual units read reads_so)) none held in
     subst (law.TellsNone error) (sym come.1.1) (told_none error come.1.0 come.1.2)
 
 pub call_causes : CallCauses
 unfolding rpc Held
 call_causes error call read old new exchanges reads_so none held =
-    let come = held_clean (lock_watch error) statement_limit {A = Unit {0}} Anything (runs_rpc (λ inner at. mean_of statement_limit inner at) call read then ends_rpc) (made counts (made (begins (rpc_vars call)) old)) new exchanges tt (λ enough. tt) (λ few q. tt)
+    let come = held_clean (lock_watch error) {A = Unit {0}} Anything statement_limit (runs_rpc (λ inner at. mean_of statement_limit inner at) call read then ends_rpc) (made counts (made (begins (rpc_vars call)) old)) new exchanges tt (λ enough. tt) (λ few q. tt)
     (clean_whole_call (lock_watch error) (λ failed. tt) call read (called_usual (rpc_text call) read reads_so)) none held in
     subst (law.TellsNone error) (sym come.1.1) (told_none error come.1.0 come.1.2)

@@ -57,37 +57,37 @@ abbrev pub left_behind : SessionStep → ℕ → ℕ
 left_behind counts left = pred left
 left_behind step left = left
 
-abbrev pub CleanAt : Watch → ℕ → {A : Type 0} → (A → Type 0) → Doing A → Type 0
-CleanAt watch left P (over a) = P a
-CleanAt watch left P (reads look) = (p : SessionProgress) → watch.At left p → CleanAt watch left P (look p)
-CleanAt watch left P (makes step next) = CleanStep watch step × CleanAt watch (left_behind step left) P next
-CleanAt watch left P (defines entry go) = (found : Option Definition) → CleanAt watch left P (go found)
-CleanAt watch left P (asks op go) = (reply : Reply) → watch.Says reply → CleanAt watch left P (go reply)
-CleanAt watch left P (room go) = (enough : Bool) → watch.May enough → CleanAt watch left P (go enough)
-CleanAt watch left P never = Unit {0}
+abbrev pub CleanAt : Watch → {A : Type 0} → (A → Type 0) → ℕ → Doing A → Type 0
+CleanAt watch P left (over a) = P a
+CleanAt watch P left (reads look) = (p : SessionProgress) → watch.At left p → CleanAt watch P left (look p)
+CleanAt watch P left (makes step next) = CleanStep watch step × CleanAt watch P (left_behind step left) next
+CleanAt watch P left (defines entry go) = (found : Option Definition) → CleanAt watch P left (go found)
+CleanAt watch P left (asks op go) = (reply : Reply) → watch.Says reply → CleanAt watch P left (go reply)
+CleanAt watch P left (room go) = (enough : Bool) → watch.May enough → CleanAt watch P left (go enough)
+CleanAt watch P left never = Unit {0}
 
 -- the same, at a place
 abbrev pub Clean : Guard → {A : Type 0} → (A → Type 0) → Doing A → Type 0
-Clean error P tree = CleanAt error.watch error.left P tree
+Clean error P tree = CleanAt error.watch P error.left tree
 
 -- ---- with fewer statements left
 
-clean_fewer : (watch : Watch) (left : ℕ) {A : Type 0} (P : A → Type 0) (tree : Doing A) → CleanAt watch left P tree → CleanAt watch (pred left) P tree
-clean_fewer watch left P (over a) clean = clean
-clean_fewer watch left P (reads look) clean = λ p at. clean_fewer watch left P (look p) (clean p (watch.fewer left p at))
-clean_fewer watch left P (makes step next) clean = (clean.0, by_step step (λ few. clean_fewer watch few P next) clean.1)
+clean_fewer : (watch : Watch) {A : Type 0} (P : A → Type 0) (left : ℕ) (tree : Doing A) → CleanAt watch P left tree → CleanAt watch P (pred left) tree
+clean_fewer watch P left (over a) clean = clean
+clean_fewer watch P left (reads look) clean = λ p at. clean_fewer watch P left (look p) (clean p (watch.fewer left p at))
+clean_fewer watch P left (makes step next) clean = (clean.0, by_step step (λ few. clean_fewer watch P few next) clean.1)
   where
-    by_step : (step : SessionStep) → ((few : ℕ) → CleanAt watch few P next → CleanAt watch (pred few) P next) → CleanAt watch (left_behind step left) P next → CleanAt watch (left_behind step (pred left)) P next
+    by_step : (step : SessionStep) → ((few : ℕ) → CleanAt watch P few next → CleanAt watch P (pred few) next) → CleanAt watch P (left_behind step left) next → CleanAt watch P (left_behind step (pred left)) next
     by_step counts on is = on (pred left) is
     by_step step on is = on left is
-clean_fewer watch left P (defines entry go) clean = λ found. clean_fewer watch left P (go found) (clean found)
-clean_fewer watch left P (asks op go) clean = λ reply says. clean_fewer watch left P (go reply) (clean reply says)
-clean_fewer watch left P (room go) clean = λ enough may. clean_fewer watch left P (go enough) (clean enough may)
-clean_fewer watch left P never clean = tt
+clean_fewer watch P left (defines entry go) clean = λ found. clean_fewer watch P left (go found) (clean found)
+clean_fewer watch P left (asks op go) clean = λ reply says. clean_fewer watch P left (go reply) (clean reply says)
+clean_fewer watch P left (room go) clean = λ enough may. clean_fewer watch P left (go enough) (clean enough may)
+clean_fewer watch P left never clean = tt
 
-clean_behind : (watch : Watch) (left : ℕ) {A : Type 0} (P : A → Type 0) (tree : Doing A) (step : SessionStep) → CleanAt watch left P tree → CleanAt watch (left_behind step left) P tree
-clean_behind watch left P tree counts clean = clean_fewer watch left P tree clean
-clean_behind watch left P tree step clean = clean
+clean_behind : (watch : Watch) {A : Type 0} (P : A → Type 0) (left : ℕ) (tree : Doing A) (step : SessionStep) → CleanAt watch P left tree → CleanAt watch P (left_behind step left) tree
+clean_behind watch P left tree counts clean = clean_fewer watch P left tree clean
+clean_behind watch P left tree step clean = clean
 
 -- ---- what was sent
 
@@ -108,35 +108,35 @@ module _ (watch : Watch) where
   sends_both p mid new one two = (one.0 ++ two.0, two.1 ∙ ap (λ (l : List Token). l ++ two.0) one.1 ∙ append_assoc p.tokens one.0 two.0, all_both (TellsBy watch) one.0 two.0 one.2 two.2)
 
   -- where each answer to a question for room may be, and however far the session has come
-  pub held_clean : (left : ℕ) {A : Type 0} (P : A → Type 0) (tree : Doing A) (p new : SessionProgress) (exchanges : List Exchange) (a : A) → ((enough : Bool) → watch.May enough) → ((few : ℕ) (q : SessionProgress) → watch.At few q)
-      → CleanAt watch left P tree → SaysAll watch exchanges → Held tree p exchanges a new → P a × SendsNone watch p new
+  pub held_clean : {A : Type 0} (P : A → Type 0) (left : ℕ) (tree : Doing A) (p new : SessionProgress) (exchanges : List Exchange) (a : A) → ((enough : Bool) → watch.May enough) → ((few : ℕ) (q : SessionProgress) → watch.At few q)
+      → CleanAt watch P left tree → SaysAll watch exchanges → Held tree p exchanges a new → P a × SendsNone watch p new
   unfolding Held
-  held_clean left P (over c) p new exchanges a may at clean says held = (subst P (sym held.1) clean, sends_nothing p new (ap (λ (q : SessionProgress). q.tokens) held.2))
-  held_clean left P (reads look) p new exchanges a may at clean says held = held_clean left P (look p) p new exchanges a may at (clean p (at left p)) says held
-  held_clean left P (makes step next) p new exchanges a may at clean says held =
-      let more = held_clean (left_behind step left) P next (made step p) new exchanges a may at clean.1 says held in (more.0, sends_both p (made step p) new (sends_step step p clean.0) more.1)
-  held_clean left P (defines entry go) p new exchanges a may at clean says held = held_clean left P (go held.0) p new exchanges a may at (clean held.0) says held.2
-  held_clean left P (asks op go) p new [] a may at clean says held = absurd held
-  held_clean left P (asks op go) p new (x ∷ later) a may at clean says held = held_clean left P (go x.reply) (asked op x.reply p) new later a may at (clean x.reply says.0) says.1 held.3
-  held_clean left P (room go) p new exchanges a may at clean says held = held_clean left P (go held.0) p new exchanges a may at (clean held.0 (may held.0)) says held.1
-  held_clean left P never p new exchanges a may at clean says held = absurd held
+  held_clean P left (over c) p new exchanges a may at clean says held = (subst P (sym held.1) clean, sends_nothing p new (ap (λ (q : SessionProgress). q.tokens) held.2))
+  held_clean P left (reads look) p new exchanges a may at clean says held = held_clean P left (look p) p new exchanges a may at (clean p (at left p)) says held
+  held_clean P left (makes step next) p new exchanges a may at clean says held =
+      let more = held_clean P (left_behind step left) next (made step p) new exchanges a may at clean.1 says held in (more.0, sends_both p (made step p) new (sends_step step p clean.0) more.1)
+  held_clean P left (defines entry go) p new exchanges a may at clean says held = held_clean P left (go held.0) p new exchanges a may at (clean held.0) says held.2
+  held_clean P left (asks op go) p new [] a may at clean says held = absurd held
+  held_clean P left (asks op go) p new (x ∷ later) a may at clean says held = held_clean P left (go x.reply) (asked op x.reply p) new later a may at (clean x.reply says.0) says.1 held.3
+  held_clean P left (room go) p new exchanges a may at clean says held = held_clean P left (go held.0) p new exchanges a may at (clean held.0 (may held.0)) says held.1
+  held_clean P left never p new exchanges a may at clean says held = absurd held
 
 -- ---- one tree behind another
 
-then_at : (watch : Watch) (left : ℕ) {A B : Type 0} (P : A → Type 0) (Q : B → Type 0) (tree : Doing A) (go : A → Doing B) → CleanAt watch left P tree → ((a : A) → P a → CleanAt watch left Q (go a)) → CleanAt watch left Q (tree then go)
+then_at : (watch : Watch) {A B : Type 0} (P : A → Type 0) (Q : B → Type 0) (left : ℕ) (tree : Doing A) (go : A → Doing B) → CleanAt watch P left tree → ((a : A) → P a → CleanAt watch Q left (go a)) → CleanAt watch Q left (tree then go)
 unfolding ◌then◌
-then_at watch left P Q (over a) go clean more = more a clean
-then_at watch left P Q (reads look) go clean more = λ p at. then_at watch left P Q (look p) go (clean p at) more
-then_at watch left P Q (makes step next) go clean more =
-    (clean.0, then_at watch (left_behind step left) P Q next go clean.1 (λ a fine. clean_behind watch left Q (go a) step (more a fine)))
-then_at watch left P Q (defines entry next) go clean more = λ found. then_at watch left P Q (next found) go (clean found) more
-then_at watch left P Q (asks op next) go clean more = λ reply says. then_at watch left P Q (next reply) go (clean reply says) more
-then_at watch left P Q (room next) go clean more = λ enough may. then_at watch left P Q (next enough) go (clean enough may) more
-then_at watch left P Q never go clean more = tt
+then_at watch P Q left (over a) go clean more = more a clean
+then_at watch P Q left (reads look) go clean more = λ p at. then_at watch P Q left (look p) go (clean p at) more
+then_at watch P Q left (makes step next) go clean more =
+    (clean.0, then_at watch P Q (left_behind step left) next go clean.1 (λ a fine. clean_behind watch Q left (go a) step (more a fine)))
+then_at watch P Q left (defines entry next) go clean more = λ found. then_at watch P Q left (next found) go (clean found) more
+then_at watch P Q left (asks op next) go clean more = λ reply says. then_at watch P Q left (next reply) go (clean reply says) more
+then_at watch P Q left (room next) go clean more = λ enough may. then_at watch P Q left (next enough) go (clean enough may) more
+then_at watch P Q left never go clean more = tt
 
 module _ (error : Guard) where
   pub clean_then : {A B : Type 0} (P : A → Type 0) (Q : B → Type 0) (tree : Doing A) (go : A → Doing B) → Clean error P tree → ((a : A) → P a → Clean error Q (go a)) → Clean error Q (tree then go)
-  clean_then P Q tree go clean more = then_at error.watch error.left P Q tree go clean more
+  clean_then P Q tree go clean more = then_at error.watch P Q error.left tree go clean more
 
   pub clean_if : {A : Type 0} (P : A → Type 0) (test : Bool) (first other : Doing A) → Clean error P first → Clean error P other → Clean error P (if test then first else other)
   clean_if P true first other one two = one

@@ -49,19 +49,22 @@ use Rattle.cause_laws.proofs.CleanParts.{EffectOther, Effects, Parts, clean_answ
 
 -- ---- faults of cursors
 
--- an answer, or a fault that is known
+-- an answer, or a fault that is none of memory
+abbrev IsFault : CursorFault → Type 0
+IsFault Memory = ⊥
+IsFault fault = Unit {0}
+
 abbrev IsKnown : {A : Type 0} → Result A CursorFault → Type 0
 IsKnown (Ok a) = Unit {0}
-IsKnown (Err Memory) = ⊥
-IsKnown (Err fault) = Unit {0}
+IsKnown (Err fault) = IsFault fault
 
 known_in : {A : Type 0} (give : Cursor Select → Result A CursorFault) (found : Option (Cursor Select)) → ((cursor : Cursor Select) → IsKnown (give cursor)) → IsKnown (list.given_in give found)
 known_in give None known = tt
 known_in give (Some cursor) known = known cursor
 
-known_by : {A : Type 0} (give : AnswerLeft → A) (left : Option AnswerLeft) → IsKnown (list.given_by give left)
-known_by give None = tt
-known_by give (Some left) = tt
+known_given : {A : Type 0} (give : AnswerLeft → A) (left : Option AnswerLeft) → IsKnown (list.given_by give left)
+known_given give None = tt
+known_given give (Some left) = tt
 
 known_on : (left : Option AnswerLeft) → IsKnown (list.fill_on left)
 known_on None = tt
@@ -184,7 +187,7 @@ module _ (error : Guard) where
 
   -- ---- cursors
 
-  clean_fault : {A B : Type 0} (P : B → Type 0) (name : List ℕ) (fault : CursorFault) → IsKnown {A = A} (Err fault) → Clean error (OtherOr error P) (fails_for_cursor {A = B} name fault)
+  clean_fault : {B : Type 0} (P : B → Type 0) (name : List ℕ) (fault : CursorFault) → IsFault fault → Clean error (OtherOr error P) (fails_for_cursor {A = B} name fault)
   clean_fault {B = B} P name Present known = clean_naming error B P already_there name refl
   clean_fault {B = B} P name NoSuch known = clean_naming error B P no_such_cursor name refl
   clean_fault P name AlreadyFilled known = usual_other error (pos 16905) refl
@@ -193,7 +196,7 @@ module _ (error : Guard) where
 
   clean_answered : {A : Type 0} (name : List ℕ) (go : A → Doing (Result Effect Failure)) (answer : Result A CursorFault) → IsKnown answer → ((a : A) → Effects error (go a)) → Effects error (answered name go answer)
   clean_answered name go (Ok a) known clean = clean a
-  clean_answered {A = A} name go (Err fault) known clean = clean_fault {A = A} (EffectOther error) name fault known
+  clean_answered name go (Err fault) known clean = clean_fault (EffectOther error) name fault known
 
   pub clean_declares : (statement : Statement) (name : List ℕ) (select : Select) → Effects error (declares_cursor statement name select)
   unfolding declares_cursor
@@ -217,13 +220,13 @@ module _ (error : Guard) where
 
   pub clean_fetches : (statement : Statement) (name : List ℕ) (variables : List (List ℕ)) → Effects error (fetches_cursor statement name variables)
   unfolding fetches_cursor
-  clean_fetches statement name variables = clean_first statement (λ p. answered name (fetches_into p name variables) (list.kinds_of name p.cursors)) (λ p. clean_answered name (fetches_into p name variables) (list.kinds_of name p.cursors) (known_in (λ cursor. list.given_by (λ left. left.kinds) cursor.answer) (list.cursor_of name p.cursors) (λ cursor. known_by (λ left. left.kinds) cursor.answer))
+  clean_fetches statement name variables = clean_first statement (λ p. answered name (fetches_into p name variables) (list.kinds_of name p.cursors)) (λ p. clean_answered name (fetches_into p name variables) (list.kinds_of name p.cursors) (known_in (λ cursor. list.given_by (λ left. left.kinds) cursor.answer) (list.cursor_of name p.cursors) (λ cursor. known_given (λ left. left.kinds) cursor.answer))
       (λ kinds. clean_if error (OtherOr error (EffectOther error)) (length variables == length kinds) _ (fails other_count)
-      (clean_answered name (λ row. with_room (fetches_row p name variables row)) (list.next_of name p.cursors) (known_in (λ cursor. list.given_by list.first_row cursor.answer) (list.cursor_of name p.cursors) (λ cursor. known_by list.first_row cursor.answer)) (λ row. clean_room error (EffectOther error) (fetches_row p name variables row) (tt, clean_row p variables row))) (usual_other error (pos 49012) refl)))
+      (clean_answered name (λ row. with_room (fetches_row p name variables row)) (list.next_of name p.cursors) (known_in (λ cursor. list.given_by list.first_row cursor.answer) (list.cursor_of name p.cursors) (λ cursor. known_given list.first_row cursor.answer)) (λ row. clean_room error (EffectOther error) (fetches_row p name variables row) (tt, clean_row p variables row))) (usual_other error (pos 49012) refl)))
 
   pub clean_shuts : (statement : Statement) (name : List ℕ) → Effects error (closes_cursor statement name)
   unfolding closes_cursor
-  clean_shuts statement name = clean_first statement _ (λ p. clean_answered name (λ done. makes (shuts name) (over (Ok no_effect))) (list.close_answer name p.cursors) (known_in {A = Unit {0}} (λ cursor. list.given_by (λ left. tt) cursor.answer) (list.cursor_of name p.cursors) (λ cursor. known_by {A = Unit {0}} (λ left. tt) cursor.answer)) (λ done. (tt, tt)))
+  clean_shuts statement name = clean_first statement _ (λ p. clean_answered name (λ done. makes (shuts name) (over (Ok no_effect))) (list.close_answer name p.cursors) (known_in {A = Unit {0}} (λ cursor. list.given_by (λ left. tt) cursor.answer) (list.cursor_of name p.cursors) (λ cursor. known_given {A = Unit {0}} (λ left. tt) cursor.answer)) (λ done. (tt, tt)))
 
   pub clean_removes : (statement : Statement) (name : List ℕ) → Effects error (removes_cursor statement name)
   unfolding removes_cursor

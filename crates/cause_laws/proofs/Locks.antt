@@ -17,7 +17,7 @@ use Rattle.cause_laws.proofs.Usual.{IsUsual, differs, no_deadlock, no_timeout}
 use Rattle.cause_laws.proofs.Watch.{CaughtBy, LeavesBy, TellsBy, Watch}
 
 -- a number that is none of the two
-lock_other : (error : LockError) (number : ℤ) → int_eq number (pos 1205) ≡ false → int_eq number (pos 1222) ≡ false → IsOther error number
+pub lock_other : (error : LockError) (number : ℤ) → int_eq number (pos 1205) ≡ false → int_eq number (pos 1222) ≡ false → IsOther error number
 lock_other Deadlock number one two = differs number (pos 1205) one
 lock_other LockTimeout number one two = differs number (pos 1222) two
 
@@ -26,15 +26,15 @@ lock_usual Deadlock number usual = no_deadlock number usual
 lock_usual LockTimeout number usual = no_timeout number usual
 
 -- the number of a reply that is not the error
-victim_other : (error : LockError) (cycle : Cycle) → is_answer error (replies.Victim cycle) ≡ false → IsOther error (pos deadlock)
+pub victim_other : (error : LockError) (cycle : Cycle) → is_answer error (replies.Victim cycle) ≡ false → IsOther error (pos deadlock)
 victim_other Deadlock cycle unsaid = absurd (let no : true ≡ false = unsaid in cc)
 victim_other LockTimeout cycle unsaid = differs (pos 1205) (pos 1222) refl
 
-timed_other : (error : LockError) (holder : ℕ) (held wanted : Pair) (on : Resource) → is_answer error (replies.TimedOut holder held wanted on) ≡ false → IsOther error (pos lock_timeout)
+pub timed_other : (error : LockError) (holder : ℕ) (held wanted : Pair) (on : Resource) → is_answer error (replies.TimedOut holder held wanted on) ≡ false → IsOther error (pos lock_timeout)
 timed_other Deadlock holder held wanted on unsaid = differs (pos 1222) (pos 1205) refl
 timed_other LockTimeout holder held wanted on unsaid = absurd (let no : true ≡ false = unsaid in cc)
 
-memory_none : (error : LockError) → is_answer error replies.Memory ≡ false
+pub memory_none : (error : LockError) → is_answer error replies.Memory ≡ false
 memory_none Deadlock = refl
 memory_none LockTimeout = refl
 
