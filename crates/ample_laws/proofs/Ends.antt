@@ -75,7 +75,7 @@ module _ (last : Bool → Token) (p new : SessionProgress) (exchanges : List Exc
         more = (tt, back.2);
       }
 
-  told_ending : (failed : Bool) → Held (makes (sends (last failed ∷ [])) (over tt)) p exchanges tt new → Ending last p new
+  told_ending : (failed : Bool) → Held {A = Unit {0}} (makes (sends (last failed ∷ [])) (over tt)) p exchanges tt new → Ending last p new
   unfolding Held
   told_ending failed held = record { sent = []; failed = failed; told = ap (λ (q : SessionProgress). q.tokens) held.2; more = tt }
 
@@ -83,7 +83,7 @@ module _ (last : Bool → Token) (p new : SessionProgress) (exchanges : List Exc
   unfolding Held
   ending exit held = by_doom p.txn.doomed held
     where
-      by_doom : (doomed : Bool) → Held (if doomed then rolls_back_doomed (last true) else makes (sends (last (has_failed exit) ∷ [])) (over tt)) p exchanges tt new → Ending last p new
+      by_doom : (doomed : Bool) → Held {A = Unit {0}} (if doomed then rolls_back_doomed (last true) else makes (sends (last (has_failed exit) ∷ [])) (over tt)) p exchanges tt new → Ending last p new
       by_doom true held = doomed_ending held
       by_doom false held = told_ending (has_failed exit) held
 

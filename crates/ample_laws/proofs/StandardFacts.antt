@@ -7,6 +7,7 @@ use Rattle.tds_tokens.specs.declared.token.Token.TheVariants.{Error}
 use Rattle.batch_meaning.specs.declared.failure.Failure.{Failure}
 use Rattle.batch_meaning.specs.declared.form.ReadText.TheVariants as text
 use Rattle.batch_meaning.specs.Asking.{comes_to}
+use Rattle.batch_meaning.specs.Doing.{◌then◌}
 use Rattle.batch_meaning.specs.Failures.{plain}
 use Rattle.batch_meaning.specs.Meaning.{batch, each_of, ends}
 use Rattle.batch_meaning.specs.Progress.{SessionProgress, begins, first_progress, made, sends}
@@ -19,7 +20,7 @@ empty_new : SessionProgress
 empty_new = made (sends (batch_done false ∷ [])) (made (begins []) first_progress)
 
 empty_done : Ample (batch (text.Statements [])) first_progress [] tt empty_new
-unfolding Ample batch ends each_of empty_new
+unfolding Ample batch ends each_of ◌then◌ empty_new
 empty_done = (refl, refl, refl)
 
 empty_ends : EndsWith batch_done empty_new.tokens

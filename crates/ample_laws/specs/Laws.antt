@@ -1,6 +1,6 @@
 -- Own: nothing is refused without a refusal. Where memory is not wanting and no reply refuses, no error stands for a refusal; a response is whole; and 49001
 -- is told only where a batch has begun all statements that it may.
-use Rattle.std.specs.Prelude.{◌≡◌, ◌≢◌, ℕ, true, List, ◌++◌, nat_le}
+use Rattle.std.specs.Prelude.{◌≡◌, ◌≢◌, ◌≤◌, ℕ, List, ◌++◌}
 use Rattle.tsql_tree.specs.declared.statement.Statement.{Statement}
 use Rattle.step_model.specs.Exchange.{Exchange}
 use Rattle.tds_tokens.specs.declared.token.Token.{Token}
@@ -62,7 +62,7 @@ CallsEnd = (call : RpcCall) (read : ReadText) (old new : SessionProgress) (excha
 -- A statement, of no fewer levels than statements are left, behind which some still are, sends no token that tells 49001, and raises another error, if any.
 abbrev pub StatementsWithin : Type 0
 StatementsWithin = (levels : ℕ) (around : Around) (statement : Statement) (old new : SessionProgress) (exchanges : List Exchange) (exit : Exit)
-    → CaughtOnly IsNoLimit around.caught → nat_le old.statements_left levels ≡ true → new.statements_left ≢ 0 → Held (mean_of levels statement around) old exchanges exit new
+    → CaughtOnly IsNoLimit around.caught → old.statements_left ≤ levels → new.statements_left ≢ 0 → Held (mean_of levels statement around) old exchanges exit new
     → LeavesOnly IsNoLimit exit × ((sent : List Token) × (new.tokens ≡ old.tokens ++ sent) × TellsOnly IsNoLimit sent)
 
 -- A batch behind which some statements are left, of the 1,000,000 that it may begin, does not tell 49001.

@@ -11,7 +11,7 @@ ghost use Rattle.ample_laws.specs.Laws.{AmpleBatches, AmpleCalls, AmpleIsHeld, A
 
 /// Where memory was never wanting and no reply refuses its operation, no batch and no call by RPC tells ERROR 701, 1205 or 1222, and no statement but in the
 /// CATCH of such an error. What was done so was done: the other laws hold of it, too.
-#[tactic(auto, using(crate::proofs::Refusals::ample_is_held, crate::proofs::Refusals::ample_statements, crate::proofs::Refusals::ample_batches, crate::proofs::Refusals::ample_calls))]
+#[tactic(auto, using(crate::proofs::Refusals::ample_is_held, crate::proofs::Refusals::ample_statements))]
 pub fn law_ample()
     ensures held { AmpleIsHeld }
     ensures statement { AmpleStatements }
@@ -20,14 +20,13 @@ pub fn law_ample()
 {}
 
 /// Each batch that was done ends with its last DONE, and each call by RPC with its last DONEPROC; no DONE before it is the end.
-#[tactic(auto, using(crate::proofs::Ends::batches_end, crate::proofs::Ends::calls_end))]
 pub fn law_ends()
     ensures batch { BatchesEnd }
     ensures call { CallsEnd }
 {}
 
 /// A batch or a call by RPC behind which some statements are left does not tell ERROR 49001, nor does a statement but in the CATCH of it.
-#[tactic(auto, using(crate::proofs::Within::statements_within, crate::proofs::Within::batches_within, crate::proofs::Within::calls_within))]
+#[tactic(auto, using(crate::proofs::Within::statements_within))]
 pub fn law_within()
     ensures statement { StatementsWithin }
     ensures batch { BatchesWithin }
