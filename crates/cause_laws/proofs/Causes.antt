@@ -1,5 +1,6 @@
--- An error of a lock has its cause: by induction on the levels of statements, over trees that tell it in no token while the engine has never replied so.
-use Rattle.std.proofs.Common.{refl, sym, subst, ℕ, zero, suc, ℤ, pos, List, [], ◌∷◌, Option, Some, None, Bool, true, false, Result, Ok, Err, cond, filter, is_ok, if◌then◌else◌, map, ◌==◌}
+-- An error of a lock has its cause: by induction on the levels of statements, over trees that tell it in no token while the engine has never replied so. The trees are such for
+-- all that is looked for.
+use Rattle.std.proofs.Common.{◌≡◌, refl, sym, subst, ℕ, zero, suc, ℤ, pos, List, [], ◌∷◌, Option, Some, None, Bool, true, false, Result, Ok, Err, cond, filter, is_ok, if◌then◌else◌, map, ◌==◌}
 use Rattle.std.specs.Prelude.{◌&&◌, nat_le, nat_lt}
 use Rattle.rpc_requests.specs.declared.call.RpcCall.{RpcCall}
 use Rattle.tsql_tree.specs.declared.definition.Definition.{Definition}
@@ -41,7 +42,7 @@ use Rattle.batch_meaning.specs.Cursors.{closes_cursor, declares_cursor, fetches_
 use Rattle.batch_meaning.specs.Doing.{Doing, asks, makes, over, reads, ◌then◌, Held}
 use Rattle.batch_meaning.specs.Failures.{plain}
 use Rattle.batch_meaning.specs.Firing.{closes_own, ended_in_trigger, doomed_in_trigger, has_mark, in_trigger, leaves_fired, relaxes_then, settles, trigger_end, undone_to}
-use Rattle.batch_meaning.specs.Meaning.{Meaning, batch, branch, calls, caught_as, concluded, concludes, counted, decides, defined, defines_object, does, doomed_write, each_of, effect_of, ended_by, ends, ends_call, ends_doomed, ends_even, ends_uneven, ends_uneven_as, fails_for, fires, gives_back, goes_on, handled, has_failed, is_refused_doomed, leaves_rows, line_of, mean_by, mean_form, mean_of, or_full, raises, raises_again, raises_at, raises_or_tells, returns_from, rolls_back_told, runs_body, runs_call, runs_fired, runs_text, runs_trigger, runs_triggers, sends_some, set_by, sets_option, spends, strikes, succeeds, tells, told_as, told_tokens, told_unless_own, tries, turned, turns, turns_again, uneven_end, uneven_tokens, uneven_with, unless_stopped, vars_in_text, way_of, where_it_fits, writes, writes_in, written, written_in, written_with}
+use Rattle.batch_meaning.specs.Meaning.{Meaning, batch, branch, calls, caught_as, concluded, concludes, counted, decides, defined, defines_object, does, doomed_write, each_of, effect_of, ended_by, ends, ends_call, ends_doomed, ends_even, ends_uneven, ends_uneven_as, fails_for, fires, gives_back, goes_on, handled, has_failed, is_refused_doomed, leaves_rows, line_of, mean_by, mean_form, mean_of, or_full, raises, raises_again, raises_at, raises_or_tells, returns_from, rolls_back_told, runs_body, runs_call, runs_fired, runs_text, runs_trigger, runs_triggers, sends_some, set_by, sets_option, spends, statements_spent, strikes, succeeds, tells, told_as, told_tokens, told_unless_own, tries, turned, turns, turns_again, uneven_end, uneven_tokens, uneven_with, unless_stopped, vars_in_text, way_of, where_it_fits, writes, writes_in, written, written_in, written_with}
 use Rattle.batch_meaning.specs.Rpc.{Placed, ReadsFor, binds_call, defined_in, ending, ends_exec, ends_rpc, ends_rpc_doomed, error_or_full, execs, fails_call, finds_named, finds_read, gives_call_back, goes_on_with, is_output, is_sql, is_too_many, leaves_body, mismatch, name_of, object_in, placed_in, return_value, returned, returns_uneven, rpc, rpc_arguments, rpc_statement, rpc_text, rpc_vars, runs_exec, runs_rpc, runs_sql, skips_place, strikes_call, tells_returned}
 use Rattle.batch_meaning.specs.Progress.{SessionProgress, begins, counts, fired_from, fires_from, made, sends, size_of, statement_limit, tells_error, tells_rows}
 use Rattle.batch_meaning.specs.Raised.{Around, again, action_in, around_batch, error_token, in_body, in_catch, in_try, is_caught_in, raised_at, raised_in}
@@ -53,22 +54,25 @@ use Rattle.batch_meaning.specs.Transactions.{begins_transaction, commits_transac
 use Rattle.batch_meaning.specs.Values.{Assigned, is_message, outside_limits}
 use Rattle.batch_meaning.specs.Working.{asks_any, binds, composes, enters, known_by, leaves, relaxes, statuses, tests, works}
 use Rattle.batch_meaning.specs.Writes.{Written, change_bound, creates_definition, creates_table, drops, is_odd_procedure}
-use Rattle.cause_laws.specs.Causes.{BatchCauses, CallCauses, CaughtOther, LockError, IsOther, LeavesOther, StatementCauses, TellsNone}
+use Rattle.cause_laws.specs.Causes as law
+use Rattle.cause_laws.specs.Causes.{BatchCauses, CallCauses, StatementCauses}
 use Rattle.cause_laws.proofs.UsualValues.{Anything, RefusedUsual, UsualOr, assigned_usual, call_usual, option_usual, read_usual}
-use Rattle.cause_laws.proofs.Clean.{Clean, OtherOr, clean_bind, clean_comes, clean_done, clean_ended, clean_if, clean_naming, clean_room, clean_then, held_clean, usual_other}
+use Rattle.cause_laws.proofs.Watch.{CaughtBy, CaughtOther, Guard, IsOther, LeavesBy, LeavesOther, TellsBy, TellsNone, TellsOther, Watch}
+use Rattle.cause_laws.proofs.Locks.{caught_other, leaves_other, lock_watch, told_none}
+use Rattle.cause_laws.proofs.Clean.{Clean, OtherOr, clean_bind, clean_comes, clean_done, clean_ended, clean_enough, clean_if, clean_naming, clean_room, clean_then, held_clean, usual_other}
 use Rattle.cause_laws.proofs.CleanParts.{EffectOther, Effects, Plainly, RaisesOther, WrittenOther, clean_assigns, clean_binds, clean_bound, clean_call, clean_change, clean_closes, clean_composes, clean_drops, clean_enters, clean_leaves, clean_relaxes, clean_statuses, clean_tests, clean_works, messages_other}
 use Rattle.cause_laws.proofs.CleanForms.{clean_begins, clean_commits, clean_create, clean_declares, clean_definition, clean_fetches, clean_opens, clean_removes, clean_rolls, clean_saves, clean_shuts}
 
-module _ (error : LockError) where
+module _ (error : Guard) where
   -- a statement, or what comes of it
-  abbrev Exits : Doing Exit → Type 0
+  abbrev pub Exits : Doing Exit → Type 0
   Exits tree = Clean error (LeavesOther error) tree
 
   -- ---- errors
 
-  clean_told : Plainly error rolls_back_told
+  pub clean_told : Plainly error rolls_back_told
   unfolding rolls_back_told
-  clean_told = λ p. clean_if error Anything p.is_open (asks ops.Rollback (where_ended (told_unless_own p.is_own p.txn.serial))) (over tt) (λ reply unsaid. clean_ended error Anything (told_unless_own p.is_own p.txn.serial) (by_own p.txn.serial p.is_own) reply) tt
+  clean_told = λ p at. clean_if error Anything p.is_open (asks ops.Rollback (where_ended (told_unless_own p.is_own p.txn.serial))) (over tt) (λ reply says. clean_ended error Anything (told_unless_own p.is_own p.txn.serial) (by_own p.txn.serial p.is_own) reply) tt
     where
       by_own : (serial : ℕ) (is_own : Bool) → Plainly error (told_unless_own is_own serial)
       by_own serial true = tt
@@ -82,8 +86,8 @@ module _ (error : LockError) where
   clean_ends act.BatchAndTransaction = clean_then error Anything (LeavesOther error) rolls_back_told (λ done. over End) clean_told (λ done any. tt)
 
   told_other : (kind : DoneKind) (action : Action) (command : ℕ) (raised : Raised) → IsOther error raised.number → TellsNone error (told_tokens kind action command raised)
-  told_other kind act.Statement command raised other = (other, (tt, tt))
-  told_other kind act.Doom command raised other = (other, (tt, tt))
+  told_other kind act.Statement command raised other = (other, (error.watch.failed, tt))
+  told_other kind act.Doom command raised other = (other, (error.watch.failed, tt))
   told_other kind act.Batch command raised other = (other, tt)
   told_other kind act.BatchAndTransaction command raised other = (other, tt)
 
@@ -107,7 +111,7 @@ module _ (error : LockError) where
 
   clean_at : (around : Around) (line : ℤ) (command : ℕ) (raised : Raised) → IsOther error raised.number → Exits (raises_at around line command raised)
   unfolding raises_at
-  clean_at around line command raised other = λ p. clean_strikes around p.settings.xact_abort command (or_full around p command line raised) (by_tests (is_caught_in around raised) (nat_lt p.bytes_left (size_of (told_tokens (done_kind around) (action_in around p.settings.xact_abort raised) command raised))))
+  clean_at around line command raised other = λ p at. clean_strikes around p.settings.xact_abort command (or_full around p command line raised) (by_tests (is_caught_in around raised) (nat_lt p.bytes_left (size_of (told_tokens (done_kind around) (action_in around p.settings.xact_abort raised) command raised))))
     where
       by_tests : (caught full : Bool) → IsOther error (if caught then raised else if full then raised_in around.procedure line (plain result_full) else raised).number
       by_tests true full = other
@@ -158,7 +162,7 @@ module _ (error : LockError) where
   clean_again around statement (Some raised) other = clean_counted (form_of statement) 0 (raises around statement (again raised)) (clean_raises around statement (again raised) other)
 
   clean_option : (around : Around) (statement : Statement) (option : SessionOption) → Exits (sets_option around statement option)
-  clean_option around statement option = λ p. by_settings (set_option option p.settings) (option_usual option p.settings)
+  clean_option around statement option = λ p at. by_settings (set_option option p.settings) (option_usual option p.settings)
     where
       by_settings : (came : Result Settings Failure) → UsualOr Anything came → Exits (set_by around statement came)
       by_settings (Ok settings) usual = (tt, clean_succeeds statement no_effect (over On) tt tt)
@@ -171,12 +175,12 @@ module _ (error : LockError) where
   -- ---- the end of a call
 
   clean_where : (around : Around) (statement : Statement) (tokens : List Token) (next : Doing Exit) → Exits next → Exits (where_it_fits around statement tokens next)
-  clean_where around statement tokens next clean = λ p. clean_if error (LeavesOther error) (nat_lt p.bytes_left (size_of tokens)) (fails_for around statement (plain result_full)) next (clean_fails around statement (plain result_full) (usual_other error (pos 49002) refl)) clean
+  clean_where around statement tokens next clean = λ p at. clean_if error (LeavesOther error) (nat_lt p.bytes_left (size_of tokens)) (fails_for around statement (plain result_full)) next (clean_fails around statement (plain result_full) (usual_other error (pos 49002) refl)) clean
 
   uneven_other : (caught : Bool) (action : Action) (status : ℤ) (raised : Raised) → IsOther error raised.number → TellsNone error (uneven_tokens caught action status raised)
-  uneven_other true action status raised other = (tt, (tt, tt))
-  uneven_other false act.Statement status raised other = (other, (tt, (tt, tt)))
-  uneven_other false act.Doom status raised other = (other, (tt, (tt, tt)))
+  uneven_other true action status raised other = (tt, (error.watch.more, tt))
+  uneven_other false act.Statement status raised other = (other, (tt, (error.watch.more, tt)))
+  uneven_other false act.Doom status raised other = (other, (tt, (error.watch.more, tt)))
   uneven_other false act.Batch status raised other = (other, tt)
   uneven_other false act.BatchAndTransaction status raised other = (other, tt)
 
@@ -189,9 +193,9 @@ module _ (error : LockError) where
 
   clean_ends_call : (around : Around) (statement : Statement) (count : ℕ) (status : ℤ) → Exits (ends_call around statement count status)
   unfolding ends_even ends_uneven
-  clean_ends_call around statement count status = λ p. clean_if error (LeavesOther error) (p.txn.count == count) (ends_even around statement status) (ends_uneven around statement status raised)
-      (clean_where around statement (procedure_done status) (succeeds statement (sending (procedure_done status)) (over On)) (clean_succeeds statement (sending (procedure_done status)) (over On) (tt, (tt, tt)) tt))
-      (λ q. clean_uneven around statement status raised (is_caught_in around raised) (action_in around q.settings.xact_abort raised) (usual_other error (pos 266) refl))
+  clean_ends_call around statement count status = λ p at. clean_if error (LeavesOther error) (p.txn.count == count) (ends_even around statement status) (ends_uneven around statement status raised)
+      (clean_where around statement (procedure_done status) (succeeds statement (sending (procedure_done status)) (over On)) (clean_succeeds statement (sending (procedure_done status)) (over On) (tt, (error.watch.more, tt)) tt))
+      (λ q at. clean_uneven around statement status raised (is_caught_in around raised) (action_in around q.settings.xact_abort raised) (usual_other error (pos 266) refl))
     where
       raised : Raised
       raised = raised_in around.procedure (line_of statement) (plain uneven)
@@ -199,7 +203,7 @@ module _ (error : LockError) where
   clean_gives_back : (around : Around) (statement : Statement) (variable : Option (List ℕ)) (arguments : List Argument) (call : Call) (count : ℕ) (vars : List Variable) (number : ℤ) → Exits (gives_back around statement variable arguments call count vars number)
   unfolding gives_back
   clean_gives_back around statement variable arguments call count vars number = clean_concludes {A = List Assigned} Anything around statement (λ assigned. assigns_all assigned (ends_call around statement count number)) (reads λ p. comes_to (given_back p.vars variable arguments call number vars))
-      (λ p. clean_comes error {A = List Assigned} Anything (given_back p.vars variable arguments call number vars) (assigned_usual p.vars _ _))
+      (λ p at. clean_comes error {A = List Assigned} Anything (given_back p.vars variable arguments call number vars) (assigned_usual p.vars _ _))
       (λ assigned any. clean_assigns error (LeavesOther error) assigned (ends_call around statement count number) (clean_ends_call around statement count number))
 
   clean_returns : (around : Around) (statement : Statement) (variable : Option (List ℕ)) (arguments : List Argument) (call : Call) (count : ℕ) (vars : List Variable) (came : Exit) → LeavesOther error came → Exits (returns_from around statement variable arguments call count vars came)
@@ -220,12 +224,12 @@ module _ (error : LockError) where
 
   clean_undone : (mark : ℕ) (there : Bool) (next : Doing (Unit {0})) → Plainly error next → Plainly error (undone_to mark there (relaxes_then next))
   unfolding relaxes_then
-  clean_undone mark true next clean = λ reply unsaid. clean_done error Anything (asks ops.Relax (where_done next)) (λ other none. clean_done error Anything next clean other) reply
-  clean_undone mark false next clean = λ reply unsaid. clean_done error Anything next clean reply
+  clean_undone mark true next clean = λ reply says. clean_done error Anything (asks ops.Relax (where_done next)) (λ other none. clean_done error Anything next clean other) reply
+  clean_undone mark false next clean = λ reply says. clean_done error Anything next clean reply
 
   clean_leaving : (home : Home) (mark : ℕ) (stood succeeded : Bool) → Plainly error (leaves_fired home mark stood succeeded)
   unfolding leaves_fired
-  clean_leaving home mark stood succeeded = λ p. clean_then error Anything Anything (if p.stands then settles home mark succeeded p else over tt) (λ done. makes (fired_from mark stood) (over tt))
+  clean_leaving home mark stood succeeded = λ p at. clean_then error Anything Anything (if p.stands then settles home mark succeeded p else over tt) (λ done. makes (fired_from mark stood) (over tt))
       (clean_if error Anything p.stands (settles home mark succeeded p) (over tt) (by_end succeeded p) tt) (λ done any. (tt, tt))
     where
       by_end : (succeeded : Bool) (p : SessionProgress) → Plainly error (settles home mark succeeded p)
@@ -290,12 +294,12 @@ module _ (error : LockError) where
 
     clean_body : (vars : List Variable) (settings : Settings → Settings) (body : List Statement) (around : Around) → CaughtOther error around.caught → Clean error BodyOther (runs_body one vars settings body around)
     unfolding runs_body
-    clean_body vars settings body around caught = λ p. (tt, (tt, clean_then error (LeavesOther error) BodyOther (each_of one body around) _ (clean_all body around caught) (λ left other inner. (tt, (tt, other)))))
+    clean_body vars settings body around caught = λ p at. (tt, (tt, clean_then error (LeavesOther error) BodyOther (each_of one body around) _ (clean_all body around caught) (λ left other inner at. (tt, (tt, other)))))
 
     -- triggers, one after another
     clean_triggers : (around : Around) (w : Written) (triggers : List TriggerTree) → CaughtOther error around.caught → Clean error (StopsOr {A = Unit {0}} Anything) (runs_triggers one around w triggers)
     unfolding runs_triggers runs_trigger
-    clean_triggers around w [] caught = λ p. by_room (nat_lt p.bytes_left (size_of w.effect.tokens))
+    clean_triggers around w [] caught = λ p at. by_room (nat_lt p.bytes_left (size_of w.effect.tokens))
       where
         by_room : (b : Bool) → StopsOr {A = Unit {0}} Anything (if b then Err (Failed (plain result_full)) else Ok tt)
         by_room true = usual_other error (pos 49002) refl
@@ -303,7 +307,7 @@ module _ (error : LockError) where
     clean_triggers around w (trigger ∷ triggers) caught = clean_then error (LeavesOther error) (StopsOr {A = Unit {0}} Anything) (runs_trigger one around w.fired trigger) _
         (clean_then error BodyOther (LeavesOther error) (runs_body one (vars_of trigger.body) in_trigger trigger.body (in_body trigger.name (Some w.fired) around)) (λ came. over came.0)
         (clean_body (vars_of trigger.body) in_trigger trigger.body (in_body trigger.name (Some w.fired) around) caught) (λ came other. other))
-        (λ left other p. by_end (clean_triggers around w triggers caught) (trigger_end left p) (trigger_other left p other))
+        (λ left other p at. by_end (clean_triggers around w triggers caught) (trigger_end left p) (trigger_other left p other))
       where
         by_end : Clean error (StopsOr {A = Unit {0}} Anything) (runs_triggers one around w triggers) → (end : Result (Unit {0}) Stop) → StopsOr {A = Unit {0}} Anything end → Clean error (StopsOr {A = Unit {0}} Anything) (unless_stopped one (runs_triggers one around w triggers) end)
         by_end clean (Ok done) other = clean
@@ -315,21 +319,21 @@ module _ (error : LockError) where
 
     clean_fires : (around : Around) (home : Home) (w : Written) → CaughtOther error around.caught → EffectOther error w.effect → Clean error (StopsOr (EffectOther error)) (fires one around home w)
     unfolding fires
-    clean_fires around home w caught other = clean_then error Anything (StopsOr (EffectOther error)) relaxes _ (clean_relaxes error) (λ done any enough. clean_if error (StopsOr (EffectOther error)) enough _ _ goes wanting)
+    clean_fires around home w caught other = clean_then error Anything (StopsOr (EffectOther error)) relaxes _ (clean_relaxes error) (λ done any. clean_enough error (StopsOr (EffectOther error)) _ _ goes wanting)
       where
         by_came : (came : Result (Unit {0}) Stop) → StopsOr {A = Unit {0}} Anything came → StopsOr (EffectOther error) (effect_of one w.effect came)
         by_came (Ok done) fine = other
         by_came (Err stop) fine = fine
 
         goes : Clean error (StopsOr (EffectOther error)) (reads λ p. makes (fires_from w.mark) (runs_fired one around w then λ came. leaves_fired home w.mark p.stands (is_ok came) then λ done. over (effect_of one w.effect came)))
-        goes = λ p. (
+        goes = λ p at. (
           tt,
           clean_then error (StopsOr {A = Unit {0}} Anything) (StopsOr (EffectOther error)) (runs_fired one around w) _ (clean_fired around w caught)
               (λ came fine. clean_then error Anything (StopsOr (EffectOther error)) (leaves_fired home w.mark p.stands (is_ok came)) (λ done. over (effect_of one w.effect came)) (clean_leaving home w.mark p.stands (is_ok came)) (λ done any. by_came came fine)),
         )
 
-        wanting : Clean error (StopsOr (EffectOther error)) (undone_to w.mark true (relaxes_then (closes_own home false)) then λ done. over (Err (Failed (plain no_memory))))
-        wanting = clean_then error Anything (StopsOr (EffectOther error)) (undone_to w.mark true (relaxes_then (closes_own home false))) (λ done. over (Err (Failed (plain no_memory)))) (clean_undone w.mark true (closes_own home false) (clean_closes_own home false)) (λ done any. usual_other error (pos 701) refl)
+        wanting : IsOther error (pos no_memory) → Clean error (StopsOr (EffectOther error)) (undone_to w.mark true (relaxes_then (closes_own home false)) then λ done. over (Err (Failed (plain no_memory))))
+        wanting other = clean_then error Anything (StopsOr (EffectOther error)) (undone_to w.mark true (relaxes_then (closes_own home false))) (λ done. over (Err (Failed (plain no_memory)))) (clean_undone w.mark true (closes_own home false) (clean_closes_own home false)) (λ done any. other)
 
     module _ (around : Around) (statement : Statement) (caught : CaughtOther error around.caught) where
       clean_with : (home : Home) (w : Written) (triggers : List TriggerTree) → EffectOther error w.effect → Clean error (StopsOr (EffectOther error)) (written_with one around home w triggers)
@@ -342,9 +346,9 @@ module _ (error : LockError) where
 
       clean_writes : Clean error (StopsOr (EffectOther error)) (writes one around statement)
       unfolding writes
-      clean_writes = λ enough. clean_if error (StopsOr (EffectOther error)) enough _ (over (Err (Failed (plain no_memory))))
+      clean_writes = clean_enough error (StopsOr (EffectOther error)) _ (over (Err (Failed (plain no_memory))))
           (clean_then error (OtherOr error {A = Home} Anything) (StopsOr (EffectOther error)) (enters (asks_any (known_by around statement) (looked_up statement))) (writes_in one around statement) (clean_enters error (asks_any (known_by around statement) (looked_up statement))) by_home)
-          (usual_other error (pos 701) refl)
+          (λ other. other)
         where
           by_home : (home : Result Home Failure) → OtherOr error {A = Home} Anything home → Clean error (StopsOr (EffectOther error)) (writes_in one around statement home)
           by_home (Err failure) other = other
@@ -383,7 +387,7 @@ module _ (error : LockError) where
       clean_calls : (variable : Option (List ℕ)) (name : List ℕ) (arguments : List Argument) → Exits (calls one around statement variable name arguments)
       unfolding calls runs_call
       clean_calls variable name arguments = clean_concludes {A = Call} Anything around statement (runs_call one around statement variable arguments) (finds_call around statement variable name arguments) (clean_call error around statement variable name arguments)
-          (λ call any p. clean_then error BodyOther (LeavesOther error) (runs_body one (call_vars call) (λ settings. settings) call.procedure.body (in_body call.procedure.name None around)) _ (clean_body (call_vars call) (λ settings. settings) call.procedure.body (in_body call.procedure.name None around) caught)
+          (λ call any p at. clean_then error BodyOther (LeavesOther error) (runs_body one (call_vars call) (λ settings. settings) call.procedure.body (in_body call.procedure.name None around)) _ (clean_body (call_vars call) (λ settings. settings) call.procedure.body (in_body call.procedure.name None around) caught)
           (λ came other. clean_returns around statement variable arguments call p.txn.count came.1 came.0 other))
 
       clean_form : (form : Layer) → Exits (mean_form one around statement form)
@@ -419,18 +423,7 @@ module _ (error : LockError) where
 
       clean_by : Exits (mean_by one statement around)
       unfolding mean_by
-      clean_by = λ p. clean_if error (LeavesOther error) (p.txn.doomed && is_refused_doomed (form_of statement)) (fails_for around statement (plain doomed_write)) (mean_form one around statement (form_of statement)) (clean_fails around statement (plain doomed_write) (usual_other error (pos 3930) refl)) (clean_form (form_of statement))
-
-  -- ---- the cycle
-
-  clean_spends : (statement : Statement) (around : Around) → Exits (spends statement around)
-  clean_spends statement around = clean_raises around statement _ (usual_other error (pos 49001) refl)
-
-  clean_mean : (levels : ℕ) (statement : Statement) (around : Around) → CaughtOther error around.caught → Exits (mean_of levels statement around)
-  unfolding mean_of
-  clean_mean zero statement around caught = clean_spends statement around
-  clean_mean (suc levels) statement around caught = λ p. clean_if error (LeavesOther error) (p.statements_left == 0) (spends statement around) (makes counts (mean_by (λ inner at. mean_of levels inner at) statement around)) (clean_spends statement around)
-      (tt, clean_by (λ inner at. mean_of levels inner at) (λ inner at is. clean_mean levels inner at is) around statement caught)
+      clean_by = λ p at. clean_if error (LeavesOther error) (p.txn.doomed && is_refused_doomed (form_of statement)) (fails_for around statement (plain doomed_write)) (mean_form one around statement (form_of statement)) (clean_fails around statement (plain doomed_write) (usual_other error (pos 3930) refl)) (clean_form (form_of statement))
 
   -- ---- batches
 
@@ -440,19 +433,14 @@ module _ (error : LockError) where
 
   clean_object : (line : ℤ) (of : Definition) (units : List ℕ) → Exits (defines_object line of units)
   unfolding defines_object
-  clean_object line of units = λ p. clean_if error (LeavesOther error) p.txn.doomed (defined line (Err (plain doomed_write))) (creates_definition of units then defined line) (clean_defined line (Err (plain doomed_write)) (usual_other error (pos 3930) refl))
+  clean_object line of units = λ p at. clean_if error (LeavesOther error) p.txn.doomed (defined line (Err (plain doomed_write))) (creates_definition of units then defined line) (clean_defined line (Err (plain doomed_write)) (usual_other error (pos 3930) refl))
       (clean_then error (OtherOr error (EffectOther error)) (LeavesOther error) (creates_definition of units) (defined line) (clean_definition error of units) (clean_defined line))
 
-  clean_text : (read : ReadText) → RefusedUsual read → Exits (runs_text read)
-  clean_text (text.Statements statements) usual = clean_all (λ inner at. mean_of statement_limit inner at) (λ inner at is. clean_mean statement_limit inner at is) statements around_batch tt
-  clean_text (text.Defines line of units) usual = clean_object line of units
-  clean_text (text.Refused line code near) usual = ((usual_other error (pos code) usual, tt), tt)
-
-  clean_end : (exit : Exit) → Plainly error (ends exit)
+  pub clean_end : ((failed : Bool) → TellsOther error (batch_done failed)) → (exit : Exit) → Plainly error (ends exit)
   unfolding ends ends_doomed
-  clean_end exit = λ p. clean_if error Anything p.txn.doomed ends_doomed (makes (sends (batch_done (has_failed exit) ∷ [])) (over tt))
-      ((usual_other error (pos 3998) refl, tt), clean_then error Anything Anything rolls_back_told (λ done. makes (sends (batch_done true ∷ [])) (over tt)) clean_told (λ done any. ((tt, tt), tt)))
-      ((tt, tt), tt)
+  clean_end last exit = λ p at. clean_if error Anything p.txn.doomed ends_doomed (makes (sends (batch_done (has_failed exit) ∷ [])) (over tt))
+      ((usual_other error (pos 3998) refl, tt), clean_then error Anything Anything rolls_back_told (λ done. makes (sends (batch_done true ∷ [])) (over tt)) clean_told (λ done any. ((last true, tt), tt)))
+      ((last (has_failed exit), tt), tt)
 
   -- ---- calls by RPC
 
@@ -461,7 +449,7 @@ module _ (error : LockError) where
 
   clean_fails_call : (failure : Failure) → IsOther error failure.number → Exits (fails_call failure)
   unfolding fails_call
-  clean_fails_call failure other = (tt, λ p. clean_strikes_call p.settings.xact_abort (error_or_full p (raised_at (pos 1) failure)) (by_room (nat_lt p.bytes_left (size_of (error_token (raised_at (pos 1) failure) ∷ [])))))
+  clean_fails_call failure other = (tt, λ p at. clean_strikes_call p.settings.xact_abort (error_or_full p (raised_at (pos 1) failure)) (by_room (nat_lt p.bytes_left (size_of (error_token (raised_at (pos 1) failure) ∷ [])))))
     where
       by_room : (full : Bool) → IsOther error (if full then raised_at (pos 1) (plain result_full) else raised_at (pos 1) failure).number
       by_room true = usual_other error (pos 49002) refl
@@ -484,7 +472,7 @@ module _ (error : LockError) where
       by_output false none = none
 
   clean_tells_returned : (number : ℤ) (tokens : List Token) (next : Doing Exit) → TellsNone error tokens → Exits next → Exits (tells_returned number tokens next)
-  clean_tells_returned number tokens next none clean = λ p. clean_if error (LeavesOther error) (nat_lt p.bytes_left (size_of tokens)) (fails_call (plain result_full)) (makes (tells_rows 0) (makes (tells_error number) (makes (sends tokens) next)))
+  clean_tells_returned number tokens next none clean = λ p at. clean_if error (LeavesOther error) (nat_lt p.bytes_left (size_of tokens)) (fails_call (plain result_full)) (makes (tells_rows 0) (makes (tells_error number) (makes (sends tokens) next)))
       (clean_fails_call (plain result_full) (usual_other error (pos 49002) refl)) (tt, (tt, (none, clean)))
 
   uneven_none : (action : Action) (tokens : List Token) (raised : Raised) → TellsNone error tokens → IsOther error raised.number → TellsNone error (uneven_with false action tokens raised)
@@ -495,7 +483,7 @@ module _ (error : LockError) where
 
   clean_ends_exec : (call : RpcCall) (count : ℕ) (status : ℤ) → Exits (ends_exec call count status)
   unfolding ends_exec
-  clean_ends_exec call count status = λ p q. clean_if error (LeavesOther error) (q.txn.count == count) (tells_returned (pos 0) (returned call p.vars status) (over On)) (returns_uneven (returned call p.vars status) raised (action_in around_batch q.settings.xact_abort raised))
+  clean_ends_exec call count status = λ p at q also. clean_if error (LeavesOther error) (q.txn.count == count) (tells_returned (pos 0) (returned call p.vars status) (over On)) (returns_uneven (returned call p.vars status) raised (action_in around_batch q.settings.xact_abort raised))
       (clean_tells_returned (pos 0) (returned call p.vars status) (over On) (tt, values_none p.vars (placed_in call)) tt)
       (clean_tells_returned raised.number _ (ended_by (action_in around_batch q.settings.xact_abort raised))
       (uneven_none (action_in around_batch q.settings.xact_abort raised) (returned call p.vars status) raised (tt, values_none p.vars (placed_in call)) (usual_other error (pos 266) refl)) (clean_ends (action_in around_batch q.settings.xact_abort raised)))
@@ -506,7 +494,7 @@ module _ (error : LockError) where
   clean_gives_call_back : (call : RpcCall) (of : Call) (count : ℕ) (inner : List Variable) (status : ℤ) → Exits (gives_call_back call of count inner status)
   unfolding gives_call_back
   clean_gives_call_back call of count inner status = clean_goes {A = List Assigned} Anything (λ sets. assigns_all sets (ends_exec call count status)) (reads λ p. comes_to (given_back p.vars None (rpc_arguments call) of status inner))
-      (λ p. clean_comes error {A = List Assigned} Anything (given_back p.vars None (rpc_arguments call) of status inner) (assigned_usual p.vars _ _))
+      (λ p at. clean_comes error {A = List Assigned} Anything (given_back p.vars None (rpc_arguments call) of status inner) (assigned_usual p.vars _ _))
       (λ sets any. clean_assigns error (LeavesOther error) sets (ends_exec call count status) (clean_ends_exec call count status))
 
   clean_leaves_body : (call : RpcCall) (of : Call) (count : ℕ) (inner : List Variable) (exit : Exit) → Exits (leaves_body call of count inner exit)
@@ -518,18 +506,11 @@ module _ (error : LockError) where
   clean_leaves_body call of count inner Leave = clean_gives_call_back call of count inner (pos 0)
   clean_leaves_body call of count inner Again = clean_gives_call_back call of count inner (pos 0)
 
-  -- how a body was left, with its variables
-  abbrev CameOther : Exit × List Variable → Type 0
-  CameOther came = LeavesOther error came.0
-
-  clean_exec : (call : RpcCall) (of : Call) → Exits (runs_exec (λ inner at. mean_of statement_limit inner at) call of)
-  unfolding runs_exec
-  clean_exec call of = λ p. clean_then error CameOther (LeavesOther error) (runs_body (λ inner at. mean_of statement_limit inner at) (call_vars of) (λ settings. settings) of.procedure.body (in_body of.procedure.name None around_batch)) _
-      (clean_body (λ inner at. mean_of statement_limit inner at) (λ inner at is. clean_mean statement_limit inner at is) (call_vars of) (λ settings. settings) of.procedure.body (in_body of.procedure.name None around_batch) tt)
-      (λ came other. clean_leaves_body call of p.txn.count came.1 came.0)
-
-  clean_execs : (call : RpcCall) (finds : Doing (Result Call Failure)) → Clean error (OtherOr error {A = Call} Anything) finds → Exits (execs (λ inner at. mean_of statement_limit inner at) call finds)
-  clean_execs call finds clean = clean_goes {A = Call} Anything (runs_exec (λ inner at. mean_of statement_limit inner at) call) finds clean (λ of any. clean_exec call of)
+  pub clean_rpc_end : ((failed : Bool) → TellsOther error (rpc_done failed)) → (exit : Exit) → Plainly error (ends_rpc exit)
+  unfolding ends_rpc ends_rpc_doomed
+  clean_rpc_end last exit = λ p at. clean_if error Anything p.txn.doomed ends_rpc_doomed (makes (sends (rpc_done (has_failed exit) ∷ [])) (over tt))
+      ((usual_other error (pos 3998) refl, tt), clean_then error Anything Anything rolls_back_told (λ done. makes (sends (rpc_done true ∷ [])) (over tt)) clean_told (λ done any. ((last true, tt), tt)))
+      ((last (has_failed exit), tt), tt)
 
   clean_named : (call : RpcCall) (name : Option (List ℕ)) → Clean error (OtherOr error {A = Call} Anything) (finds_named call name)
   clean_named call None = clean_naming error Call Anything no_procedure (name_of call.target) refl
@@ -539,46 +520,97 @@ module _ (error : LockError) where
   unfolding binds_call
   clean_read call None = usual_other error (pos 49012) refl
   clean_read call (Some procedure) = clean_if error (OtherOr error {A = Call} Anything) (is_odd_procedure procedure) (over (Err (plain outside_limits))) _ (usual_other error (pos 49007) refl) (clean_room error {A = Call} Anything _ (clean_bind error {A = Bound} {B = Call} Anything Anything (reads λ p. comes_to (bound_over [] p.vars (rpc_statement procedure.name (rpc_arguments call)))) _ (clean_bound error [] (rpc_statement procedure.name (rpc_arguments call)))
-      (λ of some p. clean_comes error {A = Call} Anything (call_over around_batch None procedure.name (rpc_arguments call) p.vars (Some (Procedure procedure))) (call_usual around_batch None procedure.name (rpc_arguments call) p.vars (Some (Procedure procedure))))))
+      (λ of some p at. clean_comes error {A = Call} Anything (call_over around_batch None procedure.name (rpc_arguments call) p.vars (Some (Procedure procedure))) (call_usual around_batch None procedure.name (rpc_arguments call) p.vars (Some (Procedure procedure))))))
 
-  clean_sql : (call : RpcCall) (read : ReadText) → RefusedUsual read → Exits (runs_sql (λ inner at. mean_of statement_limit inner at) call read)
-  clean_sql call (text.Statements statements) usual = clean_execs call (finds_read call None) (clean_read call None)
-  clean_sql call (text.Defines line of units) usual = clean_execs call (finds_read call (defined_in (text.Defines line of units))) (clean_read call (defined_in (text.Defines line of units)))
-  clean_sql call (text.Refused line code near) usual = clean_text (text.Refused line code near) usual
+  -- ---- by what statements are
 
-  clean_rpc : (call : RpcCall) (read : ReadText) → RefusedUsual read → Exits (runs_rpc (λ inner at. mean_of statement_limit inner at) call read)
-  unfolding runs_rpc
-  clean_rpc call read usual = clean_if error (LeavesOther error) (is_too_many call) (fails_call (plain outside_limits)) _ (clean_fails_call (plain outside_limits) (usual_other error (pos 49007) refl))
-      (clean_if error (LeavesOther error) (skips_place call) (fails_call mismatch) _ (clean_fails_call mismatch (usual_other error (pos 49012) refl))
-      (clean_if error (LeavesOther error) (is_sql call.target) (runs_sql (λ inner at. mean_of statement_limit inner at) call read) (execs (λ inner at. mean_of statement_limit inner at) call (finds_named call (object_in read)))
-      (clean_sql call read usual) (clean_execs call (finds_named call (object_in read)) (clean_named call (object_in read)))))
+  module _ (means : (statement : Statement) (around : Around) → CaughtOther error around.caught → Exits (mean_of statement_limit statement around)) where
+    pub clean_text : (read : ReadText) → RefusedUsual read → Exits (runs_text read)
+    clean_text (text.Statements statements) usual = clean_all (λ inner at. mean_of statement_limit inner at) (λ inner at is. means inner at is) statements around_batch tt
+    clean_text (text.Defines line of units) usual = clean_object line of units
+    clean_text (text.Refused line code near) usual = ((usual_other error (pos code) usual, tt), tt)
 
-  clean_rpc_end : (exit : Exit) → Plainly error (ends_rpc exit)
-  unfolding ends_rpc ends_rpc_doomed
-  clean_rpc_end exit = λ p. clean_if error Anything p.txn.doomed ends_rpc_doomed (makes (sends (rpc_done (has_failed exit) ∷ [])) (over tt))
-      ((usual_other error (pos 3998) refl, tt), clean_then error Anything Anything rolls_back_told (λ done. makes (sends (rpc_done true ∷ [])) (over tt)) clean_told (λ done any. ((tt, tt), tt)))
-      ((tt, tt), tt)
+    -- how a body was left, with its variables
+    abbrev CameOther : Exit × List Variable → Type 0
+    CameOther came = LeavesOther error came.0
+
+    clean_exec : (call : RpcCall) (of : Call) → Exits (runs_exec (λ inner at. mean_of statement_limit inner at) call of)
+    unfolding runs_exec
+    clean_exec call of = λ p at. clean_then error CameOther (LeavesOther error) (runs_body (λ inner at. mean_of statement_limit inner at) (call_vars of) (λ settings. settings) of.procedure.body (in_body of.procedure.name None around_batch)) _
+        (clean_body (λ inner at. mean_of statement_limit inner at) (λ inner at is. means inner at is) (call_vars of) (λ settings. settings) of.procedure.body (in_body of.procedure.name None around_batch) tt)
+        (λ came other. clean_leaves_body call of p.txn.count came.1 came.0)
+
+    clean_execs : (call : RpcCall) (finds : Doing (Result Call Failure)) → Clean error (OtherOr error {A = Call} Anything) finds → Exits (execs (λ inner at. mean_of statement_limit inner at) call finds)
+    clean_execs call finds clean = clean_goes {A = Call} Anything (runs_exec (λ inner at. mean_of statement_limit inner at) call) finds clean (λ of any. clean_exec call of)
+
+    clean_sql : (call : RpcCall) (read : ReadText) → RefusedUsual read → Exits (runs_sql (λ inner at. mean_of statement_limit inner at) call read)
+    clean_sql call (text.Statements statements) usual = clean_execs call (finds_read call None) (clean_read call None)
+    clean_sql call (text.Defines line of units) usual = clean_execs call (finds_read call (defined_in (text.Defines line of units))) (clean_read call (defined_in (text.Defines line of units)))
+    clean_sql call (text.Refused line code near) usual = clean_text (text.Refused line code near) usual
+
+    clean_rpc : (call : RpcCall) (read : ReadText) → RefusedUsual read → Exits (runs_rpc (λ inner at. mean_of statement_limit inner at) call read)
+    unfolding runs_rpc
+    clean_rpc call read usual = clean_if error (LeavesOther error) (is_too_many call) (fails_call (plain outside_limits)) _ (clean_fails_call (plain outside_limits) (usual_other error (pos 49007) refl))
+        (clean_if error (LeavesOther error) (skips_place call) (fails_call mismatch) _ (clean_fails_call mismatch (usual_other error (pos 49012) refl))
+        (clean_if error (LeavesOther error) (is_sql call.target) (runs_sql (λ inner at. mean_of statement_limit inner at) call read) (execs (λ inner at. mean_of statement_limit inner at) call (finds_named call (object_in read)))
+        (clean_sql call read usual) (clean_execs call (finds_named call (object_in read)) (clean_named call (object_in read)))))
 
 -- what is read for a call is refused by a usual error, too
-called_usual : (units : Option (List ℕ)) (read : ReadText) → ReadsFor units read → RefusedUsual read
+pub called_usual : (units : Option (List ℕ)) (read : ReadText) → ReadsFor units read → RefusedUsual read
 called_usual None read is = subst RefusedUsual (sym is) tt
 called_usual (Some units) read is = read_usual units read is
+
+-- ---- the cycle
+
+-- A statement of so many levels, where at most so many are left: one that begins leaves one less.
+module _ (watch : Watch) where
+  abbrev pub at_left : ℕ → Guard
+  at_left left = record { watch = watch; left = left }
+
+  pub clean_mean : (levels : ℕ) (statement : Statement) (around : Around) → CaughtBy watch around.caught → Exits (at_left levels) (mean_of levels statement around)
+  unfolding mean_of raises_at
+  clean_mean zero statement around caught = λ p at. clean_raises (at_left 0) around statement (raised_in around.procedure (line_of statement) (plain statements_spent)) (watch.none_left p at) p at
+  clean_mean (suc levels) statement around caught = λ p at. by_left (λ inner so is. clean_mean levels inner so is) p at (p.statements_left == 0) refl
+    where
+      by_left : ((inner : Statement) (so : Around) → CaughtBy watch so.caught → Exits (at_left levels) (mean_of levels inner so)) → (p : SessionProgress) → watch.At (suc levels) p → (none : Bool) → (p.statements_left == 0) ≡ none
+          → Clean (at_left (suc levels)) (LeavesBy watch) (if none then spends statement around else makes counts (mean_by (λ inner at. mean_of levels inner at) statement around))
+      by_left each p at true is = clean_raises (at_left (suc levels)) around statement (raised_in around.procedure (line_of statement) (plain statements_spent)) (watch.spent (suc levels) p at is)
+      by_left each p at false is = (tt, clean_by (at_left levels) (λ inner at. mean_of levels inner at) each around statement caught)
+
+  -- ---- batches and calls, behind their beginning
+
+  pub clean_body_of : (read : ReadText) → RefusedUsual read → Exits (at_left statement_limit) (runs_text read)
+  clean_body_of read usual = clean_text (at_left statement_limit) (clean_mean statement_limit) read usual
+
+  pub clean_call_of : (call : RpcCall) (read : ReadText) → RefusedUsual read → Exits (at_left statement_limit) (runs_rpc (λ inner at. mean_of statement_limit inner at) call read)
+  clean_call_of call read usual = clean_rpc (at_left statement_limit) (clean_mean statement_limit) call read usual
+
+  -- with their end
+  pub clean_batch : ((failed : Bool) → TellsBy watch (batch_done failed)) → (read : ReadText) → RefusedUsual read → Plainly (at_left statement_limit) (runs_text read then ends)
+  clean_batch last read usual = clean_then (at_left statement_limit) (LeavesBy watch) Anything (runs_text read) ends (clean_body_of read usual) (λ exit other. clean_end (at_left statement_limit) last exit)
+
+  pub clean_whole_call : ((failed : Bool) → TellsBy watch (rpc_done failed)) → (call : RpcCall) (read : ReadText) → RefusedUsual read → Plainly (at_left statement_limit) (runs_rpc (λ inner at. mean_of statement_limit inner at) call read then ends_rpc)
+  clean_whole_call last call read usual = clean_then (at_left statement_limit) (LeavesBy watch) Anything (runs_rpc (λ inner at. mean_of statement_limit inner at) call read) ends_rpc (clean_call_of call read usual)
+      (λ exit other. clean_rpc_end (at_left statement_limit) last exit)
 
 -- ---- the laws
 
 pub statement_causes : StatementCauses
-statement_causes error levels around statement old new exchanges exit caught none held = held_clean error (LeavesOther error) (mean_of levels statement around) old new exchanges exit (clean_mean error levels statement around caught) none held
+statement_causes error levels around statement old new exchanges exit caught none held =
+    let came = held_clean (lock_watch error) (LeavesBy (lock_watch error)) levels (mean_of levels statement around) old new exchanges exit (λ enough. tt) (λ few q. tt)
+    (clean_mean (lock_watch error) levels statement around (caught_other error around.caught caught)) none held in
+    (leaves_other error exit came.0, (came.1.0, came.1.1, told_none error came.1.0 came.1.2))
 
 pub batch_causes : BatchCauses
 unfolding batch Held
 batch_causes error units read old new exchanges reads_so none held =
-    let come = held_clean error {A = Unit {0}} Anything (runs_text read then ends) (made (begins (vars_in_text read)) old) new exchanges tt
-    (clean_then error (LeavesOther error) Anything (runs_text read) ends (clean_text error read (read_usual units read reads_so)) (λ exit other. clean_end error exit)) none held in
-    subst (TellsNone error) (sym come.1.1) come.1.2
+    let come = held_clean (lock_watch error) {A = Unit {0}} Anything statement_limit (runs_text read then ends) (made (begins (vars_in_text read)) old) new exchanges tt (λ enough. tt) (λ few q. tt)
+    (clean_batch (lock_watch error) (λ failed. tt) read (read_usual units read reads_so)) none held in
+    subst (law.TellsNone error) (sym come.1.1) (told_none error come.1.0 come.1.2)
 
 pub call_causes : CallCauses
 unfolding rpc Held
 call_causes error call read old new exchanges reads_so none held =
-    let come = held_clean error {A = Unit {0}} Anything (runs_rpc (λ inner at. mean_of statement_limit inner at) call read then ends_rpc) (made counts (made (begins (rpc_vars call)) old)) new exchanges tt
-    (clean_then error (LeavesOther error) Anything (runs_rpc (λ inner at. mean_of statement_limit inner at) call read) ends_rpc (clean_rpc error call read (called_usual (rpc_text call) read reads_so)) (λ exit other. clean_rpc_end error exit)) none held in
-    subst (TellsNone error) (sym come.1.1) come.1.2
+    let come = held_clean (lock_watch error) {A = Unit {0}} Anything statement_limit (runs_rpc (λ inner at. mean_of statement_limit inner at) call read then ends_rpc) (made counts (made (begins (rpc_vars call)) old)) new exchanges tt (λ enough. tt) (λ few q. tt)
+    (clean_whole_call (lock_watch error) (λ failed. tt) call read (called_usual (rpc_text call) read reads_so)) none held in
+    subst (law.TellsNone error) (sym come.1.1) (told_none error come.1.0 come.1.2)

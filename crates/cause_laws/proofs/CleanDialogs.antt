@@ -1,4 +1,4 @@
--- The dialogs of reading tables and of writing changes fail by another error than one that the engine has unsaid answered.
+-- The dialogs of reading tables and of writing changes fail by another error than one that is looked for.
 use Rattle.std.proofs.Common.{◌≡◌, refl, ℕ, zero, suc, ℤ, pos, List, [], ◌∷◌, ◌++◌, Option, Some, None, Bool, true, false, Result, Ok, Err, if◌then◌else◌}
 use Rattle.lock_modes.specs.declared.KeyPart.TheVariants.{S}
 use Rattle.value_types.specs.declared.table_name.TableName.{TableName}
@@ -32,16 +32,12 @@ use Rattle.dml_exec.specs.Asking.{with_room, with_room_if}
 use Rattle.dml_exec.specs.Reading.{GivenRows, TableRead, behind_gone, fetch_of, fetches, fits, from, images_from, images_of, is_one_key, is_short, key_width, read_by, reads_of, reads_on, reads_range, reads_table, rows_from, rows_in, table_fetch, unless_given}
 use Rattle.dml_exec.specs.Writing.{asks_deed, attempts, broken, broken_by, checks_all, checks_one, checks_range, done_by, ends, halted, marked, no_room, object_present, or_nameless, outcome, present, primary_name, rows_checked, told, where_done, works, writes_all, writes_one}
 use Rattle.batch_meaning.specs.Asking.{number_of}
-use Rattle.cause_laws.specs.Causes.{LockError, Deadlock, LockTimeout, IsOther, is_answer}
 use Rattle.cause_laws.proofs.Usual.{UsualIf}
 use Rattle.cause_laws.proofs.UsualChanges.{usual_judged}
-use Rattle.cause_laws.proofs.Clean.{CleanDialog, FineOr, dialog_bind, dialog_if, dialog_room, dialog_then, timed_other, usual_other, victim_other}
+use Rattle.cause_laws.proofs.Watch.{Guard, IsOther, Says}
+use Rattle.cause_laws.proofs.Clean.{CleanDialog, FineOr, dialog_bind, dialog_room, dialog_then, usual_other}
 
-memory_none : (error : LockError) → is_answer error replies.Memory ≡ false
-memory_none Deadlock = refl
-memory_none LockTimeout = refl
-
-module _ (error : LockError) where
+module _ (error : Guard) where
   -- ---- reading
 
   -- why a reading goes no further is another error
@@ -51,21 +47,18 @@ module _ (error : LockError) where
   abbrev Reads : {A : Type 0} → Dialog (Result A Refusal) → Type 0
   Reads dialog = CleanDialog error (FineOr error OtherRefusal) dialog
 
-  memory_other : OtherRefusal Memory
-  memory_other = usual_other error (pos 701) refl
-
-  clean_read : (width : ℕ) (keeps : Keeps) (so_far : Rows) (reply : Reply) → is_answer error reply ≡ false → Reads (read_by width keeps so_far reply)
-  clean_read width keeps so_far (replies.Row key row at) unsaid = dialog_room error OtherRefusal Memory (said.over (Ok _)) memory_other tt
-  clean_read width keeps so_far (replies.Gone key at) unsaid = by_short (is_short width key)
+  clean_read : (width : ℕ) (keeps : Keeps) (so_far : Rows) (reply : Reply) → Says error reply → Reads (read_by width keeps so_far reply)
+  clean_read width keeps so_far (replies.Row key row at) says = dialog_room error OtherRefusal Memory (said.over (Ok _)) (λ other. other) tt
+  clean_read width keeps so_far (replies.Gone key at) says = by_short (is_short width key)
     where
       by_short : (b : Bool) → Reads {A = Rows × Option Start} (with_room_if b Memory (said.over (Ok (so_far, Some (behind_gone width key)))))
-      by_short true = dialog_room error OtherRefusal Memory (said.over (Ok (so_far, Some (behind_gone width key)))) memory_other tt
+      by_short true = dialog_room error OtherRefusal Memory (said.over (Ok (so_far, Some (behind_gone width key)))) (λ other. other) tt
       by_short false = tt
-  clean_read width keeps so_far (replies.End at) unsaid = tt
-  clean_read width keeps so_far replies.Memory unsaid = memory_other
-  clean_read width keeps so_far (replies.TimedOut holder held wanted on) unsaid = timed_other error holder held wanted on unsaid
-  clean_read width keeps so_far (replies.Victim cycle) unsaid = victim_other error cycle unsaid
-  clean_read width keeps so_far reply unsaid = tt
+  clean_read width keeps so_far (replies.End at) says = tt
+  clean_read width keeps so_far replies.Memory says = error.watch.memory says
+  clean_read width keeps so_far (replies.TimedOut holder held wanted on) says = error.watch.timed holder held wanted on says
+  clean_read width keeps so_far (replies.Victim cycle) says = error.watch.victim cycle says
+  clean_read width keeps so_far reply says = tt
 
   clean_fetches : (width : ℕ) (keeps : Keeps) (op : Op) (so_far : Rows) → Reads (fetches width keeps op so_far)
   clean_fetches width keeps (ops.Fetch table start stop hold part) so_far = clean_read width keeps so_far
@@ -93,17 +86,17 @@ module _ (error : LockError) where
       where
         by_given : (found : Option Rows) → Reads (unless_given found (reads_range (shape_of read.0.table shapes) level read))
         by_given None = clean_range (shape_of read.0.table shapes) (is_one_key (key_width (shape_of read.0.table shapes)) read.0.start read.0.stop) (table_fetch level read)
-        by_given (Some rows) = dialog_room error OtherRefusal Memory (said.over (Ok rows)) memory_other tt
+        by_given (Some rows) = dialog_room error OtherRefusal Memory (said.over (Ok rows)) (λ other. other) tt
 
     clean_from : (images : List Rows) (reads : List TableRead) → Reads (images_from given shapes level images reads)
     unfolding images_from
     clean_from images [] = tt
     clean_from images (read ∷ reads) = dialog_bind error OtherRefusal (reads_table given shapes level read) (λ rows. with_room Memory (images_from given shapes level (images ++ rows ∷ []) reads)) (clean_table read)
-        (λ rows. dialog_room error OtherRefusal Memory (images_from given shapes level (images ++ rows ∷ []) reads) memory_other (clean_from (images ++ rows ∷ []) reads))
+        (λ rows. dialog_room error OtherRefusal Memory (images_from given shapes level (images ++ rows ∷ []) reads) (λ other. other) (clean_from (images ++ rows ∷ []) reads))
 
     pub clean_images : (vars : List Value) (of : Bound) → Reads (images_of given shapes level vars of)
     unfolding images_of
-    clean_images vars of = dialog_room error OtherRefusal Memory (images_from given shapes level [] (reads_of vars shapes of)) memory_other (clean_from [] (reads_of vars shapes of))
+    clean_images vars of = dialog_room error OtherRefusal Memory (images_from given shapes level [] (reads_of vars shapes of)) (λ other. other) (clean_from [] (reads_of vars shapes of))
 
   -- ---- writing
 
@@ -120,24 +113,24 @@ module _ (error : LockError) where
       by_objects true = usual_other error (pos 2714) refl
       by_objects false = usual_other error (pos 2627) refl
 
-  clean_by : (shapes : List TableTree) (change : Planned) (reply : Reply) → is_answer error reply ≡ false → CleanDialog error (FineOr error (λ why. OtherWritten (outcome why))) (done_by shapes change reply)
-  clean_by shapes change replies.Done unsaid = tt
-  clean_by shapes change replies.Exists unsaid = dialog_room error (λ why. OtherWritten (outcome why)) no_room (said.over (Err (present shapes change.table change.key))) memory_other (present_other shapes change.table change.key)
-  clean_by shapes change replies.Missing unsaid = memory_other
-  clean_by shapes change replies.Memory unsaid = memory_other
-  clean_by shapes change (replies.TimedOut holder held wanted on) unsaid = timed_other error holder held wanted on unsaid
-  clean_by shapes change (replies.Victim cycle) unsaid = victim_other error cycle unsaid
-  clean_by shapes change reply unsaid = tt
+  clean_by : (shapes : List TableTree) (change : Planned) (reply : Reply) → Says error reply → CleanDialog error (FineOr error (λ why. OtherWritten (outcome why))) (done_by shapes change reply)
+  clean_by shapes change replies.Done says = tt
+  clean_by shapes change replies.Exists says = dialog_room error (λ why. OtherWritten (outcome why)) no_room (said.over (Err (present shapes change.table change.key))) (λ other. other) (present_other shapes change.table change.key)
+  clean_by shapes change replies.Missing says = error.watch.missing says
+  clean_by shapes change replies.Memory says = error.watch.memory says
+  clean_by shapes change (replies.TimedOut holder held wanted on) says = error.watch.timed holder held wanted on says
+  clean_by shapes change (replies.Victim cycle) says = error.watch.victim cycle says
+  clean_by shapes change reply says = tt
 
-  -- the reply that a change comes to is none of the error's
-  abbrev IsNone : Reply → Type 0
-  IsNone reply = is_answer error reply ≡ false
-
-  clean_tries : (op : Op) (quiet : said.IsQuiet op) → CleanDialog error IsNone (tries op quiet said.over)
+  clean_tries : (op : Op) (quiet : said.IsQuiet op) → CleanDialog error (Says error) (tries op quiet said.over)
   unfolding tries
-  clean_tries op quiet = λ enough. dialog_if error IsNone enough (said.asks op quiet said.over) (said.over replies.Memory) (λ reply unsaid. unsaid) (memory_none error)
+  clean_tries op quiet = by_room
+    where
+      by_room : (enough : Bool) → error.watch.May enough → CleanDialog error (Says error) (if enough then said.asks op quiet said.over else said.over replies.Memory)
+      by_room true may = λ reply says. says
+      by_room false may = error.watch.lacks may
 
-  clean_deed : (table : TableName) (key : List Value) (of : Deed) → CleanDialog error IsNone (asks_deed table key of)
+  clean_deed : (table : TableName) (key : List Value) (of : Deed) → CleanDialog error (Says error) (asks_deed table key of)
   clean_deed table key deed.Erase = clean_tries (ops.Erase table key) tt
   clean_deed table key (deed.Replace row) = clean_tries (ops.Replace table key row) tt
   clean_deed table key (deed.Insert row) = clean_tries (ops.Insert table key row) tt
@@ -146,12 +139,12 @@ module _ (error : LockError) where
   unfolding writes_all writes_one
   clean_writes shapes [] = tt
   clean_writes shapes (change ∷ changes) = dialog_bind error (λ why. OtherWritten (outcome why)) (writes_one shapes change) (λ done. writes_all shapes changes)
-      (dialog_then error IsNone (FineOr error (λ why. OtherWritten (outcome why))) (asks_deed change.table change.key change.deed) (done_by shapes change) (clean_deed change.table change.key change.deed) (clean_by shapes change))
+      (dialog_then error (Says error) (FineOr error (λ why. OtherWritten (outcome why))) (asks_deed change.table change.key change.deed) (done_by shapes change) (clean_deed change.table change.key change.deed) (clean_by shapes change))
       (λ done. clean_writes shapes changes)
 
   clean_checked : (shapes : List TableTree) (range : KeyRange) → CleanDialog error (FineOr error (λ why. OtherWritten (outcome why))) (rows_checked shapes range)
   unfolding rows_checked
-  clean_checked shapes range = dialog_room error (λ why. OtherWritten (outcome why)) no_room _ memory_other
+  clean_checked shapes range = dialog_room error (λ why. OtherWritten (outcome why)) no_room _ (λ other. other)
       (dialog_then error (FineOr error OtherRefusal) (FineOr error (λ why. OtherWritten (outcome why))) (checks_range (shape_of range.table shapes) range) halted
       (clean_range (shape_of range.table shapes) (is_one_key (key_width (shape_of range.table shapes)) range.start range.stop) (fetch_of range hold.Range S)) by_came)
     where
@@ -161,7 +154,7 @@ module _ (error : LockError) where
 
   clean_broken : (read : CheckRead) (number : Option ℤ) → UsualIf number → CleanDialog error (FineOr error (λ why. OtherWritten (outcome why))) (broken_by read number)
   clean_broken read None usual = tt
-  clean_broken read (Some number) usual = dialog_room error (λ why. OtherWritten (outcome why)) no_room (said.over (Err (broken number read.name))) memory_other (usual_other error number usual)
+  clean_broken read (Some number) usual = dialog_room error (λ why. OtherWritten (outcome why)) no_room (said.over (Err (broken number read.name))) (λ other. other) (usual_other error number usual)
 
   clean_checks : (shapes : List TableTree) (reads : List CheckRead) → CleanDialog error (FineOr error (λ why. OtherWritten (outcome why))) (checks_all shapes reads)
   unfolding checks_all checks_one
@@ -173,14 +166,14 @@ module _ (error : LockError) where
   clean_works : (shapes : List TableTree) (changes : List Planned) → CleanDialog error (FineOr error (λ why. OtherWritten (outcome why))) (works shapes changes)
   unfolding works
   clean_works shapes changes = dialog_bind error (λ why. OtherWritten (outcome why)) (writes_all shapes changes) (λ done. with_room no_room (checks_all shapes (reads_for changes shapes))) (clean_writes shapes changes)
-      (λ done. dialog_room error (λ why. OtherWritten (outcome why)) no_room (checks_all shapes (reads_for changes shapes)) memory_other (clean_checks shapes (reads_for changes shapes)))
+      (λ done. dialog_room error (λ why. OtherWritten (outcome why)) no_room (checks_all shapes (reads_for changes shapes)) (λ other. other) (clean_checks shapes (reads_for changes shapes)))
 
   abbrev pub OtherAttempt : Attempt → Type 0
   OtherAttempt attempt = OtherWritten attempt.came
 
   clean_ends : (mark : ℕ) (came : _) → FineOr error (λ why. OtherWritten (outcome why)) came → CleanDialog error OtherAttempt (ends mark came)
   clean_ends mark (Ok done) fine = tt
-  clean_ends mark (Err why) fine = λ reply unsaid. by_reply reply
+  clean_ends mark (Err why) fine = λ reply says. by_reply reply
     where
       by_reply : (reply : Reply) → CleanDialog error OtherAttempt (where_done (said.over (told (Some mark) (outcome why))) reply)
       by_reply replies.Done = fine
@@ -188,9 +181,9 @@ module _ (error : LockError) where
 
   pub clean_attempts : (shapes : List TableTree) (changes : List Planned) → CleanDialog error OtherAttempt (attempts shapes changes)
   unfolding attempts
-  clean_attempts shapes changes = λ reply unsaid. by_reply reply
+  clean_attempts shapes changes = λ reply says. by_reply reply says
     where
-      by_reply : (reply : Reply) → CleanDialog error OtherAttempt (marked shapes changes reply)
-      by_reply (replies.Marked mark) = dialog_then error (FineOr error (λ why. OtherWritten (outcome why))) OtherAttempt (works shapes changes) (ends mark) (clean_works shapes changes) (clean_ends mark)
-      by_reply replies.Memory = memory_other
-      by_reply reply = tt
+      by_reply : (reply : Reply) → Says error reply → CleanDialog error OtherAttempt (marked shapes changes reply)
+      by_reply (replies.Marked mark) says = dialog_then error (FineOr error (λ why. OtherWritten (outcome why))) OtherAttempt (works shapes changes) (ends mark) (clean_works shapes changes) (clean_ends mark)
+      by_reply replies.Memory says = error.watch.memory says
+      by_reply reply says = tt

@@ -1,5 +1,4 @@
--- What CREATE puts into `objects`, and the statements on transactions and cursors, tell an error of a lock in no token and fail by another one, while the engine
--- has never replied so.
+-- What CREATE puts into `objects`, and the statements on transactions and cursors, tell an error that is looked for in no token and fail by another one.
 use Rattle.std.proofs.Common.{◌≡◌, refl, ℕ, ℤ, pos, List, [], ◌∷◌, length, Option, Some, None, Bool, true, false, Result, Ok, Err, not, if◌then◌else◌, ◌==◌}
 use Rattle.std.specs.Prelude.{◌||◌, nat_le}
 use Rattle.value_types.specs.Units.{same_units}
@@ -13,8 +12,10 @@ use Rattle.bound_tree.specs.declared.write.Bound.{Bound}
 use Rattle.bound_tree.specs.declared.write.Bound.TheVariants as bound
 use Rattle.binder.specs.Names.{looked_up}
 use Rattle.clause_binder.specs.Scope.{is_long}
+use Rattle.session_cursors.specs.declared.cursor.Cursor.{Cursor}
 use Rattle.session_cursors.specs.declared.fault.CursorFault.{CursorFault}
 use Rattle.session_cursors.specs.declared.fault.CursorFault.TheVariants.{NoSuch, Present, AlreadyFilled, NotFilled, Memory}
+use Rattle.session_cursors.specs.Answers.{AnswerLeft}
 use Rattle.session_cursors.specs.Cursors as list
 use Rattle.txn_rules.specs.declared.state.BackKind.{BackKind}
 use Rattle.txn_rules.specs.declared.state.BackKind.TheVariants.{Mark, Whole}
@@ -40,36 +41,63 @@ use Rattle.batch_meaning.specs.Transactions.{begins_outermost, begins_over, begi
 use Rattle.batch_meaning.specs.Values.{Assigned, assigned_to, outside_limits}
 use Rattle.batch_meaning.specs.Working.{answers, asks_any, known_by, own, within}
 use Rattle.batch_meaning.specs.Writes.{creates, creates_definition, creates_table, inserted, is_odd_list, puts_definition, unless_objects, where_table}
-use Rattle.cause_laws.specs.Causes.{LockError, IsOther, TellsNone, TellsOther, is_answer}
 use Rattle.cause_laws.proofs.Usual.{UsualIf}
 use Rattle.cause_laws.proofs.UsualValues.{Anything, AnswersUsual, assigned_usual, commit_usual, rollback_usual, save_usual}
-use Rattle.cause_laws.proofs.Clean.{Clean, OtherOr, clean_begun, clean_bind, clean_comes, clean_done, clean_ended, clean_if, clean_marked, clean_naming, clean_refused, clean_room, timed_other, usual_other, victim_other}
+use Rattle.cause_laws.proofs.Watch.{Guard, IsOther, Says, TellsNone, TellsOther}
+use Rattle.cause_laws.proofs.Clean.{Clean, OtherOr, clean_begun, clean_bind, clean_comes, clean_done, clean_ended, clean_if, clean_marked, clean_naming, clean_refused, clean_room, usual_other, wants_other}
 use Rattle.cause_laws.proofs.CleanParts.{EffectOther, Effects, Parts, clean_answers, clean_binds, clean_bound, clean_left, clean_look, clean_own, clean_within}
 
-module _ (error : LockError) where
+-- ---- faults of cursors
+
+-- an answer, or a fault that is none of memory
+abbrev IsFault : CursorFault → Type 0
+IsFault Memory = ⊥
+IsFault fault = Unit {0}
+
+abbrev IsKnown : {A : Type 0} → Result A CursorFault → Type 0
+IsKnown (Ok a) = Unit {0}
+IsKnown (Err fault) = IsFault fault
+
+known_in : {A : Type 0} (give : Cursor Select → Result A CursorFault) (found : Option (Cursor Select)) → ((cursor : Cursor Select) → IsKnown (give cursor)) → IsKnown (list.given_in give found)
+known_in give None known = tt
+known_in give (Some cursor) known = known cursor
+
+known_given : {A : Type 0} (give : AnswerLeft → A) (left : Option AnswerLeft) → IsKnown (list.given_by give left)
+known_given give None = tt
+known_given give (Some left) = tt
+
+known_on : (left : Option AnswerLeft) → IsKnown (list.fill_on left)
+known_on None = tt
+known_on (Some left) = tt
+
+known_unless : (found : Option (Cursor Select)) → IsKnown (list.unless_present found)
+known_unless None = tt
+known_unless (Some cursor) = tt
+
+module _ (error : Guard) where
   -- ---- CREATE
 
   clean_back : (mark : ℕ) (failure : Failure) → IsOther error failure.number → Parts error (takes_back mark failure)
   unfolding takes_back
-  clean_back mark failure other = λ reply unsaid. clean_done error (OtherOr error {A = Unit {0}} Anything) (over (Err failure)) other reply
+  clean_back mark failure other = λ reply says. clean_done error (OtherOr error {A = Unit {0}} Anything) (over (Err failure)) other reply
 
-  clean_inserted : (mark : ℕ) (name : List ℕ) (reply : Reply) → is_answer error reply ≡ false → Parts error (inserted mark name reply)
-  clean_inserted mark name replies.Done unsaid = tt
-  clean_inserted mark name replies.Exists unsaid = λ enough. clean_back mark (if enough then naming object_present name else plain no_memory) (by_room enough)
+  clean_inserted : (mark : ℕ) (name : List ℕ) (reply : Reply) → Says error reply → Parts error (inserted mark name reply)
+  clean_inserted mark name replies.Done says = tt
+  clean_inserted mark name replies.Exists says = λ enough may. clean_back mark (if enough then naming object_present name else plain no_memory) (by_room enough may)
     where
-      by_room : (b : Bool) → IsOther error (if b then naming object_present name else plain no_memory).number
-      by_room true = usual_other error (pos 2714) refl
-      by_room false = usual_other error (pos 701) refl
-  clean_inserted mark name replies.Memory unsaid = clean_back mark (plain no_memory) (usual_other error (pos 701) refl)
-  clean_inserted mark name (replies.TimedOut holder held wanted on) unsaid = clean_back mark _ (timed_other error holder held wanted on unsaid)
-  clean_inserted mark name (replies.Victim cycle) unsaid = clean_back mark _ (victim_other error cycle unsaid)
-  clean_inserted mark name reply unsaid = tt
+      by_room : (b : Bool) → error.watch.May b → IsOther error (if b then naming object_present name else plain no_memory).number
+      by_room true may = usual_other error (pos 2714) refl
+      by_room false may = wants_other error may
+  clean_inserted mark name replies.Memory says = clean_back mark (plain no_memory) (error.watch.memory says)
+  clean_inserted mark name (replies.TimedOut holder held wanted on) says = clean_back mark _ (error.watch.timed holder held wanted on says)
+  clean_inserted mark name (replies.Victim cycle) says = clean_back mark _ (error.watch.victim cycle says)
+  clean_inserted mark name reply says = tt
 
   clean_creates : (name text : List ℕ) → Effects error (creates name text)
   unfolding creates
   clean_creates name text = clean_bind error {A = Unit {0}} Anything (EffectOther error) (with_room (asks ops.Mark (unless_refused (marked λ mark. asks (created name text) (inserted mark name))))) (λ put. over (Ok no_effect))
       (clean_room error {A = Unit {0}} Anything (asks ops.Mark (unless_refused (marked λ mark. asks (created name text) (inserted mark name))))
-      (clean_refused error {A = Unit {0}} Anything (marked λ mark. asks (created name text) (inserted mark name)) (λ reply unsaid. clean_marked error {A = Unit {0}} Anything (λ mark. asks (created name text) (inserted mark name)) (λ mark. clean_inserted mark name) reply)))
+      (clean_refused error {A = Unit {0}} Anything (marked λ mark. asks (created name text) (inserted mark name)) (λ reply says. clean_marked error {A = Unit {0}} Anything (λ mark. asks (created name text) (inserted mark name)) (λ mark. clean_inserted mark name) reply)))
       (λ put any. tt)
 
   clean_objects : (name : List ℕ) (tree : Doing (Result Effect Failure)) → Effects error tree → Effects error (unless_objects name tree)
@@ -105,7 +133,7 @@ module _ (error : LockError) where
   -- ---- transactions
 
   clean_first : (statement : Statement) (go : SessionProgress → Doing (Result Effect Failure)) → ((p : SessionProgress) → Effects error (go p)) → Effects error (bound_first statement go)
-  clean_first statement go clean = clean_bind error {A = Bound} Anything (EffectOther error) (reads λ p. comes_to (bound_over [] p.vars statement)) (λ of. with_room (reads go)) (clean_bound error [] statement) (λ of any. clean_room error (EffectOther error) (reads go) clean)
+  clean_first statement go clean = clean_bind error {A = Bound} Anything (EffectOther error) (reads λ p. comes_to (bound_over [] p.vars statement)) (λ of. with_room (reads go)) (clean_bound error [] statement) (λ of any. clean_room error (EffectOther error) (reads go) (λ p at. clean p))
 
   pub clean_begins : (statement : Statement) (name : Option (List ℕ)) → Effects error (begins_transaction statement name)
   unfolding begins_transaction begins_outermost
@@ -114,7 +142,7 @@ module _ (error : LockError) where
     where
       outermost : (serial : ℕ) → Effects error (begins_outermost name serial)
       outermost serial = clean_left error (EffectOther error) (transaction_begun serial ∷ []) _ (clean_room error (EffectOther error) _ (clean_refused error (EffectOther error) (where_begun (makes (opens name) (over (Ok (sending (transaction_begun serial ∷ []))))))
-          (λ reply unsaid. clean_begun error (EffectOther error) (makes (opens name) (over (Ok (sending (transaction_begun serial ∷ []))))) (tt, (tt, tt)) reply)))
+          (λ reply says. clean_begun error (EffectOther error) (makes (opens name) (over (Ok (sending (transaction_begun serial ∷ []))))) (tt, (tt, tt)) reply)))
 
   own_other : (is_own : Bool) (token : Token) → TellsOther error token → TellsNone error (unless_own is_own token)
   own_other true token other = tt
@@ -128,12 +156,12 @@ module _ (error : LockError) where
       by_answer p (Err number) usual = usual_other error number usual
       by_answer p (Ok false) usual = (tt, tt)
       by_answer p (Ok true) usual = clean_left error (EffectOther error) (unless_own p.is_own (transaction_committed p.txn.serial)) _
-          (λ reply unsaid. clean_ended error (OtherOr error (EffectOther error)) (over (Ok (sending (unless_own p.is_own (transaction_committed p.txn.serial))))) (own_other p.is_own (transaction_committed p.txn.serial) tt) reply)
+          (λ reply says. clean_ended error (OtherOr error (EffectOther error)) (over (Ok (sending (unless_own p.is_own (transaction_committed p.txn.serial))))) (own_other p.is_own (transaction_committed p.txn.serial) tt) reply)
 
   clean_whole : (p : SessionProgress) → Effects error (rolls_back_whole p)
   unfolding rolls_back_whole
   clean_whole p = clean_left error (EffectOther error) (unless_own p.is_own (transaction_rolled_back p.txn.serial)) _
-      (λ reply unsaid. clean_ended error (OtherOr error (EffectOther error)) (over (Ok (sending (unless_own p.is_own (transaction_rolled_back p.txn.serial))))) (own_other p.is_own (transaction_rolled_back p.txn.serial) tt) reply)
+      (λ reply says. clean_ended error (OtherOr error (EffectOther error)) (over (Ok (sending (unless_own p.is_own (transaction_rolled_back p.txn.serial))))) (own_other p.is_own (transaction_rolled_back p.txn.serial) tt) reply)
 
   pub clean_rolls : (statement : Statement) (name : Option (List ℕ)) → Effects error (rolls_back_transaction statement name)
   unfolding rolls_back_transaction
@@ -142,7 +170,7 @@ module _ (error : LockError) where
       by_answer : (called : List ℕ) (p : SessionProgress) (answer : Result BackKind ℤ) → AnswersUsual answer → Effects error (goes_back called p answer)
       by_answer called p (Err number) usual = clean_room error (EffectOther error) (over (Err (record { number = number; name = Some called }))) (usual_other error number usual)
       by_answer called p (Ok Whole) usual = clean_whole p
-      by_answer called p (Ok (Mark mark)) usual = λ reply unsaid. clean_done error (OtherOr error (EffectOther error)) (over (Ok no_effect)) tt reply
+      by_answer called p (Ok (Mark mark)) usual = λ reply says. clean_done error (OtherOr error (EffectOther error)) (over (Ok no_effect)) tt reply
 
       by_name : (name : Option (List ℕ)) (p : SessionProgress) → Effects error (rolls_back_to name p)
       by_name None p = clean_if error (OtherOr error (EffectOther error)) (is_closed p.txn) (fails nothing_open) (rolls_back_whole p) (usual_other error (pos 3903) refl) (clean_whole p)
@@ -155,24 +183,24 @@ module _ (error : LockError) where
       by_refusal : (refusal : Option ℤ) → UsualIf refusal → Effects error (saves_unless name refusal)
       by_refusal (Some number) usual = usual_other error number usual
       by_refusal None usual = clean_room error (EffectOther error) _ (clean_refused error (EffectOther error) (marked λ mark. with_room (makes (saves name mark) (over (Ok no_effect))))
-          (λ reply unsaid. clean_marked error (EffectOther error) (λ mark. with_room (makes (saves name mark) (over (Ok no_effect)))) (λ mark. clean_room error (EffectOther error) (makes (saves name mark) (over (Ok no_effect))) (tt, tt)) reply))
+          (λ reply says. clean_marked error (EffectOther error) (λ mark. with_room (makes (saves name mark) (over (Ok no_effect)))) (λ mark. clean_room error (EffectOther error) (makes (saves name mark) (over (Ok no_effect))) (tt, tt)) reply))
 
   -- ---- cursors
 
-  clean_fault : {B : Type 0} (P : B → Type 0) (name : List ℕ) (fault : CursorFault) → Clean error (OtherOr error P) (fails_for_cursor {A = B} name fault)
-  clean_fault {B = B} P name Present = clean_naming error B P already_there name refl
-  clean_fault {B = B} P name NoSuch = clean_naming error B P no_such_cursor name refl
-  clean_fault P name AlreadyFilled = usual_other error (pos 16905) refl
-  clean_fault P name NotFilled = usual_other error (pos 16917) refl
-  clean_fault P name Memory = usual_other error (pos 701) refl
+  clean_fault : {B : Type 0} (P : B → Type 0) (name : List ℕ) (fault : CursorFault) → IsFault fault → Clean error (OtherOr error P) (fails_for_cursor {A = B} name fault)
+  clean_fault {B = B} P name Present known = clean_naming error B P already_there name refl
+  clean_fault {B = B} P name NoSuch known = clean_naming error B P no_such_cursor name refl
+  clean_fault P name AlreadyFilled known = usual_other error (pos 16905) refl
+  clean_fault P name NotFilled known = usual_other error (pos 16917) refl
+  clean_fault P name Memory known = absurd known
 
-  clean_answered : {A : Type 0} (name : List ℕ) (go : A → Doing (Result Effect Failure)) (answer : Result A CursorFault) → ((a : A) → Effects error (go a)) → Effects error (answered name go answer)
-  clean_answered name go (Ok a) clean = clean a
-  clean_answered name go (Err fault) clean = clean_fault (EffectOther error) name fault
+  clean_answered : {A : Type 0} (name : List ℕ) (go : A → Doing (Result Effect Failure)) (answer : Result A CursorFault) → IsKnown answer → ((a : A) → Effects error (go a)) → Effects error (answered name go answer)
+  clean_answered name go (Ok a) known clean = clean a
+  clean_answered name go (Err fault) known clean = clean_fault (EffectOther error) name fault known
 
   pub clean_declares : (statement : Statement) (name : List ℕ) (select : Select) → Effects error (declares_cursor statement name select)
   unfolding declares_cursor
-  clean_declares statement name select = clean_first statement _ (λ p. clean_answered name (λ done. makes (declares name select) (over (Ok no_effect))) (list.declare_answer name p.cursors) (λ done. (tt, tt)))
+  clean_declares statement name select = clean_first statement _ (λ p. clean_answered name (λ done. makes (declares name select) (over (Ok no_effect))) (list.declare_answer name p.cursors) (known_unless (list.cursor_of name p.cursors)) (λ done. (tt, tt)))
 
   clean_filled : (around : Around) (name : List ℕ) (shapes : List TableTree) (of : Bound) → Effects error (opens_bound around name shapes of)
   unfolding fills_with
@@ -183,8 +211,8 @@ module _ (error : LockError) where
 
   pub clean_opens : (around : Around) (statement : Statement) (name : List ℕ) → Effects error (opens_cursor around statement name)
   unfolding opens_cursor
-  clean_opens around statement name = clean_first statement (λ p. answered name (opens_kept around statement name p) (list.query_of name p.cursors)) (λ p. clean_answered name (opens_kept around statement name p) (list.query_of name p.cursors)
-      (λ select. clean_answered name (λ done. within around (select_statement statement select) (opens_bound around name)) (list.fill_answer name p.cursors) (λ done. clean_within error (EffectOther error) around (select_statement statement select) (opens_bound around name) (clean_filled around name))))
+  clean_opens around statement name = clean_first statement (λ p. answered name (opens_kept around statement name p) (list.query_of name p.cursors)) (λ p. clean_answered name (opens_kept around statement name p) (list.query_of name p.cursors) (known_in (λ cursor. Ok cursor.query) (list.cursor_of name p.cursors) (λ cursor. tt))
+      (λ select. clean_answered name (λ done. within around (select_statement statement select) (opens_bound around name)) (list.fill_answer name p.cursors) (known_in (λ cursor. list.fill_on cursor.answer) (list.cursor_of name p.cursors) (λ cursor. known_on cursor.answer)) (λ done. clean_within error (EffectOther error) around (select_statement statement select) (opens_bound around name) (clean_filled around name))))
 
   clean_row : (p : SessionProgress) (variables : List (List ℕ)) (row : Option (List Value)) → Effects error (assigns_row p variables row)
   clean_row p variables None = (tt, tt)
@@ -192,14 +220,14 @@ module _ (error : LockError) where
 
   pub clean_fetches : (statement : Statement) (name : List ℕ) (variables : List (List ℕ)) → Effects error (fetches_cursor statement name variables)
   unfolding fetches_cursor
-  clean_fetches statement name variables = clean_first statement (λ p. answered name (fetches_into p name variables) (list.kinds_of name p.cursors)) (λ p. clean_answered name (fetches_into p name variables) (list.kinds_of name p.cursors)
+  clean_fetches statement name variables = clean_first statement (λ p. answered name (fetches_into p name variables) (list.kinds_of name p.cursors)) (λ p. clean_answered name (fetches_into p name variables) (list.kinds_of name p.cursors) (known_in (λ cursor. list.given_by (λ left. left.kinds) cursor.answer) (list.cursor_of name p.cursors) (λ cursor. known_given (λ left. left.kinds) cursor.answer))
       (λ kinds. clean_if error (OtherOr error (EffectOther error)) (length variables == length kinds) _ (fails other_count)
-      (clean_answered name (λ row. with_room (fetches_row p name variables row)) (list.next_of name p.cursors) (λ row. clean_room error (EffectOther error) (fetches_row p name variables row) (tt, clean_row p variables row))) (usual_other error (pos 49012) refl)))
+      (clean_answered name (λ row. with_room (fetches_row p name variables row)) (list.next_of name p.cursors) (known_in (λ cursor. list.given_by list.first_row cursor.answer) (list.cursor_of name p.cursors) (λ cursor. known_given list.first_row cursor.answer)) (λ row. clean_room error (EffectOther error) (fetches_row p name variables row) (tt, clean_row p variables row))) (usual_other error (pos 49012) refl)))
 
   pub clean_shuts : (statement : Statement) (name : List ℕ) → Effects error (closes_cursor statement name)
   unfolding closes_cursor
-  clean_shuts statement name = clean_first statement _ (λ p. clean_answered name (λ done. makes (shuts name) (over (Ok no_effect))) (list.close_answer name p.cursors) (λ done. (tt, tt)))
+  clean_shuts statement name = clean_first statement _ (λ p. clean_answered name (λ done. makes (shuts name) (over (Ok no_effect))) (list.close_answer name p.cursors) (known_in {A = Unit {0}} (λ cursor. list.given_by (λ left. tt) cursor.answer) (list.cursor_of name p.cursors) (λ cursor. known_given {A = Unit {0}} (λ left. tt) cursor.answer)) (λ done. (tt, tt)))
 
   pub clean_removes : (statement : Statement) (name : List ℕ) → Effects error (removes_cursor statement name)
   unfolding removes_cursor
-  clean_removes statement name = clean_first statement _ (λ p. clean_answered name (λ done. makes (removes name) (over (Ok no_effect))) (list.remove_answer name p.cursors) (λ done. (tt, tt)))
+  clean_removes statement name = clean_first statement _ (λ p. clean_answered name (λ done. makes (removes name) (over (Ok no_effect))) (list.remove_answer name p.cursors) (known_in {A = Unit {0}} (λ cursor. Ok tt) (list.cursor_of name p.cursors) (λ cursor. tt)) (λ done. (tt, tt)))

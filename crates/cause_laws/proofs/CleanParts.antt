@@ -1,5 +1,5 @@
--- The parts of statements: whatever a statement looks up, binds, reads and writes, and what it does by its form, tells an error of a lock in no token and
--- fails by another one, while the engine has never replied so.
+-- The parts of statements: whatever a statement looks up, binds, reads and writes, and what it does by its form, tells an error that is looked for in no token and
+-- fails by another one.
 use Rattle.std.proofs.Common.{refl, ℕ, zero, suc, ℤ, pos, List, [], ◌∷◌, length, Option, Some, None, Bool, true, false, Result, Ok, Err, is_ok, if◌then◌else◌}
 use Rattle.std.specs.Prelude.{nat_le, nat_lt}
 use Rattle.value_types.specs.Units.{same_units}
@@ -55,12 +55,12 @@ use Rattle.batch_meaning.specs.Tokens.{done_kind, result_tokens, row_tokens, sta
 use Rattle.batch_meaning.specs.Values.{Assigned, assigned_to, first_of, first_row, given_names, is_message, is_one, outside_limits, rows_assigned, status_of}
 use Rattle.batch_meaning.specs.Working.{answers, asks_any, assigns_rows, binds, closes, composes, composes_bound, computes, enters, given_in, if_it_fits, known_by, leaves, own, prepares, relaxes, select_bound, selects, selects_into, status_bound, statuses, tests, tests_bound, values_bound, within, works, works_bound}
 use Rattle.batch_meaning.specs.Writes.{Written, change_bound, changes, drops, drops_definition, drops_found, drops_table, fired_by, fires_of, shape_or}
-use Rattle.cause_laws.specs.Causes.{LockError, IsOther, TellsNone, TellsOther}
 use Rattle.cause_laws.proofs.UsualValues.{Anything, RaisesUsual, UsualOr, UsualRest, answer_usual, assigned_usual, bound_usual, call_usual, dropped_usual, planned_usual, raised_usual, referred_usual, rows_usual, status_usual}
+use Rattle.cause_laws.proofs.Watch.{Guard, IsOther, TellsNone, TellsOther}
 use Rattle.cause_laws.proofs.Clean.{Clean, FineOr, OtherOr, all_both, clean_begun, clean_bind, clean_comes, clean_done, clean_ended, clean_gives, clean_if, clean_naming, clean_refused, clean_room, clean_then, usual_other}
 use Rattle.cause_laws.proofs.CleanDialogs.{OtherAttempt, OtherRefusal, OtherWritten, clean_attempts, clean_images}
 
-module _ (error : LockError) where
+module _ (error : Guard) where
   -- a part that may fail, of which nothing is said where it doesn't
   abbrev pub Parts : {A : Type 0} → Doing (Result A Failure) → Type 0
   Parts {A = A} tree = Clean error (OtherOr error {A = A} Anything) tree
@@ -80,18 +80,18 @@ module _ (error : LockError) where
 
   pub clean_relaxes : Plainly relaxes
   unfolding relaxes
-  clean_relaxes = λ p. clean_if error Anything p.touched (asks ops.Relax (where_done (over tt))) (over tt) (λ reply unsaid. clean_done error Anything (over tt) tt reply) tt
+  clean_relaxes = λ p at. clean_if error Anything p.touched (asks ops.Relax (where_done (over tt))) (over tt) (λ reply says. clean_done error Anything (over tt) tt reply) tt
 
   pub clean_closes : (succeeded : Bool) → Plainly (closes succeeded)
   unfolding closes
-  clean_closes true = λ reply unsaid. clean_ended error Anything (over tt) tt reply
-  clean_closes false = λ reply unsaid. clean_ended error Anything (over tt) tt reply
+  clean_closes true = λ reply says. clean_ended error Anything (over tt) tt reply
+  clean_closes false = λ reply says. clean_ended error Anything (over tt) tt reply
 
   pub clean_enters : (asking : Bool) → Parts (enters asking)
   unfolding enters
   clean_enters false = tt
-  clean_enters true = λ p. clean_if error (OtherOr error {A = Home} Anything) p.is_open (over (Ok Open)) (asks ops.Begin (unless_refused (where_begun (over (Ok Own))))) tt
-      (clean_refused error {A = Home} Anything (where_begun (over (Ok Own))) (λ reply unsaid. clean_begun error {A = Home} Anything (over (Ok Own)) tt reply))
+  clean_enters true = λ p at. clean_if error (OtherOr error {A = Home} Anything) p.is_open (over (Ok Open)) (asks ops.Begin (unless_refused (where_begun (over (Ok Own))))) tt
+      (clean_refused error {A = Home} Anything (where_begun (over (Ok Own))) (λ reply says. clean_begun error {A = Home} Anything (over (Ok Own)) tt reply))
 
   pub clean_leaves : (home : Home) (succeeded : Bool) → Plainly (leaves home succeeded)
   unfolding leaves
@@ -110,7 +110,7 @@ module _ (error : LockError) where
   pub clean_look : (name : List ℕ) → Parts (look_up name)
   unfolding look_up
   clean_look name = clean_if error (OtherOr error {A = Option Definition} Anything) (is_objects name) (over (Ok None)) (with_room (asks (definition_fetch name) (unless_refused known))) tt
-      (clean_room error {A = Option Definition} Anything (asks (definition_fetch name) (unless_refused known)) (clean_refused error {A = Option Definition} Anything known (λ reply unsaid. by_reply reply)))
+      (clean_room error {A = Option Definition} Anything (asks (definition_fetch name) (unless_refused known)) (clean_refused error {A = Option Definition} Anything known (λ reply says. by_reply reply)))
     where
       by_reply : (reply : Reply) → Parts (known reply)
       by_reply (replies.Row key row at) = clean_room error {A = Option Definition} Anything (defines (key, row) (λ found. over (Ok found))) (λ found. tt)
@@ -133,7 +133,7 @@ module _ (error : LockError) where
   unfolding defined_from
   clean_defined zero start so_far = usual_other error (pos 49003) refl
   clean_defined (suc left) start so_far = clean_bind error {A = List Definition × Option (List Value)} {B = List Definition} Anything Anything (asks (objects_fetch start) (unless_refused (defined_by so_far))) (defined_on (λ more key. defined_from left (behind_gone 1 key) more))
-      (clean_refused error {A = List Definition × Option (List Value)} Anything (defined_by so_far) (λ reply unsaid. by_reply reply)) (λ came any. by_came (λ more key. clean_defined left (behind_gone 1 key) more) came)
+      (clean_refused error {A = List Definition × Option (List Value)} Anything (defined_by so_far) (λ reply says. by_reply reply)) (λ came any. by_came (λ more key. clean_defined left (behind_gone 1 key) more) came)
     where
       by_reply : (reply : Reply) → Parts (defined_by so_far reply)
       by_reply (replies.Row key row at) = clean_room error {A = List Definition × Option (List Value)} Anything (defines (key, row) (λ found. with_room (over (Ok (with_found so_far found, Some key)))))
@@ -170,7 +170,7 @@ module _ (error : LockError) where
 
   clean_reads : (given : GivenRows) (shapes : List TableTree) (of : Bound) → Parts (reads_images given shapes of)
   unfolding reads_images
-  clean_reads given shapes of = λ p. clean_reads_at given p.settings.level (values_of p.vars) shapes of
+  clean_reads given shapes of = λ p at. clean_reads_at given p.settings.level (values_of p.vars) shapes of
 
   clean_applies : (shapes : List TableTree) (planned : List Planned) → Parts (applies shapes planned)
   unfolding applies
@@ -186,7 +186,7 @@ module _ (error : LockError) where
   clean_prepares : (around : Around) (statement : Statement) → Parts (prepares around statement)
   unfolding prepares
   clean_prepares around statement = clean_bind error {A = List Definition} {B = List TableTree × Bound} Anything Anything (looks_up (known_by around statement) [] (looked_up statement)) _ (clean_looks (known_by around statement) [] (looked_up statement))
-      (λ definitions any. clean_bind error {A = Bound} {B = List TableTree × Bound} Anything Anything (reads λ p. comes_to (bound_over definitions p.vars statement)) _ (λ p. clean_comes error Anything (bound_over definitions p.vars statement) (bound_usual definitions p.vars statement))
+      (λ definitions any. clean_bind error {A = Bound} {B = List TableTree × Bound} Anything Anything (reads λ p. comes_to (bound_over definitions p.vars statement)) _ (λ p at. clean_comes error Anything (bound_over definitions p.vars statement) (bound_usual definitions p.vars statement))
       (λ of some. clean_comes error {A = List TableTree × Bound} Anything (Ok (tables_of definitions, of)) tt))
 
   pub clean_binds : {A : Type 0} (P : A → Type 0) (around : Around) (statement : Statement) (go : List TableTree → Bound → Doing (Result A Failure)) → ((shapes : List TableTree) (of : Bound) → Clean error (OtherOr error P) (go shapes of)) → Clean error (OtherOr error P) (binds around statement go)
@@ -200,13 +200,13 @@ module _ (error : LockError) where
 
   -- what is bound first may fail alone
   pub clean_bound : (definitions : List Definition) (statement : Statement) → Parts (reads λ p. comes_to (bound_over definitions p.vars statement))
-  clean_bound definitions statement = λ p. clean_comes error Anything (bound_over definitions p.vars statement) (bound_usual definitions p.vars statement)
+  clean_bound definitions statement = λ p at. clean_comes error Anything (bound_over definitions p.vars statement) (bound_usual definitions p.vars statement)
 
   -- ---- tokens
 
   pub done_other : (kind : DoneKind) (no_count : Bool) (command rows : ℕ) → TellsOther error (statement_done kind no_count command rows)
-  done_other kind true command rows = tt
-  done_other kind false command rows = tt
+  done_other kind true command rows = error.watch.more
+  done_other kind false command rows = error.watch.counted
 
   rows_other : (rows : Rows) → TellsNone error (row_tokens rows)
   rows_other [] = tt
@@ -223,7 +223,7 @@ module _ (error : LockError) where
       by_test false = tt
 
   pub clean_left : {A : Type 0} (P : A → Type 0) (tokens : List Token) (next : Doing (Result A Failure)) → Clean error (OtherOr error P) next → Clean error (OtherOr error P) (if_bytes_left tokens next)
-  clean_left P tokens next clean = λ p. clean_if error (OtherOr error P) (nat_lt p.bytes_left (size_of tokens)) (fails result_full) next (usual_other error (pos 49002) refl) clean
+  clean_left P tokens next clean = λ p at. clean_if error (OtherOr error P) (nat_lt p.bytes_left (size_of tokens)) (fails result_full) next (usual_other error (pos 49002) refl) clean
 
   clean_fits : (effect : Effect) → EffectOther effect → Effects (if_it_fits effect)
   unfolding if_it_fits
@@ -240,13 +240,13 @@ module _ (error : LockError) where
     pub clean_answers : (shapes : List TableTree) (query : BoundQuery) → Parts (answers around shapes query)
     unfolding answers
     clean_answers shapes query = clean_bind error {A = List Rows} {B = Rows} Anything Anything (reads_images (given_in around.fired) shapes (bound.Query query)) _ (clean_reads (given_in around.fired) shapes (bound.Query query))
-        (λ images any p. clean_comes error Anything (answer_in around p query images) (answer_usual around p query images))
+        (λ images any p at. clean_comes error Anything (answer_in around p query images) (answer_usual around p query images))
 
     clean_selects : (shapes : List TableTree) (query : BoundQuery) → Effects (selects around shapes query)
     unfolding selects
     clean_selects shapes query = clean_bind error {A = Rows} Anything EffectOther (answers around shapes query) _ (clean_answers shapes query)
         (λ rows any. clean_bind error EffectOther EffectOther (reads λ p. comes_to (result_of (done_kind around) p.settings.no_count query rows)) if_it_fits
-        (λ p. clean_room error EffectOther (over (result_of (done_kind around) p.settings.no_count query rows)) (by_limit p.settings.no_count rows (nat_le (length rows) row_limit))) clean_fits)
+        (λ p at. clean_room error EffectOther (over (result_of (done_kind around) p.settings.no_count query rows)) (by_limit p.settings.no_count rows (nat_le (length rows) row_limit))) clean_fits)
       where
         by_limit : (no_count : Bool) (rows : Rows) (b : Bool) → OtherOr error EffectOther (if b then Ok (record { sets = []; rows = length rows; tokens = result_tokens (done_kind around) no_count (columns_of query) rows }) else Err (plain result_full))
         by_limit no_count rows true = result_other (done_kind around) no_count (columns_of query) rows
@@ -255,7 +255,7 @@ module _ (error : LockError) where
     clean_into : (shapes : List TableTree) (query : BoundQuery) (places : List ℕ) → Effects (selects_into around shapes query places)
     unfolding selects_into
     clean_into shapes query places = clean_bind error {A = Rows} Anything EffectOther (answers around shapes query) _ (clean_answers shapes query)
-        (λ rows any p. clean_room error EffectOther (assigns_rows (length rows) (rows_assigned p.vars places [] rows)) (by_rows (length rows) p.vars (rows_assigned p.vars places [] rows) (rows_usual p.vars places [] rows)))
+        (λ rows any p at. clean_room error EffectOther (assigns_rows (length rows) (rows_assigned p.vars places [] rows)) (by_rows (length rows) p.vars (rows_assigned p.vars places [] rows) (rows_usual p.vars places [] rows)))
       where
         by_rows : (count : ℕ) (vars : List Variable) (came : List Assigned × Option Failure) → UsualRest vars came → Effects (assigns_rows count came)
         by_rows count vars (sets, None) usual = tt
@@ -276,7 +276,7 @@ module _ (error : LockError) where
     clean_computes : (form : Layer) (shapes : List TableTree) (of : Bound) → Effects (computes around form shapes of)
     unfolding computes
     clean_computes form shapes of = clean_bind error {A = Rows} Anything EffectOther (values_bound around shapes of) _ (clean_values shapes of)
-        (λ rows any p. clean_room error EffectOther (over (made_of form p.vars (first_row rows))) (by_form p.vars (first_row rows) form))
+        (λ rows any p at. clean_room error EffectOther (over (made_of form p.vars (first_row rows))) (by_form p.vars (first_row rows) form))
       where
         by_sets : (sets : Result (List Assigned) Failure) → UsualOr Anything sets → OtherOr error EffectOther (Rattle.batch_meaning.specs.Values.◌>>=◌ sets (λ done. Ok (Rattle.batch_meaning.specs.Selecting.assigning done)))
         by_sets (Ok sets) usual = tt
@@ -329,7 +329,7 @@ module _ (error : LockError) where
       clean_call status name arguments = clean_room error {A = Call} Anything _ (clean_own {A = Call} Anything (asks_any (known_by around statement) (name ∷ [])) _
           (clean_bind error {A = Option Definition} {B = Call} Anything Anything (finds_by (known_by around statement name) name) _ (clean_finds (known_by around statement name) name)
           (λ found any. clean_bind error {A = Bound} {B = Call} Anything Anything (reads λ p. comes_to (bound_over [] p.vars statement)) _ (clean_bound [] statement)
-          (λ of some p. clean_comes error {A = Call} Anything (call_over around status name arguments p.vars found) (call_usual around status name arguments p.vars found)))))
+          (λ of some p at. clean_comes error {A = Call} Anything (call_over around status name arguments p.vars found) (call_usual around status name arguments p.vars found)))))
 
     -- ---- INSERT, UPDATE and DELETE
 
@@ -341,8 +341,8 @@ module _ (error : LockError) where
     clean_changes shape shapes write =
         clean_bind error {A = List Definition} Anything WrittenOther reads_definitions _ clean_definitions (λ definitions any.
         clean_bind error {A = List Rows} Anything WrittenOther (reads_images (given_in around.fired) (shape ∷ shapes) (bound.Write write)) _ (clean_reads (given_in around.fired) (shape ∷ shapes) (bound.Write write)) (λ images any.
-        clean_bind error {A = List Planned} Anything WrittenOther (reads λ p. comes_to (planned_over around p (shape ∷ shapes) write images)) _ (λ p. clean_comes error {A = List Planned} Anything (planned_over around p (shape ∷ shapes) write images) (planned_usual around p (shape ∷ shapes) write images)) (λ planned any.
-        clean_bind error EffectOther WrittenOther (reads λ p. comes_to (Ok (told_by (done_kind around) p.settings.no_count write planned))) _ (λ p. clean_room error EffectOther (over (Ok (told_by (done_kind around) p.settings.no_count write planned))) (done_other (done_kind around) p.settings.no_count (write_command write) _, tt)) (λ effect other.
+        clean_bind error {A = List Planned} Anything WrittenOther (reads λ p. comes_to (planned_over around p (shape ∷ shapes) write images)) _ (λ p at. clean_comes error {A = List Planned} Anything (planned_over around p (shape ∷ shapes) write images) (planned_usual around p (shape ∷ shapes) write images)) (λ planned any.
+        clean_bind error EffectOther WrittenOther (reads λ p. comes_to (Ok (told_by (done_kind around) p.settings.no_count write planned))) _ (λ p at. clean_room error EffectOther (over (Ok (told_by (done_kind around) p.settings.no_count write planned))) (done_other (done_kind around) p.settings.no_count (write_command write) _, tt)) (λ effect other.
         clean_bind error EffectOther WrittenOther (if_it_fits effect) _ (clean_fits effect other) (λ fitting fits.
         clean_bind error Anything WrittenOther (comes_to (Ok (fires_of around definitions write))) _ (clean_comes error Anything (Ok (fires_of around definitions write)) tt) (λ fires any.
         clean_bind error Anything WrittenOther (comes_to (Ok (fired_by (shape_or shape (shape_of (table_written write) (shape ∷ shapes))) write images planned))) _ (clean_comes error Anything (Ok (fired_by (shape_or shape (shape_of (table_written write) (shape ∷ shapes))) write images planned)) tt) (λ fired any.
@@ -363,7 +363,7 @@ module _ (error : LockError) where
         clean_bind error {A = List Definition} Anything EffectOther reads_definitions _ clean_definitions (λ definitions any.
         clean_bind error {A = Unit {0}} Anything EffectOther (comes_to (unless_referred name (tables_of definitions))) _ (clean_comes error Anything (unless_referred name (tables_of definitions)) (referred_usual name (tables_of definitions))) (λ free any.
         clean_bind error {A = List Rows} Anything EffectOther (with_room (reads_at none_given level.Serializable [] (shape ∷ []) (bound.Write (whole name)))) _ (clean_room error {A = List Rows} Anything (reads_at none_given level.Serializable [] (shape ∷ []) (bound.Write (whole name))) (clean_reads_at none_given level.Serializable [] (shape ∷ []) (bound.Write (whole name)))) (λ images any.
-        clean_bind error {A = List Planned} Anything EffectOther (reads λ p. comes_to (dropped around p definitions shape name images)) _ (λ p. clean_comes error {A = List Planned} Anything (dropped around p definitions shape name images) (dropped_usual around p definitions shape name images)) (λ planned any.
+        clean_bind error {A = List Planned} Anything EffectOther (reads λ p. comes_to (dropped around p definitions shape name images)) _ (λ p at. clean_comes error {A = List Planned} Anything (dropped around p definitions shape name images) (dropped_usual around p definitions shape name images)) (λ planned any.
         clean_bind error {A = ℕ} Anything EffectOther (applies [] planned) (λ put. over (Ok no_effect)) (clean_applies [] planned) (λ put any. tt)))))
 
     clean_erased : (name : List ℕ) → Effects (drops_definition around name)

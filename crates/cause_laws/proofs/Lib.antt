@@ -1,13 +1,15 @@
 -- Read in this order; the comment behind a name says what the file is for.
-pub mod Usual  -- which numbers are none of a lock error's: those of conversions, expressions and queries
+pub mod Usual  -- which numbers are none of those that are looked for: those of conversions, expressions and queries
 pub mod UsualBinding  -- those by which what is bound one after another is refused
 pub mod UsualTrees  -- those by which expressions, tests and selects are
 pub mod UsualBound  -- those by which a statement is
 pub mod UsualChanges  -- those by which a write is
 pub mod UsualValues  -- those of what a statement makes of values
-pub mod Clean  -- trees that tell an error of a lock in no token
+pub mod Watch  -- what is looked for
+pub mod Clean  -- trees that tell it in no token
 pub mod CleanDialogs  -- the dialogs of reading and writing are such
 pub mod CleanParts  -- so are the parts of statements
 pub mod CleanForms  -- so are CREATE, and the statements on transactions and cursors
+pub mod Locks  -- the errors of locks are looked for
 pub mod Causes  -- an error of a lock is told only where the engine has replied so
 mod StandardFacts  -- worked exchanges

@@ -48,10 +48,11 @@ use Rattle.cause_laws.proofs.Usual.{IsUsual, Usual, UsualIf, usual_after, usual_
 
 -- ---- faults
 
+-- of an error with a usual number; no definition gives want of memory
 abbrev pub UsualFault : EvalFault → Type 0
 UsualFault (Number number) = IsUsual number
 UsualFault (Named number name) = IsUsual number
-UsualFault Memory = Unit {0}
+UsualFault Memory = ⊥
 
 abbrev pub UsualMaybe : Option EvalFault → Type 0
 UsualMaybe None = Unit {0}

@@ -1,16 +1,19 @@
 -- What statements make of the values of their expressions, and what they are bound to and answered, fails by usual numbers alone; and the numbers of what PRINT,
 -- RAISERROR and THROW compose are usual.
 use Rattle.std.proofs.Common.{◌≡◌, ◌⊎◌, inl, inr, refl, sym, subst, ℕ, ℤ, pos, List, [], ◌∷◌, ◌++◌, get_or, Option, Some, None, Bool, true, false, Result, Ok, Err, if◌then◌else◌, ◌==◌}
-use Rattle.std.specs.Prelude.{int_le, negsuc, ◌&&◌, nat_le, slice_get}
+use Rattle.std.specs.Prelude.{codes, int_le, length, negsuc, ◌&&◌, nat_le, slice_get}
+use Rattle.std.specs.Fmt.{signed_decimal}
 use Rattle.std.specs.Ordering.{int_eq}
 use Rattle.value_types.specs.declared.sql_type.SqlType.{SqlType}
-use Rattle.value_types.specs.declared.sql_type.SqlType.TheVariants.{Int}
+use Rattle.value_types.specs.declared.sql_type.SqlType.TheVariants.{TinyInt, SmallInt, Int, BigInt, Bit as BitType, NText}
 use Rattle.value_types.specs.declared.value.Value.{Value}
 use Rattle.value_types.specs.declared.value.Value.TheVariants.{Null, Whole, Bit, Text}
 use Rattle.convert_rules.specs.declared.fault.ConvertFault.{ConvertFault}
-use Rattle.convert_rules.specs.Conversion.{cast_of}
+use Rattle.convert_rules.specs.declared.fault.ConvertFault.TheVariants as conversion
+use Rattle.convert_rules.specs.Conversion.{bit_number, cast_of, from_whole, read_bit, read_whole, says, text_cut, whole_in}
 use Rattle.convert_rules.specs.Errors.{error_of}
-use Rattle.convert_rules.specs.Types.{type_of}
+use Rattle.convert_rules.specs.Reading as digits
+use Rattle.convert_rules.specs.Types.{is_in_range, type_of}
 use Rattle.session_vars.specs.declared.Variable.{Variable}
 use Rattle.session_vars.specs.Variables.{place_of}
 use Rattle.tsql_tree.specs.declared.definition.Definition.{Definition}
@@ -89,16 +92,58 @@ results_then P Q (Err failure) next usual more = usual
 
 -- ---- conversions and assignments
 
-cast_usual : (to : SqlType) (of : Value) → UsualOr Anything (cast_to to of)
-cast_usual to of = by_cast (cast_of of to)
-  where
-    by_number : (number : Option ℤ) → UsualIf number → UsualOr {A = Value} Anything (failed_as number)
-    by_number None usual = refl
-    by_number (Some number) usual = usual
+-- a conversion gives a value, or a fault other than want of memory
+abbrev NeverWants : Result Value ConvertFault → Type 0
+NeverWants (Ok made) = Unit {0}
+NeverWants (Err conversion.Memory) = ⊥
+NeverWants (Err fault) = Unit {0}
 
-    by_cast : (came : Result Value ConvertFault) → UsualOr {A = Value} Anything (cast_as of to came)
-    by_cast (Ok made) = tt
-    by_cast (Err fault) = by_number (error_of fault (type_of of) to) (usual_error fault (type_of of) to)
+wants_if : (test : Bool) (first other : Result Value ConvertFault) → NeverWants first → NeverWants other → NeverWants (if test then first else other)
+wants_if true first other one two = one
+wants_if false first other one two = two
+
+whole_wants : (kind : SqlType) (number : ℤ) → NeverWants (whole_in kind number)
+whole_wants kind number = wants_if (is_in_range kind number) (Ok (Whole number)) (Err conversion.Overflow) tt tt
+
+number_wants : (to : SqlType) (number : ℤ) → NeverWants (from_whole to number)
+number_wants BitType number = tt
+number_wants (NText size) number = wants_if (nat_le (length (signed_decimal number)) size) (Ok (Text (signed_decimal number))) (Err conversion.Overflow) tt tt
+number_wants TinyInt number = whole_wants TinyInt number
+number_wants SmallInt number = whole_wants SmallInt number
+number_wants Int number = whole_wants Int number
+number_wants BigInt number = whole_wants BigInt number
+
+read_wants : (kind : SqlType) (number : Option ℤ) → NeverWants (read_whole kind number)
+read_wants kind None = tt
+read_wants kind (Some number) = whole_wants kind number
+
+bit_wants : (number : Option ℤ) → NeverWants (read_bit number)
+bit_wants None = tt
+bit_wants (Some number) = tt
+
+text_wants : (to : SqlType) (units : List ℕ) → NeverWants (text_cut to units)
+text_wants BitType units = wants_if (says (codes "true") units) (Ok (Bit true)) (if says (codes "false") units then Ok (Bit false) else read_bit (digits.number_in units)) tt (wants_if (says (codes "false") units) (Ok (Bit false)) (read_bit (digits.number_in units)) tt (bit_wants (digits.number_in units)))
+text_wants (NText size) units = tt
+text_wants TinyInt units = read_wants TinyInt (digits.number_in units)
+text_wants SmallInt units = read_wants SmallInt (digits.number_in units)
+text_wants Int units = read_wants Int (digits.number_in units)
+text_wants BigInt units = read_wants BigInt (digits.number_in units)
+
+cast_wants : (of : Value) (to : SqlType) → NeverWants (cast_of of to)
+cast_wants Null to = tt
+cast_wants (Whole number) to = number_wants to number
+cast_wants (Bit bit) to = number_wants to (bit_number bit)
+cast_wants (Text units) to = text_wants to units
+
+cast_usual : (to : SqlType) (of : Value) → UsualOr Anything (cast_to to of)
+cast_usual to of = by_cast (cast_of of to) (cast_wants of to)
+  where
+    by_cast : (came : Result Value ConvertFault) → NeverWants came → UsualOr {A = Value} Anything (cast_as of to came)
+    by_cast (Ok made) fine = tt
+    by_cast (Err conversion.Overflow) fine = usual_error conversion.Overflow (type_of of) to
+    by_cast (Err conversion.NotANumber) fine = usual_error conversion.NotANumber (type_of of) to
+    by_cast (Err conversion.TooLong) fine = usual_error conversion.TooLong (type_of of) to
+    by_cast (Err conversion.Memory) fine = absurd fine
 
 module _ (vars : List Variable) where
   onto_usual : (so_far : List Assigned) (places : List ℕ) (values : List Value) → UsualOr Anything (assigned_onto vars so_far places values)
@@ -176,7 +221,7 @@ module _ (procedure : List ℕ) (line : ℤ) where
   raised_usual (Form-F.Throw number text state) values =
       results_then (λ n. int_le least_number n ≡ true) RaisesUsual (number_between least_number greatest_number (get_or values 0 Null)) _ (between_usual least_number greatest_number (get_or values 0 Null)) (λ n is.
       results_then Anything RaisesUsual (text_in (get_or values 1 Null)) _ (text_usual (get_or values 1 Null)) (λ units any.
-      results_then (λ m. int_le (pos 0) m ≡ true) RaisesUsual (number_between (pos 0) greatest_state (get_or values 2 Null)) _ (between_usual (pos 0) greatest_state (get_or values 2 Null)) (λ two so. usual_by (int_le least_number) n refl refl is)))
+      results_then (λ m. int_le (pos 0) m ≡ true) RaisesUsual (number_between (pos 0) greatest_state (get_or values 2 Null)) _ (between_usual (pos 0) greatest_state (get_or values 2 Null)) (λ two so. usual_by (int_le least_number) n refl refl refl refl is)))
   raised_usual form values = refl
 
 -- ---- what is bound, answered and planned
@@ -199,7 +244,7 @@ fine_plan : (plan : Plan) → UsualPlan plan → UsualOr Anything (planned_as pl
 fine_plan (Ok changes) usual = tt
 fine_plan (Err (Number number)) usual = usual
 fine_plan (Err (Named number name)) usual = usual
-fine_plan (Err Memory) usual = refl
+fine_plan (Err Memory) usual = absurd usual
 
 pub planned_usual : (around : Around) (p : SessionProgress) (shapes : List TableTree) (of : BoundWrite) (images : List Rows) → UsualOr Anything (planned_over around p shapes of images)
 planned_usual around p shapes of images = by_shape (shape_of (table_written of) shapes)

@@ -5,4 +5,7 @@ pub mod Talks  -- what a talk has asked, request by request
 pub mod Shut  -- what a batch or a call that was left has open is rolled back
 pub mod Served  -- what a connection has asked are batches and calls; and so it is of connections one behind another
 pub mod Sound  -- each commit keeps its database intact, and each database of the log is
+pub mod Once  -- a batch's tokens with one DONE at their end
+pub mod Responses  -- what holds of each response by its own stretch of what the connection has asked
 pub mod Causes  -- each response tells an error of a lock only where the engine has replied so
+pub mod Ample  -- each response is whole, and tells want of memory only where it was wanting

@@ -2,3 +2,4 @@
 pub mod Tasks  -- AsksTasks: what a connection has asked, one batch or call after another
 pub mod Laws  -- ConnectionAsks, ConnectionServed, ConnectionsKeep, ConnectionsSound: the laws
 pub mod Causes  -- ConnectionCauses: each response tells an error of a lock only where the engine has replied so
+pub mod Ample  -- ConnectionEnds, ConnectionAmple: each response is whole, and refuses nothing without a refusal

@@ -1,14 +1,15 @@
 //! Laws of connections: what one connection asks of its port are batches and calls by RPC, one behind another, and what texts of
 //! its messages keep reads back; a transaction may go over them, and what is open at the end is rolled back. So each commit of a
 //! session that serves connections keeps its database sound, and in every run of such sessions each database that the commits of
-//! the log leave is sound. And each response tells ERROR 1205 and ERROR 1222 only where the engine has
-//! replied so.
+//! the log leave is sound. And each response is whole, tells ERROR 1205 and ERROR 1222 only where the engine has
+//! replied so, and where memory is not wanting, ERROR 701 only where the engine refused an operation.
 //!
-//! Read `specs/Tasks.antt` first, then `specs/Laws.antt` and `specs/Causes.antt`. The functions do nothing: each one's contract is a law of what
+//! Read `specs/Tasks.antt` first, then `specs/Laws.antt`, `specs/Causes.antt` and `specs/Ample.antt`. The functions do nothing: each one's contract is a law of what
 //! messages ask (`session_server`), for every reply that may come, and of runs of the engine (`step_model`). They ask nothing
 //! of their caller; only the definitions that they cite say what they mean.
 #![tactic(auto)]
 
+ghost use Rattle.connection_laws.specs.Ample.{ConnectionAmple, ConnectionEnds};
 ghost use Rattle.connection_laws.specs.Causes.{ConnectionCauses};
 ghost use Rattle.connection_laws.specs.Laws.{ConnectionAsks, ConnectionServed, ConnectionSound, ConnectionsKeep, ConnectionsSound, HistorySound};
 
@@ -46,4 +47,15 @@ pub fn law_connection_sound()
 /// session the victim of a deadlock, or says that a lock stands in its way, the response does not tell that error.
 pub fn law_connection_causes()
     ensures { ConnectionCauses }
+{}
+
+/// Each response of a connection is whole: its tokens end with the one DONE behind which nothing follows.
+pub fn law_connection_ends()
+    ensures { ConnectionEnds }
+{}
+
+/// Where memory was never wanting, each response of a connection has its own stretch of what the connection has asked, one behind another. Where no reply in that
+/// refuses an operation, the response tells no ERROR 701, 1205 or 1222.
+pub fn law_connection_ample()
+    ensures { ConnectionAmple }
 {}

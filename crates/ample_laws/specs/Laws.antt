@@ -1,0 +1,76 @@
+-- Own: nothing is refused without a refusal. Where memory is not wanting and no reply refuses, no error stands for a refusal; a response is whole; and 49001
+-- is told only where a batch has begun all statements that it may.
+use Rattle.std.specs.Prelude.{◌≡◌, ◌≢◌, ◌≤◌, ℕ, List, ◌++◌}
+use Rattle.tsql_tree.specs.declared.statement.Statement.{Statement}
+use Rattle.step_model.specs.Exchange.{Exchange}
+use Rattle.tds_tokens.specs.declared.token.Token.{Token}
+use Rattle.rpc_requests.specs.declared.call.RpcCall.{RpcCall}
+use Rattle.batch_meaning.specs.declared.exit.Exit.{Exit}
+use Rattle.batch_meaning.specs.declared.form.ReadText.{ReadText}
+use Rattle.batch_meaning.specs.Doing.{Doing, Held}
+use Rattle.batch_meaning.specs.Meaning.{batch, mean_of}
+use Rattle.batch_meaning.specs.Progress.{SessionProgress}
+use Rattle.batch_meaning.specs.Raised.{Around}
+use Rattle.batch_meaning.specs.Rpc.{ReadsCallAs, rpc}
+use Rattle.batch_meaning.specs.Statements.{ReadsAs}
+use Rattle.batch_meaning.specs.Tokens.{batch_done, rpc_done}
+use Rattle.ample_laws.specs.Ample.{Ample, NoneRefused}
+use Rattle.ample_laws.specs.Telling.{CaughtOnly, EndsWith, IsNoLimit, IsNoRefusal, LeavesOnly, TellsOnly}
+
+-- What was done where memory was never wanting was done: the laws of `Held` hold of it, and it is about the same exchanges.
+abbrev pub AmpleHeld : Type 0 → Type 0
+AmpleHeld A = (tree : Doing A) (old new : SessionProgress) (exchanges : List Exchange) (result : A)
+    → Ample tree old exchanges result new → Held tree old exchanges result new
+
+-- so it is of statements, and of batches and calls
+abbrev pub AmpleIsHeld : Type 0
+AmpleIsHeld = AmpleHeld Exit × AmpleHeld (Unit {0})
+
+-- ---- no refusal
+
+-- A statement for which memory was never wanting, and to which no reply was a refusal, sends no token that tells 701, 1205 or 1222, and raises another error,
+-- if any. Of statements in the CATCH of such an error nothing is said: there THROW raises it again.
+abbrev pub AmpleStatements : Type 0
+AmpleStatements = (levels : ℕ) (around : Around) (statement : Statement) (old new : SessionProgress) (exchanges : List Exchange) (exit : Exit)
+    → CaughtOnly IsNoRefusal around.caught → NoneRefused exchanges → Ample (mean_of levels statement around) old exchanges exit new
+    → LeavesOnly IsNoRefusal exit × ((sent : List Token) × (new.tokens ≡ old.tokens ++ sent) × TellsOnly IsNoRefusal sent)
+
+-- Such a batch, as its text is read, tells none of them.
+abbrev pub AmpleBatches : Type 0
+AmpleBatches = (text : List ℕ) (read : ReadText) (old new : SessionProgress) (exchanges : List Exchange)
+    → ReadsAs text read → NoneRefused exchanges → Ample (batch read) old exchanges tt new → TellsOnly IsNoRefusal new.tokens
+
+-- Nor does such a call by RPC.
+abbrev pub AmpleCalls : Type 0
+AmpleCalls = (call : RpcCall) (read : ReadText) (old new : SessionProgress) (exchanges : List Exchange)
+    → ReadsCallAs call read → NoneRefused exchanges → Ample (rpc call read) old exchanges tt new → TellsOnly IsNoRefusal new.tokens
+
+-- ---- whole responses
+
+-- A batch that was done has sent its last DONE, whatever was replied, and before it none that is the end.
+abbrev pub BatchesEnd : Type 0
+BatchesEnd = (text : List ℕ) (read : ReadText) (old new : SessionProgress) (exchanges : List Exchange)
+    → ReadsAs text read → Held (batch read) old exchanges tt new → EndsWith batch_done new.tokens
+
+-- A call by RPC has sent its last DONEPROC.
+abbrev pub CallsEnd : Type 0
+CallsEnd = (call : RpcCall) (read : ReadText) (old new : SessionProgress) (exchanges : List Exchange)
+    → ReadsCallAs call read → Held (rpc call read) old exchanges tt new → EndsWith rpc_done new.tokens
+
+-- ---- the limit of statements
+
+-- A statement, of no fewer levels than statements are left, behind which some still are, sends no token that tells 49001, and raises another error, if any.
+abbrev pub StatementsWithin : Type 0
+StatementsWithin = (levels : ℕ) (around : Around) (statement : Statement) (old new : SessionProgress) (exchanges : List Exchange) (exit : Exit)
+    → CaughtOnly IsNoLimit around.caught → old.statements_left ≤ levels → new.statements_left ≢ 0 → Held (mean_of levels statement around) old exchanges exit new
+    → LeavesOnly IsNoLimit exit × ((sent : List Token) × (new.tokens ≡ old.tokens ++ sent) × TellsOnly IsNoLimit sent)
+
+-- A batch behind which some statements are left, of the 1,000,000 that it may begin, does not tell 49001.
+abbrev pub BatchesWithin : Type 0
+BatchesWithin = (text : List ℕ) (read : ReadText) (old new : SessionProgress) (exchanges : List Exchange)
+    → ReadsAs text read → new.statements_left ≢ 0 → Held (batch read) old exchanges tt new → TellsOnly IsNoLimit new.tokens
+
+-- Nor does a call by RPC behind which some are.
+abbrev pub CallsWithin : Type 0
+CallsWithin = (call : RpcCall) (read : ReadText) (old new : SessionProgress) (exchanges : List Exchange)
+    → ReadsCallAs call read → new.statements_left ≢ 0 → Held (rpc call read) old exchanges tt new → TellsOnly IsNoLimit new.tokens
