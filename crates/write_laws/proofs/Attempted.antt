@@ -34,7 +34,8 @@ use Rattle.dml_exec.specs.Filling.{Row}
 use Rattle.dml_exec.specs.Reading.{hold_at}
 use Rattle.statement_paths.specs.Asked.{AskOnly, IsFetch}
 use Rattle.write_laws.specs.Attempted.{IsMade, WriteFollows, plan_of}
-use Rattle.write_laws.specs.Indexed.{Indexed, is_own, own_rows}
+use Rattle.write_laws.specs.IndexKept.{is_own}
+use Rattle.write_laws.specs.Indexed.{Indexed, own_rows}
 use Rattle.write_laws.specs.IndexKeys.{as_found, as_told, asked_of, is_asked, stood_at}
 use Rattle.write_laws.specs.Indexing.{CanChange, IsReady, StandsThere, index_deeds, row_deeds}
 use Rattle.write_laws.specs.Made.{AreMade, ComeFree, inserts, inserts_into_part}

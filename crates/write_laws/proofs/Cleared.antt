@@ -19,7 +19,8 @@ use Rattle.table_rows.specs.Definitions.{defined_name, objects_name}
 use Rattle.constraint_check.specs.Laws.{behind}
 use Rattle.constraint_check.proofs.Behind.{same}
 use Rattle.batch_meaning.specs.Changing.{definition_erased, triggers_of, with_definitions}
-use Rattle.write_laws.specs.Indexed.{AreEmptied, Indexed, IndexedCleared, own_rows}
+use Rattle.write_laws.specs.IndexKept.{AreEmptied, IndexedCleared}
+use Rattle.write_laws.specs.Indexed.{Indexed, own_rows}
 use Rattle.write_laws.specs.Keeping.{with_definition}
 use Rattle.write_laws.specs.Sound.{Firm, IsDefined}
 use Rattle.write_laws.proofs.Defined.{names_apart, not_objects, not_same}

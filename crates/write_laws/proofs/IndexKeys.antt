@@ -22,7 +22,7 @@ use Rattle.constraint_check.proofs.Lists.{all_left, all_more, all_right}
 use Rattle.dml_exec.specs.declared.refusal.Refusal.{Refusal}
 use Rattle.dml_exec.specs.declared.refusal.Refusal.TheVariants.{Memory}
 use Rattle.dml_exec.specs.Asking.{◌>>=◌, with_room}
-use Rattle.write_laws.specs.Indexed.{is_own}
+use Rattle.write_laws.specs.IndexKept.{is_own}
 use Rattle.write_laws.specs.IndexKeys.{AskedStand, FoundAll, KeysTold, as_found, as_told, asked_of, asks_key, asks_keys, is_asked, row_told, stood_at}
 use Rattle.write_laws.specs.Indexing.{StandsThere, index_deeds, row_deeds}
 use Rattle.write_laws.specs.Made.{inserts}

@@ -26,7 +26,8 @@ use Rattle.constraint_check.specs.Reads.{is_erase, rows_table}
 use Rattle.constraint_check.proofs.Behind.{name_is, same, same_itself}
 use Rattle.batch_meaning.specs.Changing.{definition_erased}
 use Rattle.statement_paths.specs.Paths.{definition_put}
-use Rattle.write_laws.specs.Indexed.{AreEmptied, Indexed, IndexedCreated, IndexedDropped, IndexedEmpty, IndexedErased, IndexedPut, OwnBehind, index_part, is_own, own_rows, part_places}
+use Rattle.write_laws.specs.IndexKept.{AreEmptied, IndexedCreated, IndexedDropped, IndexedEmpty, IndexedErased, IndexedPut, OwnBehind, is_own}
+use Rattle.write_laws.specs.Indexed.{Indexed, index_part, own_rows, part_places}
 use Rattle.write_laws.specs.Keeping.{IsCreated, with_definition}
 use Rattle.write_laws.specs.Sound.{Firm, IsKnown, IsTableOf}
 use Rattle.write_laws.proofs.Created as created

@@ -34,7 +34,8 @@ use Rattle.constraint_check.specs.Reads.{rows_table}
 use Rattle.constraint_check.proofs.Behind.{name_is}
 use Rattle.constraint_check.proofs.Lists.{all_map, all_two}
 use Rattle.dml_exec.specs.Filling.{Row}
-use Rattle.write_laws.specs.Indexed.{Indexed, index_columns, index_part, index_places, is_own, own_rows, part_places}
+use Rattle.write_laws.specs.IndexKept.{is_own}
+use Rattle.write_laws.specs.Indexed.{Indexed, index_columns, index_part, index_places, own_rows, part_places}
 use Rattle.write_laws.specs.Indexing.{CanChange, IndexFree, IndexStands, IndexedWritten, IsReady, StandsThere, all_deeds, index_deeds, part_deeds, parts_from, parts_of, row_deeds, row_in}
 use Rattle.write_laws.specs.Made.{ComeFree, IfSo, inserts, inserts_into_part}
 use Rattle.write_laws.specs.Reads.{KeysHave}

@@ -26,7 +26,8 @@ use Rattle.constraint_check.specs.Reads.{all_rows, child_read, child_reads, chil
 use Rattle.constraint_check.proofs.Behind.{same}
 use Rattle.constraint_check.proofs.Lists.{all_more, all_two}
 use Rattle.batch_meaning.specs.Changing.{definition_erased, triggers_of, with_definitions}
-use Rattle.write_laws.specs.Indexed.{Indexed, index_columns, is_own, own_rows, part_places}
+use Rattle.write_laws.specs.IndexKept.{is_own}
+use Rattle.write_laws.specs.Indexed.{Indexed, index_columns, own_rows, part_places}
 use Rattle.write_laws.specs.Reads.{IsRead, RowsFit}
 use Rattle.write_laws.specs.Sound.{Firm}
 use Rattle.write_laws.proofs.Changes.{all_both}

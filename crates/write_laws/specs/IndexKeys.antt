@@ -27,7 +27,7 @@ use Rattle.index_laws.specs.Parts.{RowChange}
 use Rattle.dml_exec.specs.declared.refusal.Refusal.{Refusal}
 use Rattle.dml_exec.specs.declared.refusal.Refusal.TheVariants.{Memory, TimedOut, Victim}
 use Rattle.dml_exec.specs.Asking.{◌>>=◌, with_room}
-use Rattle.write_laws.specs.Indexed.{is_own}
+use Rattle.write_laws.specs.IndexKept.{is_own}
 use Rattle.write_laws.specs.Indexing.{CanChange, IsReady, StandsThere, all_deeds}
 use Rattle.write_laws.specs.Reads.{KeysHave, at_place}
 

@@ -16,7 +16,8 @@ use Rattle.table_rows.specs.Rows.{key_of, places_of}
 use Rattle.constraint_check.specs.Laws.{KeysAreOne, behind}
 use Rattle.constraint_check.specs.Reads.{rows_table}
 use Rattle.dml_exec.specs.Filling.{Row}
-use Rattle.write_laws.specs.Indexed.{AreEmptied, Indexed, index_columns, own_rows}
+use Rattle.write_laws.specs.IndexKept.{AreEmptied}
+use Rattle.write_laws.specs.Indexed.{Indexed, index_columns, own_rows}
 use Rattle.write_laws.specs.Made.{ComeFree, inserts, inserts_into_part}
 use Rattle.write_laws.specs.Reads.{KeysHave}
 use Rattle.write_laws.specs.Sound.{Firm, IsTableOf}

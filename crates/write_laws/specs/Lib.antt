@@ -8,7 +8,8 @@ pub mod Targets  -- TargetStands, ToldStands: a row that was fetched to be writt
 pub mod Sound  -- SoundRows: what of a database's own rows is to be kept; Firm: what statements keep
 pub mod Keeping  -- FirmSound, FirmEmpty, FirmWritten, FirmDropped, FirmCreated: each change that statements make keeps it
 pub mod Found  -- FoundTables: the tables that are read are those that are defined
-pub mod Indexed  -- Indexed: what is to be kept of index parts; Sound: what of a database is to be kept; IndexedCreated, IndexedDropped: definitions keep it
+pub mod Indexed  -- Indexed: what is to be kept of index parts; Sound: what of a database is to be kept
+pub mod IndexKept  -- IndexedCreated, IndexedDropped: definitions keep it
 pub mod Rewrites  -- PlannedOf, TakenTold: a write as rows that change, and how those that it takes were told
 pub mod Made  -- MadeLeave, TakenStand: changes that were made, one exchange each, and what they leave
 pub mod Indexing  -- IndexedWritten, IndexFree, IndexStands: index parts where rows of a table change

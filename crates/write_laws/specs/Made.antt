@@ -30,7 +30,7 @@ use Rattle.dml_exec.specs.Filling.{Row}
 use Rattle.dml_exec.specs.Reading.{hold_at}
 use Rattle.dml_exec.specs.Writing.{writes_all}
 use Rattle.statement_paths.specs.Asked.{AskOnly, IsFetch}
-use Rattle.write_laws.specs.Indexed.{is_own}
+use Rattle.write_laws.specs.IndexKept.{is_own}
 use Rattle.write_laws.specs.Reads.{at_place}
 use Rattle.write_laws.specs.Rewrites.{IsTaken}
 

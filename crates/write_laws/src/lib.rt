@@ -17,7 +17,7 @@ ghost use Rattle.write_laws.specs.Told.{RowsTold, TargetsRead};
 ghost use Rattle.write_laws.specs.Targets.{TargetStands, ToldStands};
 ghost use Rattle.write_laws.specs.Keeping.{KeysSized, FirmCreated, FirmDropped, FirmEmpty, FirmErased, FirmPut, FirmSound, FirmWritten, TablesReady, UntriggeredCreated, UntriggeredDropped, UntriggeredEmpty, UntriggeredWritten};
 ghost use Rattle.write_laws.specs.Found.{FoundDefined, FoundDefinitions, FoundTables};
-ghost use Rattle.write_laws.specs.Indexed.{IndexedCleared, IndexedCreated, IndexedDropped, IndexedEmpty, IndexedErased, IndexedPut, OwnBehind};
+ghost use Rattle.write_laws.specs.IndexKept.{IndexedCleared, IndexedCreated, IndexedDropped, IndexedEmpty, IndexedErased, IndexedPut, OwnBehind};
 ghost use Rattle.write_laws.specs.Indexing.{GoneEmptied, IndexFree, IndexStands, IndexedWritten};
 ghost use Rattle.write_laws.specs.Attempted.{WriteFollows};
 ghost use Rattle.write_laws.specs.Checking.{PartsPass};
