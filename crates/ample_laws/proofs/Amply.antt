@@ -1,6 +1,6 @@
 -- What was done where memory was never wanting was done. And of a tree that tells no error which is looked for, where each question for room is answered by yes, what was
 -- done so has told none.
-use Rattle.std.proofs.Common.{◌≡◌, refl, sym, ap, subst, ℕ, ◌+◌, ℤ, List, [], ◌∷◌, ◌++◌, Option, Some, None, true}
+use Rattle.std.proofs.Common.{◌≡◌, refl, sym, ap, subst, ℕ, ◌+◌, List, [], ◌∷◌, ◌++◌, Option, Some, None, true}
 use Rattle.std.specs.List.{AllByRecursion}
 use Rattle.step_model.specs.Exchange.{Exchange}
 use Rattle.tds_tokens.specs.Numbers.{done_more, done_error, done_count}

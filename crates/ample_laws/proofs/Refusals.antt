@@ -1,9 +1,8 @@
 -- 701, 1205 and 1222 are looked for, where each question for room is answered by yes, and no reply is a refusal.
-use Rattle.std.proofs.Common.{◌≡◌, refl, sym, subst, ℕ, ℤ, pos, true, false, List}
-use Rattle.step_model.specs.Exchange.{Exchange}
-use Rattle.batch_meaning.specs.Doing.{Doing, ◌then◌}
+use Rattle.std.proofs.Common.{◌≡◌, refl, sym, subst, ℤ, pos, true, false}
+use Rattle.batch_meaning.specs.Doing.{◌then◌}
 use Rattle.batch_meaning.specs.Meaning.{batch, ends, mean_of, runs_text, vars_in_text}
-use Rattle.batch_meaning.specs.Progress.{SessionProgress, begins, counts, made, statement_limit}
+use Rattle.batch_meaning.specs.Progress.{begins, counts, made, statement_limit}
 use Rattle.batch_meaning.specs.Rpc.{ends_rpc, rpc, rpc_text, rpc_vars, runs_rpc}
 use Rattle.cause_laws.proofs.Usual.{IsUsual, differs, no_deadlock, no_timeout, no_want}
 use Rattle.cause_laws.proofs.UsualValues.{Anything, read_usual}

@@ -1,5 +1,5 @@
 -- A batch without statements, done where memory was never wanting; and what is told of it, and of an error that stands for a refusal.
-use Rattle.std.proofs.Common.{◌≡◌, refl, ap, ℕ, pos, true, false, List, [], ◌∷◌, Ok, Err, Result, is_ok}
+use Rattle.std.proofs.Common.{◌≡◌, refl, ap, ℕ, pos, true, false, [], ◌∷◌, Ok, Err, Result, is_ok}
 use Rattle.step_model.specs.declared.reply.Reply.TheVariants as replies
 use Rattle.tds_tokens.specs.Numbers.{done_error, done_final, done_more}
 use Rattle.tds_tokens.specs.declared.notice.Notice.{Notice}

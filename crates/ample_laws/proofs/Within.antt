@@ -1,9 +1,8 @@
 -- 49001 is looked for, where statements are left: a batch that begins counts down from what it may begin, and never up.
-use Rattle.std.proofs.Common.{◌≡◌, ◌≢◌, refl, sym, ap, subst, ℕ, zero, suc, pred, ◌-◌, ℤ, pos, Bool, true, false, List, [], ◌∷◌, Option, None, Some, ◌≤◌, arith}
+use Rattle.std.proofs.Common.{◌≡◌, ◌≢◌, refl, sym, ap, subst, ℕ, zero, suc, pred, ◌-◌, ℤ, pos, false, List, [], ◌∷◌, Option, None, Some, ◌≤◌, arith}
 use Rattle.std.specs.Ordering.{int_eq}
 use Rattle.std.proofs.lemmas.Bool.{eqb-true}
 use Rattle.step_model.specs.Exchange.{Exchange}
-use Rattle.rpc_requests.specs.declared.call.RpcCall.{RpcCall}
 use Rattle.batch_meaning.specs.declared.raised.Raised.{Raised}
 use Rattle.batch_meaning.specs.Doing.{Doing, Held, over, reads, makes, defines, asks, room, never, ◌then◌}
 use Rattle.batch_meaning.specs.Meaning.{batch, ends, mean_of, runs_text, vars_in_text}

@@ -1,5 +1,5 @@
 -- What CREATE puts into `objects`, and the statements on transactions and cursors, tell an error that is looked for in no token and fail by another one.
-use Rattle.std.proofs.Common.{◌≡◌, refl, ℕ, ℤ, pos, List, [], ◌∷◌, length, Option, Some, None, Bool, true, false, Result, Ok, Err, not, if◌then◌else◌, ◌==◌}
+use Rattle.std.proofs.Common.{refl, ℕ, ℤ, pos, List, [], ◌∷◌, length, Option, Some, None, Bool, true, false, Result, Ok, Err, not, if◌then◌else◌, ◌==◌}
 use Rattle.std.specs.Prelude.{◌||◌, nat_le}
 use Rattle.value_types.specs.Units.{same_units}
 use Rattle.value_types.specs.declared.value.Value.{Value}

@@ -50,9 +50,9 @@ use Rattle.batch_meaning.specs.Doing.{Doing, asks, defines, over, reads, ◌then
 use Rattle.batch_meaning.specs.Failures.{plain}
 use Rattle.batch_meaning.specs.Progress.{size_of, values_of}
 use Rattle.batch_meaning.specs.Raised.{Around, info_token}
-use Rattle.batch_meaning.specs.Selecting.{Effect, answer_in, assigning_to, bound_over, columns_of, made_of, messages, no_effect, not_bound_so, raised_by, result_full, result_of, row_limit, sending}
+use Rattle.batch_meaning.specs.Selecting.{Effect, answer_in, bound_over, columns_of, made_of, messages, no_effect, raised_by, result_full, result_of, row_limit}
 use Rattle.batch_meaning.specs.Tokens.{done_kind, result_tokens, row_tokens, statement_done}
-use Rattle.batch_meaning.specs.Values.{Assigned, assigned_to, first_of, first_row, given_names, is_message, is_one, outside_limits, rows_assigned, status_of}
+use Rattle.batch_meaning.specs.Values.{Assigned, assigned_to, first_row, given_names, is_message, rows_assigned, status_of}
 use Rattle.batch_meaning.specs.Working.{answers, asks_any, assigns_rows, binds, closes, composes, composes_bound, computes, enters, given_in, if_it_fits, known_by, leaves, own, prepares, relaxes, select_bound, selects, selects_into, status_bound, statuses, tests, tests_bound, values_bound, within, works, works_bound}
 use Rattle.batch_meaning.specs.Writes.{Written, change_bound, changes, drops, drops_definition, drops_found, drops_table, fired_by, fires_of, shape_or}
 use Rattle.cause_laws.proofs.UsualValues.{Anything, RaisesUsual, UsualOr, UsualRest, answer_usual, assigned_usual, bound_usual, call_usual, dropped_usual, planned_usual, raised_usual, referred_usual, rows_usual, status_usual}

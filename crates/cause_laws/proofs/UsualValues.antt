@@ -11,7 +11,6 @@ use Rattle.value_types.specs.declared.value.Value.TheVariants.{Null, Whole, Bit,
 use Rattle.convert_rules.specs.declared.fault.ConvertFault.{ConvertFault}
 use Rattle.convert_rules.specs.declared.fault.ConvertFault.TheVariants as conversion
 use Rattle.convert_rules.specs.Conversion.{bit_number, cast_of, from_whole, read_bit, read_whole, says, text_cut, whole_in}
-use Rattle.convert_rules.specs.Errors.{error_of}
 use Rattle.convert_rules.specs.Reading as digits
 use Rattle.convert_rules.specs.Types.{is_in_range, type_of}
 use Rattle.session_vars.specs.declared.Variable.{Variable}
@@ -33,7 +32,6 @@ use Rattle.bound_tree.specs.declared.expr.BoundTest.{BoundTest}
 use Rattle.bound_tree.specs.declared.query.BoundQuery.{BoundQuery}
 use Rattle.bound_tree.specs.declared.write.BoundWrite.{BoundWrite}
 use Rattle.bound_tree.specs.Outcomes as value
-use Rattle.bound_tree.specs.Outcomes.{after}
 use Rattle.typed_nodes.specs.Refusals as refused
 use Rattle.binder.specs.Names.{Layer}
 use Rattle.binder.specs.Statements.{bind, bind_checks}
@@ -69,7 +67,7 @@ use Rattle.batch_meaning.specs.Raised.{Around}
 use Rattle.batch_meaning.specs.Settings.{if_known, is_priority, is_setting, not_known, outside_profile, priority_of, set_option, with_manner}
 use Rattle.batch_meaning.specs.Statements.{IsRead, ReadsAs, text_of}
 use Rattle.batch_meaning.specs.Selecting.{answer_as, answer_in, bound_as, bound_over, raised_by}
-use Rattle.batch_meaning.specs.Values.{Assigned, any_text, assigned_at, assigned_next, assigned_onto, assigned_to, cast_as, cast_to, failed_as, first_of, greatest_class, greatest_number, greatest_state, kind_or, least_number, number_between, number_in, outside_limits, places_onto, rows_assigned, standing, status_of, text_in, whole_of, ◌>>=◌}
+use Rattle.batch_meaning.specs.Values.{Assigned, any_text, assigned_at, assigned_next, assigned_onto, assigned_to, cast_as, cast_to, first_of, greatest_class, greatest_number, greatest_state, kind_or, least_number, number_between, number_in, outside_limits, places_onto, rows_assigned, standing, status_of, text_in, whole_of, ◌>>=◌}
 use Rattle.cause_laws.proofs.Usual.{IsUsual, Usual, UsualIf, usual_after, usual_answer, usual_by, usual_conversion, usual_error}
 use Rattle.cause_laws.proofs.UsualBinding.{Bounds}
 use Rattle.cause_laws.proofs.UsualBound.{bounds_checks, bounds_statement}
