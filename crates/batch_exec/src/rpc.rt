@@ -5,7 +5,7 @@ ghost use Rattle.std.specs.List.{enumerate_from};
 ghost use Rattle.std.specs.Option.{option_and_then};
 ghost use Rattle.value_types.specs.declared.value.Value.{Value as Of};
 ghost use Rattle.value_types.specs.declared.value.Value.TheVariants.{Null};
-ghost use Rattle.convert_rules.specs.Types.{IsOf};
+ghost use Rattle.value_types.specs.Types.{IsOf};
 ghost use Rattle.session_state.specs.Sendable.{IsFit};
 ghost use Rattle.batch_meaning.specs.Doing.{Did};
 ghost use Rattle.batch_meaning.specs.Meaning.{ended_by, mean_of, uneven_with};

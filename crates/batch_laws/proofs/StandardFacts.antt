@@ -1,6 +1,7 @@
 -- What known exchanges leave and commit.
 use Rattle.std.proofs.Common.{◌≡◌, ℕ, Bool, true, false, negsuc, List, [], ◌∷◌, ◌++◌, Some, None, Ok, Err, refl}
 use Rattle.table_rows.specs.Definitions.{objects_name, object_key, row_of}
+use Rattle.table_rows.specs.Rows.{rows_table}
 use Rattle.tsql_tree.specs.declared.definition.TableTree.{TableTree}
 use Rattle.tsql_tree.specs.declared.statement.Form.{Form-F}
 use Rattle.error_table.specs.declared.action.Action.TheVariants as act
@@ -13,7 +14,6 @@ use Rattle.step_model.specs.Exchange.{Exchange}
 use Rattle.step_model.specs.Fits.{commit_of}
 use Rattle.step_model.specs.Net.{Net}
 use Rattle.step_model.specs.Own.{MarkedAt, Progress as Stand, none_open}
-use Rattle.constraint_check.specs.Reads.{rows_table}
 use Rattle.session_cursors.specs.declared.fault.CursorFault.{CursorFault}
 use Rattle.txn_rules.specs.State.{after_end, is_closed, no_transaction}
 use Rattle.tds_tokens.specs.declared.token.DoneKind.TheVariants.{Done}

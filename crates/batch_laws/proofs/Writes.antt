@@ -21,7 +21,8 @@ use Rattle.step_model.specs.Dialog.{Dialog, IsQuiet, over, asks, tries, â—Œthenâ
 use Rattle.step_model.specs.Own.{Progress as Stand, MarkedAt, own_at}
 use Rattle.step_model.specs.Ranges.{Rows, Keeps, range_limit}
 use Rattle.constraint_check.specs.declared.check_read.CheckRead.{CheckRead}
-use Rattle.constraint_check.specs.Reads.{reads_for, shape_of}
+use Rattle.table_rows.specs.Rows.{shape_of}
+use Rattle.constraint_check.specs.Reads.{reads_for}
 use Rattle.constraint_check.specs.Judged.{judge}
 use Rattle.dml_exec.specs.declared.refusal.Refusal.{Refusal}
 use Rattle.dml_exec.specs.declared.refusal.Refusal.TheVariants.{Memory}

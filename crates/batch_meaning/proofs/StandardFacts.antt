@@ -23,7 +23,7 @@ use Rattle.tsql_tree.specs.declared.statement.DropKind.TheVariants as drop
 use Rattle.tsql_tree.specs.declared.statement.Form.{Form-F, roll-Form}
 use Rattle.tsql_tree.specs.declared.statement.Statement.{Statement, roll-Statement}
 use Rattle.bound_tree.specs.declared.write.BoundWrite.TheVariants as write
-use Rattle.constraint_check.specs.Reads.{rows_table}
+use Rattle.table_rows.specs.Rows.{rows_table}
 use Rattle.step_model.specs.declared.change.Deed.TheVariants.{Insert, Replace, Erase}
 use Rattle.step_model.specs.declared.change.Planned.{Planned}
 use Rattle.step_model.specs.declared.op.Op.{Op}

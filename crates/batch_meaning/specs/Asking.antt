@@ -8,6 +8,7 @@ use Rattle.tsql_tree.specs.declared.definition.Definition.TheVariants.{Table, Pr
 use Rattle.tsql_tree.specs.declared.definition.TableTree.{TableTree}
 use Rattle.bound_tree.specs.declared.write.Bound.{Bound}
 use Rattle.table_rows.specs.Definitions.{objects_name, is_objects, object_key}
+use Rattle.table_rows.specs.Rows.{rows_table}
 use Rattle.step_model.specs.declared.change.Planned.{Planned}
 use Rattle.step_model.specs.declared.op.Hold.TheVariants as hold
 use Rattle.step_model.specs.declared.op.Op.{Op}
@@ -20,7 +21,6 @@ use Rattle.step_model.specs.declared.reply.Reply.TheVariants as replies
 use Rattle.step_model.specs.Dialog as dialog
 use Rattle.step_model.specs.Dialog.{Dialog}
 use Rattle.step_model.specs.Ranges.{Rows, no_memory, range_full, range_limit, lock_timeout, deadlock}
-use Rattle.constraint_check.specs.Reads.{rows_table}
 use Rattle.dml_exec.specs.declared.refusal.Level.{Level}
 use Rattle.dml_exec.specs.declared.refusal.Refusal.{Refusal}
 use Rattle.dml_exec.specs.declared.refusal.Refusal.TheVariants as refusal

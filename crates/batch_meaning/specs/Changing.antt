@@ -14,11 +14,11 @@ use Rattle.bound_tree.specs.declared.write.BoundWrite.TheVariants as write
 use Rattle.binder.specs.Statements.{bind_checks}
 use Rattle.scalar_eval.specs.declared.fault.EvalFault.TheVariants.{Number, Named, Memory}
 use Rattle.table_rows.specs.Definitions.{objects_name, object_key, row_of}
+use Rattle.table_rows.specs.Rows.{rows_table, shape_of}
 use Rattle.step_model.specs.declared.change.Planned.{Planned}
 use Rattle.step_model.specs.declared.op.Op.{Op}
 use Rattle.step_model.specs.declared.op.Op.TheVariants.{Insert}
 use Rattle.step_model.specs.Ranges.{Rows, no_memory}
-use Rattle.constraint_check.specs.Reads.{rows_table, shape_of}
 use Rattle.dml_exec.specs.Planning.{Plan, Chg, erased_at, rows_told, table_written}
 use Rattle.tds_tokens.specs.declared.token.DoneKind.{DoneKind}
 use Rattle.tds_tokens.specs.Numbers.{command_insert, command_delete, command_update}

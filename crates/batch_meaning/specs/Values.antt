@@ -6,10 +6,10 @@ use Rattle.value_types.specs.declared.sql_type.SqlType.{SqlType}
 use Rattle.value_types.specs.declared.sql_type.SqlType.TheVariants.{Int, NText}
 use Rattle.value_types.specs.declared.value.Value.{Value}
 use Rattle.value_types.specs.declared.value.Value.TheVariants.{Null, Whole, Text}
+use Rattle.value_types.specs.Types.{text_limit, type_of}
 use Rattle.convert_rules.specs.declared.fault.ConvertFault.{ConvertFault}
 use Rattle.convert_rules.specs.Conversion.{cast_of}
 use Rattle.convert_rules.specs.Errors.{error_of}
-use Rattle.convert_rules.specs.Types.{text_limit, type_of}
 use Rattle.session_vars.specs.declared.Variable.{Variable}
 use Rattle.session_vars.specs.Variables.{place_of}
 use Rattle.tsql_tree.specs.declared.statement.Declaration.{Declaration}

@@ -12,20 +12,21 @@ use Rattle.tsql_tree.specs.declared.definition.TriggerTree.{TriggerTree}
 use Rattle.tsql_tree.specs.declared.statement.DropKind.{DropKind}
 use Rattle.tsql_tree.specs.declared.statement.DropKind.TheVariants as drop
 use Rattle.tsql_tree.specs.declared.statement.Statement.{Statement}
+use Rattle.tsql_tree.specs.Places.{key_places}
 use Rattle.bound_tree.specs.declared.write.Bound.{Bound}
 use Rattle.bound_tree.specs.declared.write.Bound.TheVariants as bound
 use Rattle.bound_tree.specs.declared.write.BoundWrite.{BoundWrite}
 use Rattle.typed_nodes.specs.Nodes.{is_kind}
-use Rattle.clause_binder.specs.Scope.{is_long, key_places, max_variables}
+use Rattle.clause_binder.specs.Scope.{is_long, max_variables}
 use Rattle.binder.specs.Names.{looked_up}
 use Rattle.call_rules.specs.Triggers as seen
 use Rattle.table_rows.specs.Definitions.{is_objects, tables_of}
+use Rattle.table_rows.specs.Rows.{shape_of}
 use Rattle.step_model.specs.declared.change.Planned.{Planned}
 use Rattle.step_model.specs.declared.op.Op.TheVariants as ops
 use Rattle.step_model.specs.declared.reply.Reply.{Reply}
 use Rattle.step_model.specs.declared.reply.Reply.TheVariants as replies
 use Rattle.step_model.specs.Ranges.{Rows, no_memory, lock_timeout, deadlock}
-use Rattle.constraint_check.specs.Reads.{shape_of}
 use Rattle.dml_exec.specs.declared.refusal.Level.TheVariants as level
 use Rattle.dml_exec.specs.Planning.{table_written}
 use Rattle.dml_exec.specs.Reading.{none_given}

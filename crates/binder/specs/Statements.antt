@@ -2,7 +2,7 @@
 -- the order of the text; then what the statement is made of; what is outside a limit comes last of all.
 use Rattle.std.specs.Prelude.{ℕ, Bool, false, ◌||◌, not, nat_le, nat_lt, if◌then◌else◌, List, [], ◌∷◌, length, filter_map, slice_get, Option, Some, None, Ok}
 use Rattle.std.specs.List.{list_any}
-use Rattle.convert_rules.specs.Types.{text_limit}
+use Rattle.value_types.specs.Types.{text_limit}
 use Rattle.value_types.specs.declared.value.Value.{Value}
 use Rattle.value_types.specs.declared.value.Value.TheVariants as value
 use Rattle.session_vars.specs.declared.Variable.{Variable}

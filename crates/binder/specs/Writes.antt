@@ -13,6 +13,7 @@ use Rattle.tsql_tree.specs.declared.query.Test.{Test}
 use Rattle.tsql_tree.specs.declared.statement.Assignment.{Assignment}
 use Rattle.tsql_tree.specs.declared.statement.InsertRows.{InsertRows}
 use Rattle.tsql_tree.specs.declared.statement.InsertRows.TheVariants.{Values, Query}
+use Rattle.tsql_tree.specs.Places.{max_place, place_in}
 use Rattle.bound_tree.specs.declared.expr.BoundExpr.{BoundExpr}
 use Rattle.bound_tree.specs.declared.expr.BoundTest.{BoundTest}
 use Rattle.bound_tree.specs.declared.query.InnerQuery.{InnerQuery}
@@ -23,7 +24,7 @@ use Rattle.bound_tree.specs.declared.write.BoundWrite.TheVariants as write
 use Rattle.typed_nodes.specs.Refusals.{Outcome, after, unnamed}
 use Rattle.clause_binder.specs.declared.operand.Selected.{Selected}
 use Rattle.clause_binder.specs.declared.progress.Progress.{Progress}
-use Rattle.clause_binder.specs.Scope.{TableSource, behind, columns_of, invalid_column, max_columns, max_place, place_in, table_of}
+use Rattle.clause_binder.specs.Scope.{TableSource, behind, columns_of, invalid_column, max_columns, table_of}
 use Rattle.clause_binder.specs.Progress.{Binding, and_then, begin_at, beyond_where, plain, pure}
 use Rattle.clause_binder.specs.Operands.{items_of}
 use Rattle.clause_binder.specs.Clauses.{set_aside, whole, whole_test}

@@ -4,7 +4,8 @@ ghost use Rattle.std.specs.Prelude.{◌≡◌, [], Ok, position};
 ghost use Rattle.std.specs.List.{list_any};
 ghost use Rattle.typed_nodes.specs.Refusals.{Gives};
 ghost use Rattle.value_types.specs.Units.{same_units};
-ghost use Rattle.clause_binder.specs.Scope.{columns_of, place_in, table_of};
+ghost use Rattle.tsql_tree.specs.Places.{place_in};
+ghost use Rattle.clause_binder.specs.Scope.{columns_of, table_of};
 ghost use Rattle.binder.specs.Writes as spec;
 
 use crate::fault::{INVALID_COLUMN, refused};

@@ -23,6 +23,7 @@ use Rattle.tsql_tree.specs.declared.query.Term.{Term}
 use Rattle.tsql_tree.specs.declared.query.Expr.TheOpen.{Expr-F, Test-F, Arm-F, Factor-F, Term-F}
 use Rattle.tsql_tree.specs.declared.query.Expr.TheFolds.{ind-Test, map-Expr, map-Test, map-Arm, map-Factor, map-Term, fold-roll-Expr, fold-roll-Test, fold-roll-Arm, fold-roll-Factor, fold-roll-Term}
 use Rattle.tsql_tree.specs.declared.query.Expr.TheViews.{roll-Expr, roll-Test, roll-Arm, roll-Factor, roll-Term}
+use Rattle.tsql_tree.specs.Places.{max_place}
 use Rattle.bound_tree.specs.declared.expr.BoundExpr.{BoundExpr}
 use Rattle.bound_tree.specs.declared.expr.BoundExpr.TheVariants as bound
 use Rattle.bound_tree.specs.Typed.{SettingTypes}
@@ -42,7 +43,7 @@ use Rattle.clause_binder.specs.declared.shape.Shape.TheVariants as shape
 use Rattle.clause_binder.specs.Progress.{Binding, Context, Read, and_then, bind_of, each_onto, each_read, given, is_deep, pure}
 use Rattle.clause_binder.specs.declared.scope.Found.{Found}
 use Rattle.clause_binder.specs.Same.{same_expr}
-use Rattle.clause_binder.specs.Scope.{column_of, max_place}
+use Rattle.clause_binder.specs.Scope.{column_of}
 use Rattle.clause_binder.specs.Operands as operand
 use Rattle.clause_binder.specs.Clauses.{ExprRead, FromRead, ItemRead, JoinRead, OrderRead, settled}
 use Rattle.clause_binder.specs.Bind as bind

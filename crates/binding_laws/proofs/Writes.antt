@@ -14,6 +14,7 @@ use Rattle.tsql_tree.specs.declared.query.Test.{Test}
 use Rattle.tsql_tree.specs.declared.statement.Assignment.{Assignment}
 use Rattle.tsql_tree.specs.declared.statement.InsertRows.{InsertRows}
 use Rattle.tsql_tree.specs.declared.statement.InsertRows.TheVariants.{Values, Query}
+use Rattle.tsql_tree.specs.Places.{max_place, nameable}
 use Rattle.bound_tree.specs.declared.expr.BoundExpr.{BoundExpr}
 use Rattle.bound_tree.specs.declared.expr.BoundTest.{BoundTest}
 use Rattle.bound_tree.specs.declared.query.InnerQuery.{InnerQuery}
@@ -29,7 +30,7 @@ use Rattle.clause_binder.specs.declared.progress.Progress.{Progress}
 use Rattle.clause_binder.specs.Progress.{Context, Read, all_onto, begin_at, beyond_where, bind_of, both, each_onto, each_read, inside_of, nothing, plain}
 use Rattle.clause_binder.specs.Operands.{items_of}
 use Rattle.clause_binder.specs.Clauses.{set_aside}
-use Rattle.clause_binder.specs.Scope.{TableSource, as_table, columns_of, max_columns, max_inner, max_place, nameable, or_first, table_of}
+use Rattle.clause_binder.specs.Scope.{TableSource, as_table, columns_of, max_columns, max_inner, or_first, table_of}
 use Rattle.clause_binder.specs.Bind.{expr_of, query_of, test_of}
 use Rattle.binder.specs.Writes.{all_places, column_place, delete, delete_made, first_places, given_places, inners_onto, insert, insert_rows, insert_selected, insert_values, is_repeated, is_set_twice, items_counted, place_or_refusal, places_onto, row_onto, rows_onto, set_of, sets_onto, target, update, update_made, value_of, values_inserted, where_of, whole_table, wrong_count}
 use Rattle.query_laws.specs.Columns.{kinds, tables_in, variable_kinds}

@@ -9,8 +9,8 @@ use Rattle.value_types.specs.declared.value.Value.{Value}
 use Rattle.value_types.specs.declared.value.Value.TheVariants.{Null, Whole, Bit, Text}
 use Rattle.value_types.specs.declared.sql_type.SqlType.{SqlType}
 use Rattle.value_types.specs.declared.sql_type.SqlType.TheVariants.{TinyInt, SmallInt, Int, BigInt, Bit as BitType, NText}
+use Rattle.value_types.specs.Types.{IsOf, is_in_range, text_limit}
 use Rattle.convert_rules.specs.declared.fault.ConvertFault.{ConvertFault}
-use Rattle.convert_rules.specs.Types.{IsOf, is_in_range, text_limit}
 use Rattle.convert_rules.specs.Reading.{number_in}
 use Rattle.convert_rules.specs.Errors.{error_of}
 use Rattle.convert_rules.specs.Conversion as rule

@@ -7,9 +7,9 @@ use Rattle.value_types.specs.declared.value.Value.{Value}
 use Rattle.value_types.specs.declared.value.Value.TheVariants.{Null, Whole, Bit, Text}
 use Rattle.value_types.specs.declared.sql_type.SqlType.{SqlType}
 use Rattle.value_types.specs.declared.sql_type.SqlType.TheVariants.{TinyInt, SmallInt, Int, BigInt, Bit as BitType, NText}
+use Rattle.value_types.specs.Types.{is_in_range}
 use Rattle.convert_rules.specs.declared.fault.ConvertFault.{ConvertFault}
 use Rattle.convert_rules.specs.declared.fault.ConvertFault.TheVariants.{Overflow, NotANumber, TooLong, Memory}
-use Rattle.convert_rules.specs.Types.{is_in_range}
 use Rattle.convert_rules.specs.Reading.{number_in}
 use Rattle.convert_rules.specs.Errors.{no_number, number_outside, text_outside}
 use Rattle.convert_rules.specs.Conversion as rule

@@ -5,7 +5,7 @@ use Rattle.std.specs.Ordering.{int_eq}
 use Rattle.value_types.specs.declared.sql_type.SqlType.{SqlType}
 use Rattle.value_types.specs.declared.value.Value.{Value}
 use Rattle.value_types.specs.declared.value.Value.TheVariants.{Null, Whole, Bit, Text}
-use Rattle.convert_rules.specs.Types.{is_in_range}
+use Rattle.value_types.specs.Types.{is_in_range}
 use Rattle.bound_tree.specs.declared.expr.InfixOp.{InfixOp}
 use Rattle.bound_tree.specs.declared.expr.InfixOp.TheVariants.{Add, Subtract, Multiply, Divide, Remainder}
 use Rattle.bound_tree.specs.Outcomes.{Outcome, after, overflow, zero_divisor}

@@ -5,7 +5,7 @@ use Rattle.std.specs.List.{suffix_len}
 use Rattle.value_types.specs.declared.sql_type.SqlType.TheVariants.{Int}
 use Rattle.value_types.specs.declared.value.Value.{Value}
 use Rattle.value_types.specs.declared.value.Value.TheVariants.{Null, Whole, Bit, Text}
-use Rattle.convert_rules.specs.Types.{text_limit}
+use Rattle.value_types.specs.Types.{text_limit}
 use Rattle.convert_rules.specs.Reading.{is_space}
 use Rattle.bound_tree.specs.Outcomes.{Outcome, after}
 use Rattle.bound_tree.specs.Numbers.{fitted}

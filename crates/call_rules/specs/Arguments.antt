@@ -10,7 +10,7 @@ use Rattle.value_types.specs.Units.{same_units}
 use Rattle.value_types.specs.declared.sql_type.SqlType.{SqlType}
 use Rattle.value_types.specs.declared.value.Value.{Value}
 use Rattle.value_types.specs.declared.value.Value.TheVariants.{Null}
-use Rattle.convert_rules.specs.Types.{type_of}
+use Rattle.value_types.specs.Types.{type_of}
 use Rattle.session_vars.specs.declared.Variable.{Variable}
 use Rattle.session_vars.specs.Variables.{place_of}
 use Rattle.tsql_tree.specs.declared.definition.Parameter.{Parameter}

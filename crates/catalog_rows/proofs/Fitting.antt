@@ -8,7 +8,7 @@ use Rattle.value_types.specs.declared.sql_type.SqlType.TheVariants.{TinyInt, Sma
 use Rattle.value_types.specs.declared.value.Value.{Value}
 use Rattle.value_types.specs.declared.value.Value.TheVariants.{Null, Whole, Bit, Text}
 use Rattle.value_types.specs.Order.{key_cmp}
-use Rattle.convert_rules.specs.Types.{IsOf}
+use Rattle.value_types.specs.Types.{IsOf}
 use Rattle.tsql_tree.specs.declared.definition.ColumnTree.{ColumnTree}
 use Rattle.tsql_tree.specs.declared.definition.TableTree.{TableTree}
 use Rattle.clause_binder.specs.Scope.{columns_of}

@@ -4,7 +4,7 @@ use Rattle.std.specs.Prelude.{◌≡◌, ◌↔◌, ℕ, IsTrue, List, All, Opti
 use Rattle.value_types.specs.declared.sql_type.SqlType.{SqlType}
 use Rattle.value_types.specs.declared.table_name.TableName.{TableName}
 use Rattle.value_types.specs.declared.value.Value.{Value}
-use Rattle.convert_rules.specs.Types.{IsOf}
+use Rattle.value_types.specs.Types.{IsOf}
 use Rattle.tsql_tree.specs.declared.definition.TableTree.{TableTree}
 use Rattle.tsql_tree.specs.declared.definition.Definition.{Definition}
 use Rattle.clause_binder.specs.Scope.{table_of}

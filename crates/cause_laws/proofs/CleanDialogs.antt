@@ -6,6 +6,7 @@ use Rattle.value_types.specs.declared.value.Value.{Value}
 use Rattle.tsql_tree.specs.declared.definition.TableTree.{TableTree}
 use Rattle.bound_tree.specs.declared.write.Bound.{Bound}
 use Rattle.table_rows.specs.Definitions.{is_objects, name_in}
+use Rattle.table_rows.specs.Rows.{shape_of}
 use Rattle.step_model.specs.declared.change.Deed.{Deed}
 use Rattle.step_model.specs.declared.change.Deed.TheVariants as deed
 use Rattle.step_model.specs.declared.change.Planned.{Planned}
@@ -21,7 +22,7 @@ use Rattle.step_model.specs.Dialog.{Dialog, tries}
 use Rattle.step_model.specs.Ranges.{Keeps, Rows, range_limit}
 use Rattle.constraint_check.specs.declared.check_read.CheckRead.{CheckRead}
 use Rattle.constraint_check.specs.Judged.{duplicate, judge}
-use Rattle.constraint_check.specs.Reads.{reads_for, shape_of}
+use Rattle.constraint_check.specs.Reads.{reads_for}
 use Rattle.dml_exec.specs.declared.refusal.Level.{Level}
 use Rattle.dml_exec.specs.declared.refusal.Refusal.{Refusal}
 use Rattle.dml_exec.specs.declared.refusal.Refusal.TheVariants.{Memory}

@@ -19,6 +19,7 @@ use Rattle.bound_tree.specs.declared.write.BoundWrite.{BoundWrite}
 use Rattle.binder.specs.Names.{Layer, form_of, looked_up}
 use Rattle.session_vars.specs.declared.Variable.{Variable}
 use Rattle.table_rows.specs.Definitions.{is_objects, tables_of}
+use Rattle.table_rows.specs.Rows.{shape_of}
 use Rattle.step_model.specs.declared.change.Planned.{Planned}
 use Rattle.step_model.specs.declared.op.Op.TheVariants as ops
 use Rattle.step_model.specs.declared.range.Start.{Start}
@@ -26,7 +27,6 @@ use Rattle.step_model.specs.declared.range.Start.TheVariants.{First}
 use Rattle.step_model.specs.declared.reply.Reply.{Reply}
 use Rattle.step_model.specs.declared.reply.Reply.TheVariants as replies
 use Rattle.step_model.specs.Ranges.{Rows, range_limit}
-use Rattle.constraint_check.specs.Reads.{shape_of}
 use Rattle.dml_exec.specs.declared.refusal.Level.{Level}
 use Rattle.dml_exec.specs.declared.refusal.Level.TheVariants as level
 use Rattle.dml_exec.specs.declared.refusal.Refusal.{Refusal}

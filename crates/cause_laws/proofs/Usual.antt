@@ -9,11 +9,11 @@ use Rattle.value_types.specs.declared.sql_type.SqlType.{SqlType}
 use Rattle.value_types.specs.declared.value.Value.{Value}
 use Rattle.value_types.specs.declared.value.Value.TheVariants.{Null, Whole}
 use Rattle.value_types.specs.declared.sql_type.SqlType.TheVariants.{TinyInt, SmallInt, Int, BigInt, Bit as BitType, NText}
+use Rattle.value_types.specs.Types.{is_in_range}
 use Rattle.convert_rules.specs.declared.fault.ConvertFault.{ConvertFault}
 use Rattle.convert_rules.specs.declared.fault.ConvertFault.TheVariants.{Overflow, NotANumber, TooLong, Memory}
 use Rattle.convert_rules.specs.Conversion.{cast_of, is_text}
 use Rattle.convert_rules.specs.Errors.{error_of, no_number, number_outside, text_outside}
-use Rattle.convert_rules.specs.Types.{is_in_range}
 use Rattle.bound_tree.specs.Conversions.{cast_outcome, conversion, error_outcome}
 use Rattle.bound_tree.specs.declared.expr.BoundExpr.{BoundExpr}
 use Rattle.bound_tree.specs.declared.expr.BoundTest.{BoundTest}

@@ -16,12 +16,13 @@ use Rattle.tsql_tree.specs.declared.statement.Form.{Form-F}
 use Rattle.tsql_tree.specs.declared.statement.InsertRows.{InsertRows}
 use Rattle.tsql_tree.specs.declared.statement.InsertRows.TheVariants.{Values, Query}
 use Rattle.tsql_tree.specs.declared.statement.Statement.{Statement}
+use Rattle.tsql_tree.specs.Places.{place_in}
 use Rattle.bound_tree.specs.declared.expr.BoundExpr.{BoundExpr}
 use Rattle.bound_tree.specs.declared.expr.BoundTest.{BoundTest}
 use Rattle.bound_tree.specs.declared.query.Item.{Item}
 use Rattle.bound_tree.specs.declared.write.BoundSet.{BoundSet}
 use Rattle.table_names.specs.Contents.{Names, distinct_onto}
-use Rattle.clause_binder.specs.Scope.{columns_of, place_in, table_of}
+use Rattle.clause_binder.specs.Scope.{columns_of, table_of}
 use Rattle.clause_binder.specs.Progress.{begin_at, beyond_where, plain, pure}
 use Rattle.clause_binder.specs.Operands.{items_of}
 use Rattle.clause_binder.specs.Clauses.{noted, noted_test, set_aside}

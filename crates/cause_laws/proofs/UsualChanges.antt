@@ -5,13 +5,14 @@ use Rattle.std.specs.List.{AllByRecursion, zip}
 use Rattle.std.specs.Option.{option_map, option_or}
 use Rattle.value_types.specs.declared.sql_type.SqlType.{SqlType}
 use Rattle.value_types.specs.declared.value.Value.{Value}
+use Rattle.value_types.specs.Types.{type_of}
 use Rattle.convert_rules.specs.declared.fault.ConvertFault.{ConvertFault}
-use Rattle.convert_rules.specs.Types.{type_of}
 use Rattle.convert_rules.specs.Conversion.{converted}
 use Rattle.convert_rules.specs.Errors.{error_of}
 use Rattle.tsql_tree.specs.declared.definition.CheckTree.{CheckTree}
 use Rattle.tsql_tree.specs.declared.definition.ColumnTree.{ColumnTree}
 use Rattle.tsql_tree.specs.declared.definition.TableTree.{TableTree}
+use Rattle.tsql_tree.specs.Places.{key_places}
 use Rattle.bound_tree.specs.declared.expr.BoundExpr.{BoundExpr}
 use Rattle.bound_tree.specs.declared.expr.BoundTest.{BoundTest}
 use Rattle.bound_tree.specs.declared.query.InnerQuery.{InnerQuery}
@@ -27,7 +28,6 @@ use Rattle.bound_tree.specs.Outcomes.{Outcome}
 use Rattle.bound_tree.specs.Setting.{Setting}
 use Rattle.scalar_eval.specs.declared.fault.EvalFault.{EvalFault}
 use Rattle.scalar_eval.specs.declared.fault.EvalFault.TheVariants.{Number, Named, Memory}
-use Rattle.clause_binder.specs.Scope.{key_places}
 use Rattle.query_eval.specs.Phases.{each}
 use Rattle.query_eval.specs.Joining.{image_of}
 use Rattle.query_eval.specs.Ans.{Ans, inner_answer, inner_rows, pair_limit}

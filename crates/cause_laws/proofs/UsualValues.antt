@@ -8,11 +8,11 @@ use Rattle.value_types.specs.declared.sql_type.SqlType.{SqlType}
 use Rattle.value_types.specs.declared.sql_type.SqlType.TheVariants.{TinyInt, SmallInt, Int, BigInt, Bit as BitType, NText}
 use Rattle.value_types.specs.declared.value.Value.{Value}
 use Rattle.value_types.specs.declared.value.Value.TheVariants.{Null, Whole, Bit, Text}
+use Rattle.value_types.specs.Types.{is_in_range, type_of}
 use Rattle.convert_rules.specs.declared.fault.ConvertFault.{ConvertFault}
 use Rattle.convert_rules.specs.declared.fault.ConvertFault.TheVariants as conversion
 use Rattle.convert_rules.specs.Conversion.{bit_number, cast_of, from_whole, read_bit, read_whole, says, text_cut, whole_in}
 use Rattle.convert_rules.specs.Reading as digits
-use Rattle.convert_rules.specs.Types.{is_in_range, type_of}
 use Rattle.session_vars.specs.declared.Variable.{Variable}
 use Rattle.session_vars.specs.Variables.{place_of}
 use Rattle.tsql_tree.specs.declared.definition.Definition.{Definition}
@@ -40,7 +40,7 @@ use Rattle.query_eval.specs.Ans.{Ans}
 use Rattle.step_model.specs.declared.change.Planned.{Planned}
 use Rattle.step_model.specs.declared.manner.Patience.TheVariants.{Forever, Refuse}
 use Rattle.step_model.specs.Ranges.{Rows}
-use Rattle.constraint_check.specs.Reads.{shape_of}
+use Rattle.table_rows.specs.Rows.{shape_of}
 use Rattle.dml_exec.specs.Planning.{Chg, Plan, table_written}
 use Rattle.txn_rules.specs.declared.state.BackKind.{BackKind}
 use Rattle.txn_rules.specs.declared.state.BackKind.TheVariants as back

@@ -5,7 +5,7 @@ use Rattle.std.specs.Prelude.{ℕ, ◌%◌, ℤ, nat_eq, Bool, true, false, if�
 use Rattle.std.specs.List.{list_any}
 use Rattle.std.specs.Int.{w64, int_wrapping_neg}
 use Rattle.value_types.specs.declared.sql_type.SqlType.TheVariants.{Int, BigInt}
-use Rattle.convert_rules.specs.Types.{is_in_range}
+use Rattle.value_types.specs.Types.{is_in_range}
 use Rattle.session_vars.specs.declared.Variable.{Variable}
 use Rattle.tsql_tree.specs.declared.definition.Definition.{Definition}
 use Rattle.tsql_tree.specs.declared.query.AddSign.{AddSign}

@@ -8,6 +8,7 @@ use Rattle.session_vars.specs.declared.Variable.{Variable}
 use Rattle.tsql_tree.specs.declared.definition.Definition.{Definition}
 use Rattle.tsql_tree.specs.declared.definition.ColumnTree.{ColumnTree}
 use Rattle.tsql_tree.specs.declared.query.TableRef.{TableRef}
+use Rattle.tsql_tree.specs.Places.{key_places, max_place}
 use Rattle.bound_tree.specs.declared.expr.BoundExpr.{BoundExpr}
 use Rattle.bound_tree.specs.declared.expr.BoundExpr.TheVariants as bound
 use Rattle.bound_tree.specs.declared.expr.BoundTest.{BoundTest}
@@ -26,7 +27,7 @@ use Rattle.typed_nodes.specs.declared.expr.TypedExpr.{TypedExpr}
 use Rattle.typed_nodes.specs.declared.test.TypedTest.{TypedTest}
 use Rattle.typed_nodes.specs.Facts.{or_int}
 use Rattle.typed_nodes.specs.Refusals.{Outcome, after}
-use Rattle.clause_binder.specs.Scope.{TableSource, alias_of, are_beyond, has_name, is_meant, columns_in, columns_of, is_long, key_places, behind, max_columns, max_inner, max_place, max_sums, name_at, not_grouped, source_of, table_of, width_of}
+use Rattle.clause_binder.specs.Scope.{TableSource, alias_of, are_beyond, has_name, is_meant, columns_in, columns_of, is_long, behind, max_columns, max_inner, max_sums, name_at, not_grouped, source_of, table_of, width_of}
 use Rattle.clause_binder.specs.declared.inside.Inside.{Inside}
 use Rattle.clause_binder.specs.declared.operand.Selected.{Selected}
 use Rattle.clause_binder.specs.declared.named.NamedItems.{NamedItems}

@@ -10,6 +10,7 @@ use Rattle.tsql_tree.specs.declared.query.Aggregate.{Aggregate}
 use Rattle.tsql_tree.specs.declared.query.Aggregate.TheVariants as of
 use Rattle.tsql_tree.specs.declared.query.SystemWord.{SystemWord}
 use Rattle.tsql_tree.specs.declared.query.SystemWord.TheVariants as word
+use Rattle.tsql_tree.specs.Places.{max_place}
 use Rattle.bound_tree.specs.declared.expr.BoundExpr.{BoundExpr}
 use Rattle.bound_tree.specs.declared.expr.BoundExpr.TheVariants as bound
 use Rattle.bound_tree.specs.declared.expr.BoundTest.TheVariants as test
@@ -27,7 +28,7 @@ use Rattle.typed_nodes.specs.Facts.{alone, no_facts, or_int, outside}
 use Rattle.typed_nodes.specs.Nodes.{is_kind, leaf, null, with_facts}
 use Rattle.typed_nodes.specs.Tests.{in_query_test, test_node}
 use Rattle.typed_nodes.specs.Refusals.{Outcome, after, operand_not_allowed, unnamed}
-use Rattle.clause_binder.specs.Scope.{column_of, behind, is_long, max_inner, max_place, max_variables, several_items, syntax_error, undeclared_variable}
+use Rattle.clause_binder.specs.Scope.{column_of, behind, is_long, max_inner, max_variables, several_items, syntax_error, undeclared_variable}
 use Rattle.clause_binder.specs.declared.scope.Found.{Found}
 use Rattle.clause_binder.specs.declared.operand.Selected.{Selected}
 use Rattle.clause_binder.specs.declared.progress.Progress.{Progress}

@@ -1,12 +1,12 @@
 -- Transact-SQL reference, "FROM" and "Column name": what a name may mean. The tables of a FROM stand from left
 -- to right, and so do their columns in a row. A name means the one column that has it, of the one table where a
 -- table is named. Names are compared unit by unit.
-use Rattle.std.specs.Prelude.{ℕ, suc, ◌+◌, ℤ, pos, Bool, true, false, ◌||◌, not, min, nat_lt, nat_le, if◌then◌else◌, List, [], ◌∷◌, length, filter_map, position, Option, Some, None, Ok, Err}
+use Rattle.std.specs.Prelude.{ℕ, suc, ◌+◌, ℤ, pos, Bool, true, false, ◌||◌, not, min, nat_lt, if◌then◌else◌, List, [], ◌∷◌, length, Option, Some, None, Ok, Err}
 use Rattle.std.specs.List.{list_any, flat_map}
 use Rattle.value_types.specs.Units.{same_units}
 use Rattle.tsql_tree.specs.declared.definition.ColumnTree.{ColumnTree}
-use Rattle.tsql_tree.specs.declared.definition.KeyTree.{KeyTree}
 use Rattle.tsql_tree.specs.declared.definition.TableTree.{TableTree}
+use Rattle.tsql_tree.specs.Places.{max_place}
 use Rattle.tsql_tree.specs.declared.definition.Definition.{Definition}
 use Rattle.tsql_tree.specs.declared.definition.Definition.TheVariants.{Table, Procedure, Trigger}
 use Rattle.tsql_tree.specs.declared.query.TableRef.{TableRef}
@@ -102,10 +102,6 @@ columns_of (Some table) = table.columns
 abbrev pub source_of : List Definition → TableRef → TableSource
 source_of definitions of = record { name = alias_of of; columns = columns_of (table_of of.name definitions) }
 
--- the greatest place that a tree can name; all places behind it are one
-abbrev pub max_place : ℕ
-max_place = 65535
-
 -- the place so far behind another
 abbrev pub behind : ℕ → ℕ → ℕ
 behind place count = min (suc max_place) (place + count)
@@ -188,23 +184,3 @@ is_odd_source source = nat_lt max_columns (length source.columns) || list_any is
 -- more tables than a query may read, one that no table may be, or two of one name
 abbrev pub are_beyond : List TableSource → Bool
 are_beyond sources = if nat_lt max_references (length sources) then true else (list_any is_odd_source sources || has_twice sources)
-
--- ---- keys
-
--- a place that a tree can name
-abbrev pub nameable : Option ℕ → Option ℕ
-nameable None = None
-nameable (Some place) = if nat_le place max_place then Some place else None
-
--- the place of the first column of that name
-abbrev pub place_in : List ColumnTree → List ℕ → Option ℕ
-place_in columns name = nameable (position (λ column. same_units name column.name) columns)
-
-abbrev pub places_of : List ColumnTree → List KeyTree → List ℕ
-places_of columns [] = []
-places_of columns (key ∷ rest) = filter_map (place_in columns) key.columns
-
--- the places of a table's key: a table has one
-abbrev pub key_places : Option TableTree → List ℕ
-key_places None = []
-key_places (Some table) = places_of table.columns table.key

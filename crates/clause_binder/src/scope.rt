@@ -6,6 +6,7 @@ ghost use Rattle.value_types.specs.Units.{same_units};
 ghost use Rattle.typed_nodes.specs.Refusals.{Gives};
 ghost use Rattle.clause_binder.specs.declared.scope.Matches.TheVariants.{Nothing};
 ghost use Rattle.clause_binder.specs.Scope as spec;
+ghost use Rattle.tsql_tree.specs.Places as placing;
 
 use crate::columns::ColumnsByName;
 use crate::fault::{AMBIGUOUS_COLUMN, INVALID_COLUMN, refused};
@@ -157,7 +158,7 @@ pub(crate) fn behind(place: usize, count: usize) -> usize
 
 /// The place, where a tree can name it, else the greatest that it can name.
 pub(crate) fn last_place(place: usize) -> u16
-    ensures { result ≡ min place spec.max_place }
+    ensures { result ≡ min place placing.max_place }
 {
     u16::try_from(place).unwrap_or(u16::MAX)
 }
@@ -233,7 +234,7 @@ fn is_named(name: &Units, sources: &[TableSource<'_>]) -> bool
 
 /// The place of the first column of that name, where a tree can name it.
 fn place_in(columns: &[ColumnTree], name: &Units) -> Option<u16>
-    ensures { result ≡ spec.place_in columns.now name.now }
+    ensures { result ≡ placing.place_in columns.now name.now }
 {
     nameable(position_in(columns, name))
 }
@@ -245,7 +246,7 @@ fn position_in(columns: &[ColumnTree], name: &Units) -> Option<usize>
 }
 
 fn nameable(place: Option<usize>) -> Option<u16>
-    ensures { result ≡ spec.nameable place }
+    ensures { result ≡ placing.nameable place }
 {
     match place {
         Some(place) => u16::try_from(place).ok(),
@@ -255,7 +256,7 @@ fn nameable(place: Option<usize>) -> Option<u16>
 
 /// The places of a table's key.
 pub(crate) fn key_places(alloc: Global, table: Option<&TableTree>) -> Result<Items<u16>, BindFault>
-    ensures { Gives result (Ok (spec.key_places (option_map (λ table. table.now) table.entry))) }
+    ensures { Gives result (Ok (placing.key_places (option_map (λ table. table.now) table.entry))) }
 {
     match table {
         Some(table) => places_of(alloc, table.columns.as_slice(), table.key.as_slice()),
@@ -269,7 +270,7 @@ fn places_of(
     columns: &[ColumnTree],
     keys: &[KeyTree],
 ) -> Result<Items<u16>, BindFault>
-    ensures { Gives result (Ok (spec.places_of columns.now keys.now)) }
+    ensures { Gives result (Ok (placing.places_of columns.now keys.now)) }
 {
     match keys {
         [] => Ok(Items::new(alloc)),
@@ -279,7 +280,7 @@ fn places_of(
 
 /// The places of the columns of these names.
 fn places_in(alloc: Global, columns: &[ColumnTree], names: &[Units]) -> Result<Vec<u16>, AllocError>
-    ensures { IfOk result (λ places. places.items ≡ filter_map (spec.place_in columns.now) names.now) }
+    ensures { IfOk result (λ places. places.items ≡ filter_map (placing.place_in columns.now) names.now) }
 {
     names
         .iter()

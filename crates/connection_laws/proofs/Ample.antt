@@ -10,7 +10,7 @@ use Rattle.batch_meaning.specs.Meaning.{batch}
 use Rattle.batch_meaning.specs.Progress.{SessionProgress}
 use Rattle.batch_meaning.specs.Rpc.{rpc}
 use Rattle.batch_meaning.specs.Tokens.{batch_done, rpc_done}
-use Rattle.statement_paths.proofs.Apart.{held_apart}
+use Rattle.sound_laws.proofs.Bringing.{held_apart}
 use Rattle.cause_laws.proofs.Clean.{all_front}
 use Rattle.ample_laws.specs.Ample.{Ample, NoneRefused, is_refusal}
 use Rattle.ample_laws.specs.Telling.{EndsWith, ErrorIs, IsNoRefusal}

@@ -8,7 +8,7 @@ use Rattle.batch_meaning.specs.Doing.{Held}
 use Rattle.batch_meaning.specs.Meaning.{batch}
 use Rattle.batch_meaning.specs.Progress.{SessionProgress}
 use Rattle.batch_meaning.specs.Rpc.{rpc}
-use Rattle.statement_paths.proofs.Apart.{held_apart}
+use Rattle.sound_laws.proofs.Bringing.{held_apart}
 use Rattle.cause_laws.specs.Causes.{LockError, NeverAnswered, TellsOther, is_answer}
 use Rattle.cause_laws.proofs.Causes.{batch_causes, call_causes}
 use Rattle.cause_laws.proofs.Clean.{all_front}

@@ -29,7 +29,7 @@ use Rattle.batch_meaning.specs.Doing.{Doing, over, ◌then◌, Held}
 use Rattle.batch_meaning.specs.Meaning.{rolls_back_open}
 use Rattle.batch_meaning.specs.Progress.{SessionProgress, first_progress}
 use Rattle.batch_meaning.specs.Tokens.{batch_done, rpc_done}
-use Rattle.statement_paths.proofs.Apart.{held_apart}
+use Rattle.sound_laws.proofs.Bringing.{held_apart}
 use Rattle.cause_laws.proofs.Usual.{IsUsual}
 use Rattle.cause_laws.proofs.Clean.{all_both}
 use Rattle.ample_laws.specs.Ample.{Ample}

@@ -10,7 +10,7 @@ use Rattle.batch_meaning.specs.Doing.{Doing, over, ◌then◌, Held, Left}
 use Rattle.batch_meaning.specs.Meaning.{batch, rolls_back_open}
 use Rattle.batch_meaning.specs.Progress.{SessionProgress, first_progress}
 use Rattle.batch_meaning.specs.Rpc.{rpc}
-use Rattle.statement_paths.proofs.Apart.{Apart, held_apart, held_left, left_apart}
+use Rattle.sound_laws.proofs.Bringing.{Apart, held_apart, held_left, left_apart}
 use Rattle.session_server.specs.Conversation.{Abandons, IsAbandoned, IsAsked, closed}
 use Rattle.session_server.specs.Ends.{Cause, no_message, by_message, unsent, unmade}
 use Rattle.session_server.specs.Response.{Response}

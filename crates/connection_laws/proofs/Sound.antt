@@ -15,12 +15,11 @@ use Rattle.step_model.specs.State.{Engine}
 use Rattle.history_laws.proofs.Sessions.{apart, same_or_not}
 use Rattle.engine_core.specs.Solo.{asked_by}
 use Rattle.engine_core.proofs.Fitting.{run_known}
-use Rattle.write_laws.specs.Reading.{HasCommit}
-use Rattle.write_laws.proofs.Logged.{logged_commits}
 use Rattle.sound_laws.specs.Stands.{Intact}
 use Rattle.sound_laws.specs.Tied.{Tied}
 use Rattle.sound_laws.proofs.Logs.{intact_empty}
-use Rattle.sound_laws.proofs.Runs.{run_sound}
+pub use Rattle.sound_laws.proofs.Logs.{intact_sound}
+use Rattle.sound_laws.proofs.Runs.{HasCommit, logged_commits, run_sound}
 use Rattle.sound_laws.proofs.Serving.{all_keep}
 use Rattle.connection_laws.specs.Laws.{AreConnections, ConnectionSound, ConnectionsKeep, ConnectionsSound, HistorySound, IsConnection}
 use Rattle.connection_laws.proofs.Served.{alone, several_served}

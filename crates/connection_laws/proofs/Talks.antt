@@ -6,7 +6,7 @@ use Rattle.batch_meaning.specs.Doing.{Doing, over, reads, ◌then◌, Held}
 use Rattle.batch_meaning.specs.Meaning.{batch}
 use Rattle.batch_meaning.specs.Progress.{SessionProgress, first_progress}
 use Rattle.batch_meaning.specs.Rpc.{rpc}
-use Rattle.statement_paths.proofs.Apart.{held_apart}
+use Rattle.sound_laws.proofs.Bringing.{held_apart}
 use Rattle.session_server.specs.Response.{Response}
 use Rattle.session_server.specs.Talk.{Handling, responds, runs, calls, refuses, ends, batch_response, rpc_response, response_to, talk_more, with_request, Request, talk_of}
 use Rattle.sound_laws.specs.Runs.{AreDone, Task}

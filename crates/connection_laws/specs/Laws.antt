@@ -16,7 +16,8 @@ use Rattle.session_server.specs.Ends.{Cause}
 use Rattle.session_server.specs.Response.{Response}
 use Rattle.session_server.specs.Talk.{Request}
 use Rattle.sound_laws.specs.Runs.{AreServed}
-use Rattle.sound_laws.specs.Stands.{CommitsKeep, Intact}
+pub use Rattle.sound_laws.specs.Stands.{CommitsKeep, Intact}
+pub use Rattle.sound_laws.specs.Laws.{Sound}
 use Rattle.sound_laws.specs.Tied.{Tied}
 use Rattle.connection_laws.specs.Tasks.{AsksTasks, tasks_of}
 

@@ -15,7 +15,8 @@ use Rattle.step_model.specs.declared.change.Deed.TheVariants.{Erase, Replace, In
 use Rattle.step_model.specs.declared.change.Planned.{Planned}
 use Rattle.step_model.specs.Database.{Database, is_at, with_change}
 use Rattle.step_model.specs.Own.{change_of, row_of}
-use Rattle.constraint_check.specs.Reads.{is_erase, rows_table}
+use Rattle.table_rows.specs.Rows.{rows_table}
+use Rattle.constraint_check.specs.Reads.{is_erase}
 use Rattle.constraint_check.specs.Laws.{KeysAreOne, behind}
 use Rattle.constraint_check.proofs.Lists.{Among}
 use Rattle.constraint_check.proofs.Spots.{is_eq-then}

@@ -10,6 +10,7 @@ use Rattle.tsql_tree.specs.declared.definition.CheckTree.{CheckTree}
 use Rattle.tsql_tree.specs.declared.definition.ForeignTree.{ForeignTree}
 use Rattle.tsql_tree.specs.declared.definition.KeyTree.{KeyTree}
 use Rattle.tsql_tree.specs.declared.definition.TableTree.{TableTree}
+use Rattle.tsql_tree.specs.Places.{key_places}
 use Rattle.bound_tree.specs.declared.expr.BoundTest.{BoundTest}
 use Rattle.bound_tree.specs.declared.truth.Truth.{Truth}
 use Rattle.bound_tree.specs.declared.truth.Truth.TheVariants.{False, Unknown, True}
@@ -25,11 +26,10 @@ use Rattle.step_model.specs.declared.range.Stop.TheVariants.{Within}
 use Rattle.step_model.specs.Database.{Database, With, is_at}
 use Rattle.step_model.proofs.Databases.{With-append}
 use Rattle.step_model.specs.Own.{change_of, is_insert, row_of}
-use Rattle.clause_binder.specs.Scope.{key_places}
-use Rattle.table_rows.specs.Rows.{has_columns, key_of, places_of, row_fits, values_at}
+use Rattle.table_rows.specs.Rows.{has_columns, key_of, places_of, row_fits, rows_table, shape_of, values_at}
 use Rattle.constraint_check.specs.declared.check_read.CheckRead.{CheckRead}
 use Rattle.constraint_check.specs.Local.{broken_among, check_fault, first_given, null_fault, null_in, row_setting}
-use Rattle.constraint_check.specs.Reads.{all_rows, child_read, child_reads, child_where, is_again, is_erase, is_gone, of_both, of_key, of_row, parent_read, parent_reads, parent_reads_of, is_key, row_at, rows_table, shape_of, unique_read, unique_reads}
+use Rattle.constraint_check.specs.Reads.{all_rows, child_read, child_reads, child_where, is_again, is_erase, is_gone, of_both, of_key, of_row, parent_read, parent_reads, parent_reads_of, is_key, row_at, unique_read, unique_reads}
 use Rattle.constraint_check.specs.Judged.{agrees}
 use Rattle.constraint_check.specs.Integrity.{AreKept, HasParents, IsKept, IsUnique, Stands, comes_false, has_false}
 use Rattle.constraint_check.specs.Laws.{Checked, CheckedKept, KeysAreOne, Passes, behind}

@@ -17,7 +17,8 @@ use Rattle.scalar_eval.specs.declared.fault.EvalFault.TheVariants.{Named}
 use Rattle.constraint_check.specs.declared.check_read.Check.TheVariants.{Unique, Child, Parent}
 use Rattle.constraint_check.specs.declared.check_read.CheckRead.{CheckRead}
 use Rattle.constraint_check.specs.Local.{null_fault}
-use Rattle.constraint_check.specs.Reads.{all_rows, reads_for, rows_table}
+use Rattle.table_rows.specs.Rows.{rows_table}
+use Rattle.constraint_check.specs.Reads.{all_rows, reads_for}
 use Rattle.constraint_check.specs.Judged.{judge}
 
 -- ---- the table, its rows, and changes

@@ -16,9 +16,8 @@ use Rattle.bound_tree.specs.Meaning.{is_null, truth}
 use Rattle.bound_tree.specs.Outcomes.{Outcome}
 use Rattle.bound_tree.specs.Truths.{is_false}
 use Rattle.step_model.specs.Database.{Database}
-use Rattle.table_rows.specs.Rows.{places_of, row_fits, values_at}
+use Rattle.table_rows.specs.Rows.{places_of, row_fits, rows_table, values_at}
 use Rattle.constraint_check.specs.Local.{null_in, row_setting}
-use Rattle.constraint_check.specs.Reads.{rows_table}
 
 -- ---- a row alone
 

@@ -12,12 +12,12 @@ use Rattle.bound_tree.specs.declared.expr.BoundTest.{BoundTest}
 use Rattle.step_model.specs.declared.change.Planned.{Planned}
 use Rattle.step_model.specs.Database.{Database, In, With, is_within}
 use Rattle.step_model.specs.Own.{change_of, row_of}
-use Rattle.table_rows.specs.Rows.{row_fits}
+use Rattle.table_rows.specs.Rows.{row_fits, rows_table, shape_of}
 use Rattle.constraint_check.specs.declared.check_read.Check.{Check}
 use Rattle.constraint_check.specs.declared.check_read.Check.TheVariants.{Unique, Child, Parent}
 use Rattle.constraint_check.specs.declared.check_read.CheckRead.{CheckRead}
 use Rattle.constraint_check.specs.Local.{first_local}
-use Rattle.constraint_check.specs.Reads.{is_erase, reads_for, rows_table, shape_of}
+use Rattle.constraint_check.specs.Reads.{is_erase, reads_for}
 use Rattle.constraint_check.specs.Judged.{agrees, judge}
 use Rattle.constraint_check.specs.Integrity.{AreKept}
 

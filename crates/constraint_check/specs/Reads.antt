@@ -2,7 +2,7 @@
 -- behind the changes of a statement to check them: UNIQUE of each row that is written; the parent of each such row; the
 -- rows that refer to each row that is gone. A FOREIGN KEY with a NULL has no parent, and a key that the statement
 -- inserts again is not gone.
-use Rattle.std.specs.Prelude.{ℕ, Bool, true, false, not, ◌&&◌, nat_eq, nat_le, if◌then◌else◌, List, [], ◌∷◌, ◌++◌, length, map, filter, Option, Some, None}
+use Rattle.std.specs.Prelude.{ℕ, Bool, true, false, not, ◌&&◌, nat_le, if◌then◌else◌, List, [], ◌∷◌, ◌++◌, length, map, filter, Option, Some, None}
 use Rattle.std.specs.List.{flat_map, list_any}
 use Rattle.value_types.specs.Units.{same_units}
 use Rattle.value_types.specs.declared.table_name.TableName.{TableName}
@@ -11,8 +11,8 @@ use Rattle.value_types.specs.Order.{key_limit}
 use Rattle.tsql_tree.specs.declared.definition.ForeignTree.{ForeignTree}
 use Rattle.tsql_tree.specs.declared.definition.KeyTree.{KeyTree}
 use Rattle.tsql_tree.specs.declared.definition.TableTree.{TableTree}
+use Rattle.tsql_tree.specs.Places.{key_places}
 use Rattle.bound_tree.specs.Meaning.{is_null}
-use Rattle.clause_binder.specs.Scope.{key_places}
 use Rattle.step_model.specs.declared.change.Deed.{Deed}
 use Rattle.step_model.specs.declared.change.Deed.TheVariants.{Erase, Replace, Insert}
 use Rattle.step_model.specs.declared.change.Planned.{Planned}
@@ -21,23 +21,9 @@ use Rattle.step_model.specs.declared.range.Start.TheVariants.{First, At}
 use Rattle.step_model.specs.declared.range.Stop.TheVariants.{Last, Within}
 use Rattle.step_model.specs.Database.{is_at}
 use Rattle.step_model.specs.Own.{change_of, is_insert, row_of}
-use Rattle.table_rows.specs.Rows.{places_of, values_at}
+use Rattle.table_rows.specs.Rows.{places_of, rows_table, shape_of, values_at}
 use Rattle.constraint_check.specs.declared.check_read.Check.TheVariants.{Unique, Child, Parent}
 use Rattle.constraint_check.specs.declared.check_read.CheckRead.{CheckRead}
-
--- ---- tables
-
--- the table's own rows, which are part 0
-abbrev pub rows_table : List ℕ → TableName
-rows_table name = record { object = name; part = 0 }
-
-abbrev pub is_shape_of : TableName → TableTree → Bool
-is_shape_of table shape = nat_eq table.part 0 && same_units table.object shape.name
-
--- the first shape of that table
-abbrev pub shape_of : TableName → List TableTree → Option TableTree
-shape_of table [] = None
-shape_of table (shape ∷ rest) = if is_shape_of table shape then Some shape else shape_of table rest
 
 -- ---- what is read
 

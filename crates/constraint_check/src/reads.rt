@@ -5,9 +5,10 @@ ghost use Rattle.std.specs.List.{flat_map, list_any};
 ghost use Rattle.bound_tree.specs.Meaning.{is_null};
 ghost use Rattle.bound_tree.specs.Setting.{value_at};
 ghost use Rattle.step_model.specs.Own.{row_of};
-ghost use Rattle.clause_binder.specs.Scope.{key_places, place_in};
-ghost use Rattle.table_rows.specs.Rows.{places_of, values_at};
+ghost use Rattle.tsql_tree.specs.Places.{key_places, place_in};
 ghost use Rattle.constraint_check.specs.Reads as spec;
+ghost use Rattle.table_rows.specs.Rows as tables;
+ghost use Rattle.table_rows.specs.Rows.{places_of, values_at};
 
 use crate::inserted::Inserted;
 use crate::{Check, CheckRead};
@@ -278,7 +279,7 @@ fn parent_read(
 
 /// The first shape of a table.
 fn shape_of<'a>(table: &TableName, shapes: &'a [TableTree]) -> Option<&'a TableTree>
-    ensures { option_map (λ shape. shape.now) result ≡ spec.shape_of table.now shapes.now }
+    ensures { option_map (λ shape. shape.now) result ≡ tables.shape_of table.now shapes.now }
 {
     for shape in shapes {
         if table.part == 0 && table.object == shape.name {
@@ -363,7 +364,7 @@ fn copied(alloc: Global, values: &[Value]) -> Result<Vec<Value>, Memory>
 
 /// The table's own rows.
 fn rows_table(alloc: Global, name: &Units) -> Result<TableName, Memory>
-    ensures { IfOk result (λ table. table ≡ spec.rows_table name.now) }
+    ensures { IfOk result (λ table. table ≡ tables.rows_table name.now) }
 {
     Ok(TableName {
         object: name.copy(alloc)?,

@@ -3,8 +3,8 @@ use Rattle.std.proofs.Common.{◌≡◌, ℕ, zero, suc, ◌<◌, ℤ, pos, negs
 use Rattle.std.specs.Ordering.{int_eq}
 use Rattle.value_types.specs.declared.sql_type.SqlType.{SqlType}
 use Rattle.value_types.specs.declared.sql_type.SqlType.TheVariants.{TinyInt, SmallInt, Int, BigInt, Bit as BitType, NText}
+use Rattle.value_types.specs.Types.{is_in_range}
 use Rattle.convert_rules.specs.declared.reading.TextNumber.TheVariants.{Known}
-use Rattle.convert_rules.specs.Types.{is_in_range}
 use Rattle.convert_rules.specs.Reading.{signed_number}
 use Rattle.convert_rules.specs.Conversion.{whole_in, read_whole, read_bit}
 use Rattle.convert_rules.specs.Partial.{known, text_number, whole_of, bit_of_read}

@@ -1,5 +1,4 @@
 -- Read in this order; the comment behind a name says what the file is for.
-pub mod Types  -- IsOf: which values a type has; type_of: a type that a value has
 pub mod Reading  -- number_in: the whole number that a text spells
 pub mod Conversion  -- converted and cast_of: the table of conversions
 pub mod Errors  -- error_of: the number of the error that a fault is

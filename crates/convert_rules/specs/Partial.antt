@@ -4,12 +4,12 @@ use Rattle.value_types.specs.declared.sql_type.SqlType.{SqlType}
 use Rattle.value_types.specs.declared.sql_type.SqlType.TheVariants.{BigInt}
 use Rattle.value_types.specs.declared.value.Value.{Value}
 use Rattle.value_types.specs.declared.value.Value.TheVariants.{Bit}
+use Rattle.value_types.specs.Types.{is_in_range}
 use Rattle.convert_rules.specs.declared.fault.ConvertFault.{ConvertFault}
 use Rattle.convert_rules.specs.declared.fault.ConvertFault.TheVariants.{Overflow, NotANumber}
 use Rattle.convert_rules.specs.Conversion.{whole_in, bit_of}
 use Rattle.convert_rules.specs.declared.reading.TextNumber.{TextNumber}
 use Rattle.convert_rules.specs.declared.reading.TextNumber.TheVariants.{NoNumber, Beyond, Known}
-use Rattle.convert_rules.specs.Types.{is_in_range}
 use Rattle.convert_rules.specs.Reading.{digits_value}
 
 -- the greatest number whose negative has 64 bits

@@ -3,7 +3,7 @@
 ghost use Rattle.std.specs.Prelude.{◌≡◌, zip, take, IsTrue, Ok};
 ghost use Rattle.std.specs.List.{list_all};
 ghost use Rattle.std.specs.Char.{to_ascii_lowercase};
-ghost use Rattle.convert_rules.specs.Types.{is_in_range};
+ghost use Rattle.value_types.specs.Types.{is_in_range};
 ghost use Rattle.convert_rules.specs.Conversion.{Gives, bit_in, bit_number, cast_of, converted, decimal_in, from_text, from_whole, is_letter, is_text, says, text_in, whole_in};
 ghost use Rattle.convert_rules.specs.Partial.{bit_of_read, whole_of};
 

@@ -4,7 +4,7 @@ ghost use Rattle.std.specs.Prelude.{◌≡◌, ◌≢◌};
 ghost use Rattle.value_types.specs.declared.sql_type.SqlType.{SqlType as Kind};
 ghost use Rattle.value_types.specs.declared.value.Value.{Value as SqlValue};
 ghost use Rattle.value_types.specs.declared.value.Value.TheVariants.{Null};
-ghost use Rattle.convert_rules.specs.Types.{IsOf, type_of};
+ghost use Rattle.value_types.specs.Types.{IsOf, type_of};
 ghost use Rattle.convert_rules.specs.Conversion.{is_text};
 ghost use Rattle.convert_rules.specs.Errors.{error_of, no_number, number_outside, text_outside};
 ghost use Rattle.convert_rules.specs.declared.fault.ConvertFault.{ConvertFault as Fault};

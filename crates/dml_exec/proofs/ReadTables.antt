@@ -6,6 +6,7 @@ use Rattle.std.proofs.lemmas.List.{length-map, map-append}
 use Rattle.value_types.specs.declared.table_name.TableName.{TableName}
 use Rattle.value_types.specs.declared.value.Value.{Value}
 use Rattle.tsql_tree.specs.declared.definition.TableTree.{TableTree}
+use Rattle.tsql_tree.specs.Places.{key_places}
 use Rattle.bound_tree.specs.declared.query.BoundQuery.{BoundQuery}
 use Rattle.bound_tree.specs.declared.query.InnerQuery.{InnerQuery, out-InnerQuery}
 use Rattle.bound_tree.specs.declared.write.Bound.{Bound}
@@ -16,8 +17,7 @@ use Rattle.bound_tree.specs.declared.write.BoundWrite.{BoundWrite}
 use Rattle.bound_tree.specs.declared.write.BoundWrite.TheVariants as write
 use Rattle.step_model.specs.declared.range.KeyRange.{KeyRange}
 use Rattle.query_eval.specs.Given.{tables_read}
-use Rattle.clause_binder.specs.Scope.{key_places}
-use Rattle.constraint_check.specs.Reads.{shape_of}
+use Rattle.table_rows.specs.Rows.{shape_of}
 use Rattle.range_plan.specs.RangeOf.{RangeOf, whole_table}
 use Rattle.range_plan.specs.OnRanges.{ranges_of}
 use Rattle.range_plan.proofs.Tables.{query_tables}

@@ -9,8 +9,8 @@ use Rattle.value_types.specs.declared.value.Value.TheVariants.{Null, Whole, Text
 use Rattle.convert_rules.specs.Reading.{digits_in}
 use Rattle.tsql_tree.specs.declared.definition.ColumnTree.{ColumnTree}
 use Rattle.tsql_tree.specs.declared.definition.TableTree.{TableTree}
+use Rattle.tsql_tree.specs.Places.{key_places}
 use Rattle.scalar_eval.specs.declared.fault.EvalFault.TheVariants.{Number, Named}
-use Rattle.clause_binder.specs.Scope.{key_places}
 use Rattle.step_model.specs.declared.range.Start.TheVariants.{First, At}
 use Rattle.step_model.specs.declared.range.Stop.TheVariants.{Last, Within}
 use Rattle.step_model.specs.declared.change.Deed.{Deed}

@@ -2,13 +2,13 @@
 use Rattle.std.proofs.Common.{◌≡◌, sym, ap, ◌∙◌, subst, ℕ, List, [], Option, Some, Ok}
 use Rattle.value_types.specs.declared.value.Value.{Value}
 use Rattle.tsql_tree.specs.declared.definition.TableTree.{TableTree}
+use Rattle.tsql_tree.specs.Places.{key_places}
 use Rattle.bound_tree.specs.declared.expr.BoundExpr.{BoundExpr}
 use Rattle.bound_tree.specs.declared.expr.BoundTest.{BoundTest}
 use Rattle.bound_tree.specs.declared.query.InnerQuery.{InnerQuery}
 use Rattle.bound_tree.specs.declared.write.BoundRows.TheVariants.{Values}
 use Rattle.bound_tree.specs.declared.write.BoundSet.{BoundSet}
 use Rattle.bound_tree.specs.Outcomes.{Outcome, after}
-use Rattle.clause_binder.specs.Scope.{key_places}
 use Rattle.query_eval.specs.Joining.{image_of}
 use Rattle.query_eval.specs.Phases.{each}
 use Rattle.query_eval.specs.Targets.{inner_answers, rows_meant, setting_over}

@@ -5,8 +5,8 @@ use Rattle.std.specs.Prelude.{ℕ, List, [], ◌∷◌, map, slice_get, slice_se
 use Rattle.value_types.specs.declared.sql_type.SqlType.{SqlType}
 use Rattle.value_types.specs.declared.value.Value.{Value}
 use Rattle.value_types.specs.declared.value.Value.TheVariants.{Null}
+use Rattle.value_types.specs.Types.{type_of}
 use Rattle.convert_rules.specs.declared.fault.ConvertFault.{ConvertFault}
-use Rattle.convert_rules.specs.Types.{type_of}
 use Rattle.convert_rules.specs.Conversion.{converted}
 use Rattle.convert_rules.specs.Errors.{error_of}
 use Rattle.tsql_tree.specs.declared.definition.ColumnTree.{ColumnTree}

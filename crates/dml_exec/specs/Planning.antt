@@ -10,6 +10,7 @@ use Rattle.value_types.specs.declared.table_name.TableName.{TableName}
 use Rattle.value_types.specs.declared.value.Value.{Value}
 use Rattle.value_types.specs.Order.{key_limit}
 use Rattle.tsql_tree.specs.declared.definition.TableTree.{TableTree}
+use Rattle.tsql_tree.specs.Places.{key_places}
 use Rattle.bound_tree.specs.declared.expr.BoundExpr.{BoundExpr}
 use Rattle.bound_tree.specs.declared.expr.BoundTest.{BoundTest}
 use Rattle.bound_tree.specs.declared.query.InnerQuery.{InnerQuery}
@@ -23,7 +24,6 @@ use Rattle.bound_tree.specs.Outcomes.{Outcome}
 use Rattle.bound_tree.specs.Setting.{Setting}
 use Rattle.scalar_eval.specs.declared.fault.EvalFault.{EvalFault}
 use Rattle.scalar_eval.specs.declared.fault.EvalFault.TheVariants.{Number}
-use Rattle.clause_binder.specs.Scope.{key_places}
 use Rattle.query_eval.specs.Phases.{◌>>=◌, each}
 use Rattle.query_eval.specs.Joining.{image_of}
 use Rattle.query_eval.specs.Ans.{Ans}

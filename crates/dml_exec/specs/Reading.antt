@@ -10,6 +10,7 @@ use Rattle.value_types.specs.declared.table_name.TableName.{TableName}
 use Rattle.value_types.specs.declared.value.Value.{Value}
 use Rattle.value_types.specs.declared.value.Value.TheVariants.{Null}
 use Rattle.tsql_tree.specs.declared.definition.TableTree.{TableTree}
+use Rattle.tsql_tree.specs.Places.{key_places}
 use Rattle.bound_tree.specs.declared.expr.BoundTest.{BoundTest}
 use Rattle.bound_tree.specs.declared.query.BoundQuery.{BoundQuery}
 use Rattle.bound_tree.specs.declared.query.InnerQuery.{InnerQuery, out-InnerQuery}
@@ -19,7 +20,6 @@ use Rattle.bound_tree.specs.declared.write.BoundRows.{BoundRows}
 use Rattle.bound_tree.specs.declared.write.BoundRows.TheVariants as rows
 use Rattle.bound_tree.specs.declared.write.BoundWrite.{BoundWrite}
 use Rattle.bound_tree.specs.declared.write.BoundWrite.TheVariants as write
-use Rattle.clause_binder.specs.Scope.{key_places}
 use Rattle.query_eval.specs.Given.{tables_read}
 use Rattle.step_model.specs.declared.op.Hold.{Hold}
 use Rattle.step_model.specs.declared.op.Hold.TheVariants as hold
@@ -37,8 +37,7 @@ use Rattle.step_model.specs.Dialog.{Dialog, over, asks, never}
 use Rattle.step_model.specs.Ranges.{Rows, Keeps, range_limit, with_row}
 use Rattle.range_plan.specs.RangeOf.{RangeOf}
 use Rattle.range_plan.specs.OnRanges.{ranges_of}
-use Rattle.table_rows.specs.Rows.{row_fits, same_key}
-use Rattle.constraint_check.specs.Reads.{shape_of}
+use Rattle.table_rows.specs.Rows.{row_fits, same_key, shape_of}
 use Rattle.dml_exec.specs.declared.refusal.Refusal.{Refusal}
 use Rattle.dml_exec.specs.declared.refusal.Refusal.TheVariants.{Victim, TimedOut, Limit, Memory}
 use Rattle.dml_exec.specs.declared.refusal.Level.{Level}

@@ -18,8 +18,9 @@ use Rattle.step_model.specs.declared.reply.Reply.TheVariants as replies
 use Rattle.step_model.specs.Dialog.{Dialog, over, asks, never, tries, ◌then◌}
 use Rattle.step_model.specs.Ranges.{Rows}
 use Rattle.table_rows.specs.Definitions.{is_objects, name_in}
+use Rattle.table_rows.specs.Rows.{shape_of}
 use Rattle.constraint_check.specs.declared.check_read.CheckRead.{CheckRead}
-use Rattle.constraint_check.specs.Reads.{reads_for, shape_of}
+use Rattle.constraint_check.specs.Reads.{reads_for}
 use Rattle.constraint_check.specs.Judged.{duplicate, judge}
 use Rattle.dml_exec.specs.declared.refusal.Refusal.{Refusal}
 use Rattle.dml_exec.specs.declared.refusal.Refusal.TheVariants.{Victim, TimedOut, Memory}

@@ -4,10 +4,10 @@ ghost use Rattle.std.specs.Prelude.{◌≡◌, ◌++◌, [], ◌∷◌, IfOk, Is
 ghost use Rattle.std.specs.List.{list_any};
 ghost use Rattle.value_types.specs.Units.{same_units};
 ghost use Rattle.scalar_eval.specs.Scopes.{values_of};
-ghost use Rattle.clause_binder.specs.Scope as scope;
+ghost use Rattle.tsql_tree.specs.Places as scope;
 ghost use Rattle.query_eval.specs.Given.{tables_read};
 ghost use Rattle.step_model.specs.Dialog.{Asks};
-ghost use Rattle.constraint_check.specs.Reads as find;
+ghost use Rattle.table_rows.specs.Rows as find;
 ghost use Rattle.dml_exec.specs.Asking.{MayWork, seen};
 ghost use Rattle.dml_exec.specs.Reading as spec;
 

@@ -3,7 +3,7 @@
 ghost use Rattle.std.specs.Prelude.{◌≡◌, ◌≤◌, IfOk, Some, filter_map, length};
 ghost use Rattle.value_types.specs.Order.{key_limit};
 ghost use Rattle.bound_tree.specs.Setting.{value_at};
-ghost use Rattle.clause_binder.specs.Scope as scope;
+ghost use Rattle.tsql_tree.specs.Places as scope;
 ghost use Rattle.table_rows.specs.Rows as rows;
 ghost use Rattle.dml_exec.specs.Planning as spec;
 

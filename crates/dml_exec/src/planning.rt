@@ -3,7 +3,7 @@
 ghost use Rattle.std.specs.Prelude.{◌≡◌, ◌≤◌, Some, Ok, filter, length, not};
 ghost use Rattle.constraint_check.specs.Reads.{is_erase};
 ghost use Rattle.value_types.specs.Order.{key_limit};
-ghost use Rattle.clause_binder.specs.Scope as scope;
+ghost use Rattle.tsql_tree.specs.Places as scope;
 ghost use Rattle.scalar_eval.specs.Scopes.{values_of};
 ghost use Rattle.dml_exec.specs.Planning as spec;
 ghost use Rattle.dml_exec.specs.Plans.{Plans};

@@ -3,11 +3,11 @@
 ghost use Rattle.std.specs.Prelude.{◌≡◌, ◌++◌, [], ◌∷◌, IfOk, IsOk, false, filter_map, length, true};
 ghost use Rattle.std.specs.Option.{option_map};
 ghost use Rattle.value_types.specs.declared.value.Value.TheVariants.{Null};
-ghost use Rattle.clause_binder.specs.Scope.{place_in};
+ghost use Rattle.tsql_tree.specs.Places.{place_in};
 ghost use Rattle.step_model.specs.declared.range.Start.TheVariants.{At};
 ghost use Rattle.step_model.specs.Dialog.{Asks};
 ghost use Rattle.step_model.specs.Ranges.{range_limit, with_row};
-ghost use Rattle.constraint_check.specs.Reads as checks;
+ghost use Rattle.table_rows.specs.Rows as checks;
 ghost use Rattle.dml_exec.specs.Asking.{MayWork, beside, seen};
 ghost use Rattle.dml_exec.specs.Reading as spec;
 

@@ -2,7 +2,7 @@
 
 ghost use Rattle.std.specs.Prelude.{◌≡◌, [], Some, drop};
 ghost use Rattle.scalar_eval.specs.Scopes.{inner_rows, setting_of, values_of};
-ghost use Rattle.clause_binder.specs.Scope.{key_places};
+ghost use Rattle.tsql_tree.specs.Places.{key_places};
 ghost use Rattle.query_eval.specs.Ans.{Ans};
 ghost use Rattle.query_eval.specs.Joining.{image_of};
 ghost use Rattle.query_eval.specs.Phases.{each};

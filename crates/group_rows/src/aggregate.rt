@@ -1,7 +1,7 @@
 //! Aggregates over the values of a class.
 
 ghost use Rattle.std.specs.Prelude.{◌≡◌, length, option_map, IfOk};
-ghost use Rattle.convert_rules.specs.Types as types;
+ghost use Rattle.value_types.specs.Types as types;
 ghost use Rattle.bound_tree.specs.Meaning as meaning;
 ghost use Rattle.group_rows.specs.Steps as steps;
 ghost use Rattle.group_rows.specs.Totals as spec;

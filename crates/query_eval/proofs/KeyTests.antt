@@ -13,8 +13,8 @@ use Rattle.value_types.specs.declared.value.Value.TheVariants.{Null, Whole, Bit,
 use Rattle.value_types.specs.declared.sql_type.SqlType.{SqlType}
 use Rattle.value_types.specs.declared.sql_type.SqlType.TheVariants.{TinyInt, SmallInt, Int, BigInt, Bit as BitType, NText}
 use Rattle.value_types.specs.OrderLaws.{value_order_total}
+use Rattle.value_types.specs.Types.{IsOf, is_in_range}
 use Rattle.convert_rules.specs.declared.fault.ConvertFault.TheVariants.{Overflow}
-use Rattle.convert_rules.specs.Types.{IsOf, is_in_range}
 use Rattle.bound_tree.specs.declared.truth.Truth.{Truth}
 use Rattle.bound_tree.specs.declared.truth.Truth.TheVariants.{False, Unknown, True}
 use Rattle.bound_tree.specs.declared.expr.CompareOp.{CompareOp}

@@ -8,7 +8,7 @@ use Rattle.value_types.specs.declared.sql_type.SqlType.TheVariants.{TinyInt, Sma
 use Rattle.value_types.specs.declared.table_name.TableName.{TableName}
 use Rattle.value_types.specs.declared.value.Value.{Value}
 use Rattle.value_types.specs.declared.value.Value.TheVariants.{Null, Whole}
-use Rattle.convert_rules.specs.Types.{IsOf, is_in_range}
+use Rattle.value_types.specs.Types.{IsOf, is_in_range}
 use Rattle.bound_tree.specs.declared.expr.BoundExpr.{BoundExpr}
 use Rattle.bound_tree.specs.declared.expr.BoundTest.{BoundTest}
 use Rattle.bound_tree.specs.declared.truth.Truth.{Truth}

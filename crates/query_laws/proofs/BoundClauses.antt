@@ -11,6 +11,7 @@ use Rattle.tsql_tree.specs.declared.definition.Definition.{Definition}
 use Rattle.tsql_tree.specs.declared.definition.KeyTree.{KeyTree}
 use Rattle.tsql_tree.specs.declared.definition.TableTree.{TableTree}
 use Rattle.tsql_tree.specs.declared.query.TableRef.{TableRef}
+use Rattle.tsql_tree.specs.Places.{places_of, key_places, max_place, nameable, place_in}
 use Rattle.bound_tree.specs.declared.expr.BoundExpr.{BoundExpr}
 use Rattle.bound_tree.specs.declared.expr.BoundTest.{BoundTest}
 use Rattle.bound_tree.specs.declared.query.BoundOrder.{BoundOrder}
@@ -32,7 +33,7 @@ use Rattle.clause_binder.specs.declared.progress.Progress.{Progress}
 use Rattle.clause_binder.specs.declared.shape.Shape.{Shape}
 use Rattle.clause_binder.specs.declared.shape.Shape.TheVariants as shape
 use Rattle.clause_binder.specs.Same.{same_expr}
-use Rattle.clause_binder.specs.Scope.{is_long, max_name, TableSource, behind, columns_in, columns_of, is_meant, key_places, max_columns, max_place, nameable, place_in, places_of, source_of, table_of, has_name}
+use Rattle.clause_binder.specs.Scope.{is_long, max_name, TableSource, behind, columns_in, columns_of, is_meant, max_columns, source_of, table_of, has_name}
 use Rattle.clause_binder.specs.Progress.{Binding, Context, Read, all_onto, and_then, beyond_where, both, is_deep, nothing, plain}
 use Rattle.clause_binder.specs.Operands.{cell, variable_of}
 use Rattle.clause_binder.specs.Clauses.{ExprRead, ItemRead, JoinRead, OrderRead, alias_place, assigned, column_items, expr_key, filter_of, grouped_cell, grouped_or_refused, groups_onto, having_of, is_full, is_long_alias, is_long_ref, is_source, item, item_inside, item_key, item_of, item_place, items_onto, join_onto, key_at, key_by, key_of, looked_at, name_or, named_or, named_place, number_of, numbered_or, numbered_place, order_inside, order_onto, ordered_by, place_or, reference, source_items, star, star_items, star_of, table_items, table_read, value_item, valued, whole, whole_having, with_item, with_place, with_reference, with_source}

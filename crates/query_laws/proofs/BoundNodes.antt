@@ -23,7 +23,7 @@ use Rattle.clause_binder.specs.Progress.{Binding, Context, Read, all_onto, and_t
 use Rattle.clause_binder.specs.Clauses.{ExprRead, settled}
 use Rattle.clause_binder.specs.Bind.{TermRead, case_arm, case_read, chain, chain_onto, is_minus, joined_by, joined_to, negated, tested, null_read, read_of, settle, signed_by, signed_from, signed_node, signed_null, signed_onto, term_inside, unseen}
 use Rattle.value_types.specs.declared.sql_type.SqlType.TheVariants.{Int, BigInt}
-use Rattle.convert_rules.specs.Types.{is_in_range}
+use Rattle.value_types.specs.Types.{is_in_range}
 use Rattle.typed_nodes.specs.Facts.{alone}
 use Rattle.clause_binder.specs.Operands.{left_out}
 use Rattle.clause_binder.specs.Bind.{literal, signed_number}

@@ -22,7 +22,8 @@ use Rattle.clause_binder.specs.declared.scope.Matches.{Matches}
 use Rattle.clause_binder.specs.declared.scope.Matches.TheVariants as matches
 use Rattle.clause_binder.specs.declared.progress.Progress.{Progress}
 use Rattle.clause_binder.specs.Progress.{Context, nothing}
-use Rattle.clause_binder.specs.Scope.{TableSource, behind, column_of, columns_in, found_at as match_at, found_from, found_in, found_of as match_of, found_too, is_meant, max_place, the_one, width_of, width_onto}
+use Rattle.tsql_tree.specs.Places.{max_place}
+use Rattle.clause_binder.specs.Scope.{TableSource, behind, column_of, columns_in, found_at as match_at, found_from, found_in, found_of as match_of, found_too, is_meant, the_one, width_of, width_onto}
 use Rattle.clause_binder.specs.Operands.{cell, left_out, placed}
 use Rattle.tsql_tree.specs.declared.query.SystemWord.{SystemWord}
 use Rattle.tsql_tree.specs.declared.query.SystemWord.TheVariants as word

@@ -23,7 +23,8 @@ use Rattle.clause_binder.specs.declared.front.FrontClauses.{FrontClauses}
 use Rattle.clause_binder.specs.declared.inside.Inside.{Inside}
 use Rattle.clause_binder.specs.declared.named.NamedItems.{NamedItems}
 use Rattle.clause_binder.specs.declared.progress.Progress.{Progress}
-use Rattle.clause_binder.specs.Scope.{is_long, is_odd_column, is_odd_source, max_name, max_sums, TableSource, are_beyond, has_twice, max_columns, max_inner, max_place, max_references}
+use Rattle.tsql_tree.specs.Places.{max_place}
+use Rattle.clause_binder.specs.Scope.{is_long, is_odd_column, is_odd_source, max_name, max_sums, TableSource, are_beyond, has_twice, max_columns, max_inner, max_references}
 use Rattle.clause_binder.specs.Progress.{Context, all_onto, begin_at, beyond_where, nothing, plain}
 use Rattle.clause_binder.specs.Operands.{items_of, within_sum}
 use Rattle.clause_binder.specs.Clauses.{FromRead, JoinRead, SelectRead, back_of, behind_inner, class_context, filter_of, first_table, from_of, front_of, groups_onto, has_limit, having_of, in_items, in_order, is_grouped, is_long_ref, is_many, items_onto, join_onto, joins_onto, no_items, no_tables, order_onto, query_from, select_of, select_over, set_aside, taken_up, top_of, with_source}

@@ -8,6 +8,7 @@ use Rattle.session_vars.specs.declared.Variable.{Variable}
 use Rattle.tsql_tree.specs.declared.definition.Definition.{Definition}
 use Rattle.tsql_tree.specs.declared.query.Aggregate.{Aggregate}
 use Rattle.tsql_tree.specs.declared.query.Aggregate.TheVariants as of
+use Rattle.tsql_tree.specs.Places.{max_place}
 use Rattle.bound_tree.specs.declared.expr.BoundExpr.TheVariants as bound
 use Rattle.bound_tree.specs.declared.query.Sum.{Sum}
 use Rattle.bound_tree.specs.declared.query.SumKind.TheVariants.{CountRows}
@@ -19,7 +20,7 @@ use Rattle.typed_nodes.specs.Refusals.{Outcome, after}
 use Rattle.clause_binder.specs.declared.inside.Inside.{Inside}
 use Rattle.clause_binder.specs.declared.progress.Progress.{Progress}
 use Rattle.clause_binder.specs.Progress.{Binding, Context, beyond_where, is_deep, nothing}
-use Rattle.clause_binder.specs.Scope.{behind, max_place, width_of}
+use Rattle.clause_binder.specs.Scope.{behind, width_of}
 use Rattle.clause_binder.specs.Operands.{aggregate, aggregate_from, aggregate_kind, extreme_kind, total_kind, count_rows, count_rows_from, placed, sum_kind, sum_of, sum_with, within_sum}
 use Rattle.query_laws.specs.Formed.{sum_found}
 use Rattle.query_laws.proofs.FoundKinds.{IsReal, real_or_int, HasKind, as_self, trans}

@@ -6,7 +6,7 @@ use Rattle.value_types.specs.declared.sql_type.SqlType.{SqlType}
 use Rattle.value_types.specs.declared.sql_type.SqlType.TheVariants.{TinyInt, SmallInt, Int, BigInt, Bit as BitType, NText}
 use Rattle.value_types.specs.declared.value.Value.TheVariants.{Null, Whole, Text}
 use Rattle.convert_rules.specs.Conversion.{is_text}
-use Rattle.convert_rules.specs.Types.{is_in_range, text_limit}
+use Rattle.value_types.specs.Types.{is_in_range, text_limit}
 use Rattle.bound_tree.specs.declared.expr.InfixOp.{InfixOp}
 use Rattle.bound_tree.specs.declared.expr.CompareOp.{CompareOp}
 use Rattle.bound_tree.specs.declared.expr.BoundExpr.{BoundExpr, the_lemmas}

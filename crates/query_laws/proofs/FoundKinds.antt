@@ -3,8 +3,8 @@ use Rattle.std.proofs.lemmas.Bool.{and_from, and_parts, eq-eqb, eqb-true, le-leb
 use Rattle.std.proofs.Common.{◌≡◌, ◌⊎◌, inl, inr, refl, sym, ap, ◌∙◌, subst, ℕ, ◌+◌, ◌≤◌, min, max, Bool, true, false, ◌&&◌, nat_le, nat_lt, nat_eq, Option, Some, None, unwrap_or, arith, if◌then◌else◌}
 use Rattle.value_types.specs.declared.sql_type.SqlType.{SqlType}
 use Rattle.value_types.specs.declared.sql_type.SqlType.TheVariants.{TinyInt, SmallInt, Int, BigInt, Bit as BitType, NText}
+use Rattle.value_types.specs.Types.{text_limit}
 use Rattle.convert_rules.specs.Conversion.{is_text}
-use Rattle.convert_rules.specs.Types.{text_limit}
 use Rattle.bound_tree.specs.Kinds.{are_alike, higher, longer, rank, same_kind, text_size}
 use Rattle.bound_tree.specs.Typed.{Found, unformed, lone_null, typed, beside, common, found_size, found_where, is_as, is_like, is_side, is_whole, negated, or_int as found_or_int}
 use Rattle.typed_nodes.specs.Facts.{highest_of, or_int}

@@ -5,6 +5,7 @@ use Rattle.std.proofs.Common.{◌≡◌, ◌⊎◌, inl, inr, refl, sym, ap, sub
 use Rattle.value_types.specs.declared.sql_type.SqlType.{SqlType}
 use Rattle.session_vars.specs.declared.Variable.{Variable}
 use Rattle.tsql_tree.specs.declared.definition.Definition.{Definition}
+use Rattle.tsql_tree.specs.Places.{max_place}
 use Rattle.bound_tree.specs.declared.query.InnerQuery.{InnerQuery}
 use Rattle.bound_tree.specs.declared.query.Sum.{Sum}
 use Rattle.bound_tree.specs.Typed.{SettingTypes, system_kinds}
@@ -13,7 +14,7 @@ use Rattle.clause_binder.specs.declared.inside.Inside.{Inside}
 use Rattle.clause_binder.specs.declared.progress.Progress.{Progress}
 use Rattle.clause_binder.specs.Progress.{Binding, Context, Read, and_then, both, given, nothing, pure}
 use Rattle.clause_binder.specs.Operands.{within_sum}
-use Rattle.clause_binder.specs.Scope.{TableSource, columns_in, max_inner, max_place, width_of}
+use Rattle.clause_binder.specs.Scope.{TableSource, columns_in, max_inner, width_of}
 use Rattle.query_laws.specs.Formed.{inner_found, is_formed_sum}
 use Rattle.query_laws.specs.Columns.{kinds, tables_in, variable_kinds}
 use Rattle.query_laws.specs.Laws.{AllOf}

@@ -1,7 +1,7 @@
 //! Arithmetic on whole numbers.
 
 ghost use Rattle.std.specs.Prelude.{◌≡◌, ◌+ℤ◌, ◌-ℤ◌, ◌*ℤ◌, neg_ℤ};
-ghost use Rattle.convert_rules.specs.Types.{is_in_range};
+ghost use Rattle.value_types.specs.Types.{is_in_range};
 ghost use Rattle.bound_tree.specs.Numbers as spec;
 ghost use Rattle.scalar_eval.specs.Answers.{Finds};
 

@@ -15,7 +15,7 @@ use Rattle.engine_core.specs.Machine.{Ask, mine_in}
 use Rattle.engine_core.specs.Machine.{KnowsSteps}
 use Rattle.shared_port.specs.Asked.{EngineSeat}
 use Rattle.shared_port.specs.SharedPort.{IsIdle}
-use Rattle.sound_laws.specs.Stands.{Intact}
+use Rattle.connection_laws.specs.Laws.{Intact}
 use Rattle.connection_laws.specs.Laws.{AreConnections}
 use Rattle.connection_laws.proofs.Sound.{history_sound}
 use Rattle.seat_server.specs.Served.{Course, Follow, HasServed, IsCourse, new_seat}

@@ -10,7 +10,7 @@ use Rattle.shared_port.specs.SharedPort.{IsIdle, Since, shared_past}
 use Rattle.session_server.specs.declared.end.End.{End}
 use Rattle.session_server.specs.declared.end.End.TheVariants.{Memory}
 use Rattle.session_server.specs.Conversation.{Conversation}
-use Rattle.sound_laws.specs.Stands.{CommitsKeep}
+use Rattle.connection_laws.specs.Laws.{CommitsKeep}
 use Rattle.connection_laws.specs.Laws.{AreConnections, IsConnection}
 
 -- What a seat has done since an entry at which no transaction was open. Its steps since, without those that were told to wait, are

@@ -3,7 +3,7 @@
 use Rattle.std.specs.Prelude.{List, [], ◌∷◌}
 use Rattle.value_types.specs.declared.sql_type.SqlType.{SqlType}
 use Rattle.value_types.specs.declared.value.Value.{Value}
-use Rattle.convert_rules.specs.Types.{IsOf}
+use Rattle.value_types.specs.Types.{IsOf}
 
 -- the types of the columns, and the rows that are still to come
 pub record AnswerLeft : Type 0 where

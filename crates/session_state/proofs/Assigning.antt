@@ -5,7 +5,7 @@ use Rattle.std.proofs.Math.Seq.{drop-cons}
 use Rattle.std.proofs.lemmas.List.{drop_all, take_more}
 use Rattle.std.proofs.lemmas.List.Elements.{filter_map-append, All-append, All-cons, All-nil, All-weaker}
 use Rattle.value_types.specs.declared.value.Value.{Value}
-use Rattle.convert_rules.specs.Types.{IsOf}
+use Rattle.value_types.specs.Types.{IsOf}
 use Rattle.tsql_tree.specs.declared.statement.Declaration.{Declaration}
 use Rattle.session_vars.specs.declared.Variable.{Variable}
 use Rattle.session_vars.specs.Variables.{FitsAt}

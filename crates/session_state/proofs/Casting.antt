@@ -7,9 +7,9 @@ use Rattle.value_types.specs.declared.sql_type.SqlType.{SqlType}
 use Rattle.value_types.specs.declared.sql_type.SqlType.TheVariants.{Int, NText, SmallInt}
 use Rattle.value_types.specs.declared.value.Value.{Value}
 use Rattle.value_types.specs.declared.value.Value.TheVariants.{Whole}
+use Rattle.value_types.specs.Types.{IsOf}
 use Rattle.convert_rules.specs.declared.fault.ConvertFault.{ConvertFault}
 use Rattle.convert_rules.specs.Conversion.{cast_of}
-use Rattle.convert_rules.specs.Types.{IsOf}
 use Rattle.bound_tree.specs.Conversions.{cast_outcome}
 use Rattle.bound_tree.specs.Typed.{AreOf, GivesOf, system_kinds}
 use Rattle.bound_tree.proofs.Kept.{conversion_kept}

@@ -2,7 +2,7 @@
 
 ghost use Rattle.std.specs.Prelude.{◌≡◌, ◌≤ℤ◌, ◌++◌, ◌∷◌, get_or, slice_get, [], pos, Ok, IfOk, IsTrue};
 ghost use Rattle.value_types.specs.declared.value.Value.TheVariants.{Null};
-ghost use Rattle.convert_rules.specs.Types.{IsOf};
+ghost use Rattle.value_types.specs.Types.{IsOf};
 ghost use Rattle.tsql_tree.specs.declared.statement.Form.{out-Form};
 ghost use Rattle.batch_meaning.specs.Selecting.{assigning_to, made_of, raised_by};
 ghost use Rattle.batch_meaning.specs.Values.{assigned_at, assigned_onto, assigned_to, cast_to, first_of, first_row, given_names, is_one, kind_or, number_between, places_onto, printed, raiserror_of, rows_assigned, status_of, text_in, throw_of, whole_of};

@@ -6,7 +6,7 @@ use Rattle.value_types.specs.Units.{same_units}
 use Rattle.value_types.specs.declared.sql_type.SqlType.{SqlType}
 use Rattle.value_types.specs.declared.value.Value.{Value}
 use Rattle.value_types.specs.declared.value.Value.TheVariants.{Null}
-use Rattle.convert_rules.specs.Types.{IsOf}
+use Rattle.value_types.specs.Types.{IsOf}
 use Rattle.session_vars.specs.declared.Variable.{Variable}
 
 -- the most variables that there can be

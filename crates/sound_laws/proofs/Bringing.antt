@@ -14,7 +14,7 @@ use Rattle.batch_meaning.specs.Asking.{on_ok, ◌>>=◌}
 use Rattle.batch_meaning.specs.Doing.{Doing, over, reads, makes, defines, asks, room, never, ◌then◌, Held, Left}
 use Rattle.batch_meaning.specs.Progress.{SessionProgress, SessionStep, asked, made}
 use Rattle.sound_laws.specs.Stands.{CommitsKeep, Keeps, Brings}
-use Rattle.statement_paths.proofs.Apart.{held_apart, left_apart}
+pub use Rattle.statement_paths.proofs.Apart.{Apart, held_apart, held_left, left_apart}
 use Rattle.sound_laws.proofs.Coming.{none_split}
 use Rattle.sound_laws.proofs.Shut.{asked_open, made_open, open_behind}
 use Rattle.sound_laws.proofs.Steps.{after_one}

@@ -6,10 +6,10 @@ use Rattle.tsql_tree.specs.declared.definition.Definition.{Definition}
 use Rattle.value_types.specs.declared.value.Value.{Value}
 use Rattle.tsql_tree.specs.declared.definition.TableTree.{TableTree}
 use Rattle.tsql_tree.specs.declared.definition.TriggerTree.{TriggerTree}
+use Rattle.tsql_tree.specs.Places.{key_places}
 use Rattle.bound_tree.specs.declared.write.Bound.{Bound}
 use Rattle.bound_tree.specs.declared.write.Bound.TheVariants as bound
 use Rattle.bound_tree.specs.declared.write.BoundWrite.{BoundWrite}
-use Rattle.clause_binder.specs.Scope.{key_places}
 use Rattle.step_model.specs.declared.change.Planned.{Planned}
 use Rattle.step_model.specs.declared.manner.Manner.{Manner}
 use Rattle.step_model.specs.Database.{Database}
@@ -18,8 +18,9 @@ use Rattle.step_model.specs.Exchange.{Exchange}
 use Rattle.step_model.specs.Log.{Commit as Logged}
 use Rattle.step_model.specs.Ranges.{Rows, no_memory}
 use Rattle.constraint_check.specs.Laws.{behind}
-use Rattle.constraint_check.specs.Reads.{all_rows, rows_table, shape_of}
+use Rattle.constraint_check.specs.Reads.{all_rows}
 use Rattle.table_rows.specs.Definitions.{tables_of}
+use Rattle.table_rows.specs.Rows.{rows_table, shape_of}
 use Rattle.dml_exec.specs.declared.refusal.Level.{Level}
 use Rattle.dml_exec.specs.declared.refusal.Level.TheVariants.{Serializable}
 use Rattle.dml_exec.specs.declared.refusal.Refusal.{Refusal}

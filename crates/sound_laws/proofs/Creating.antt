@@ -14,7 +14,7 @@ use Rattle.step_model.specs.Ranges.{deadlock, lock_timeout, no_memory}
 use Rattle.step_model.proofs.Databases.{With-append}
 use Rattle.std.proofs.lemmas.List.{map-append}
 use Rattle.constraint_check.specs.Laws.{behind}
-use Rattle.constraint_check.specs.Reads.{rows_table}
+use Rattle.table_rows.specs.Rows.{rows_table}
 use Rattle.table_rows.specs.Definitions.{object_key, objects_name}
 use Rattle.write_laws.specs.Reads.{at_place}
 use Rattle.batch_meaning.specs.declared.failure.Failure.{Failure}

@@ -15,7 +15,7 @@ use Rattle.step_model.specs.Exchange.{Exchange, CanReply}
 use Rattle.step_model.specs.Fits.{ranges_hold}
 use Rattle.step_model.specs.Log.{Commit as Logged}
 use Rattle.table_rows.specs.Definitions.{objects_name}
-use Rattle.constraint_check.specs.Reads.{rows_table}
+use Rattle.table_rows.specs.Rows.{rows_table}
 use Rattle.dml_exec.specs.Reading.{behind_gone}
 use Rattle.batch_meaning.specs.Asking.{with_found}
 use Rattle.statement_paths.specs.Asked.{AskOnly}

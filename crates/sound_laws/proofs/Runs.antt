@@ -13,7 +13,8 @@ use Rattle.step_model.specs.Runs.{Asked, Run, mine_of, opening}
 use Rattle.step_model.specs.State.{Engine}
 use Rattle.constraint_check.specs.Laws.{behind}
 use Rattle.history_laws.proofs.Laws.{law_runs}
-use Rattle.write_laws.specs.Reading.{HasCommit}
+pub use Rattle.write_laws.specs.Reading.{HasCommit}
+pub use Rattle.write_laws.proofs.Logged.{logged_commits}
 use Rattle.write_laws.proofs.Commits.{commit_leaves}
 use Rattle.write_laws.proofs.States.{every_state}
 use Rattle.sound_laws.specs.Runs.{RunSound, ServeTasks}

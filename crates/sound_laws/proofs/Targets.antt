@@ -32,7 +32,7 @@ use Rattle.clause_binder.specs.Clauses.{set_aside}
 use Rattle.clause_binder.specs.Operands.{items_of}
 use Rattle.clause_binder.specs.Progress.{begin_at, beyond_where, plain}
 use Rattle.clause_binder.specs.Scope.{columns_of, table_of}
-use Rattle.constraint_check.specs.Reads.{is_shape_of, rows_table, shape_of}
+use Rattle.table_rows.specs.Rows.{is_shape_of, rows_table, shape_of}
 use Rattle.table_rows.specs.Definitions.{tables_of}
 use Rattle.dml_exec.specs.Planning.{table_written}
 use Rattle.dml_exec.specs.Reading.{deleted_name, inserted_name}

@@ -17,7 +17,7 @@ use Rattle.bound_tree.specs.declared.write.BoundWrite.{BoundWrite}
 use Rattle.binder.specs.Names.{Layer, form_of}
 use Rattle.session_vars.specs.declared.Variable.{Variable}
 use Rattle.table_rows.specs.Definitions.{IsDefinitionIn, IsOfName, own_name, is_objects, tables_of}
-use Rattle.constraint_check.specs.Reads.{shape_of}
+use Rattle.table_rows.specs.Rows.{shape_of}
 use Rattle.dml_exec.specs.Planning.{table_written}
 use Rattle.dml_exec.specs.Reading.{behind_gone}
 use Rattle.step_model.specs.declared.range.Start.{Start}

@@ -16,7 +16,7 @@ use Rattle.batch_meaning.specs.Doing.{Held, Left}
 use Rattle.batch_meaning.specs.Progress.{SessionProgress}
 use Rattle.batch_meaning.specs.Raised.{Around}
 use Rattle.batch_meaning.specs.Rpc.{rpc}
-use Rattle.write_laws.specs.Indexed.{Sound}
+pub use Rattle.write_laws.specs.Indexed.{Sound}
 use Rattle.sound_laws.specs.Stands.{Carries, Intact, Stands}
 use Rattle.text_laws.specs.Laws.{CallReadsBack, Everywhere, ReadsBack, TextReadsBack}
 use Rattle.sound_laws.specs.Tied.{Tied}

@@ -42,7 +42,8 @@ use Rattle.dml_exec.specs.Writing.{asks_deed, attempts, broken_by, checks_all, c
 use Rattle.dml_exec.proofs.Halts.{by_outcome}
 use Rattle.constraint_check.specs.declared.check_read.CheckRead.{CheckRead}
 use Rattle.constraint_check.specs.Judged.{judge}
-use Rattle.constraint_check.specs.Reads.{reads_for, shape_of}
+use Rattle.table_rows.specs.Rows.{shape_of}
+use Rattle.constraint_check.specs.Reads.{reads_for}
 use Rattle.batch_meaning.specs.declared.failure.Failure.{Failure}
 use Rattle.batch_meaning.specs.Failures.{plain}
 use Rattle.batch_meaning.specs.Progress.{SessionProgress, Ready, touches, made, asked, asked_all, touched_after, is_open_after, txn_after, unless_ended}

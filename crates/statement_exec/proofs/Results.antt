@@ -5,7 +5,7 @@ use Rattle.std.proofs.lemmas.Bool.{leb-true, le-leb, and_parts}
 use Rattle.std.proofs.lemmas.List.Elements.{All-cons, All-nil}
 use Rattle.value_types.specs.declared.sql_type.SqlType.{SqlType}
 use Rattle.value_types.specs.declared.sql_type.SqlType.TheVariants.{TinyInt, SmallInt, Int, BigInt, Bit as BitType, NText}
-use Rattle.convert_rules.specs.Types.{IsOf}
+use Rattle.value_types.specs.Types.{IsOf}
 use Rattle.session_vars.specs.Variables.{HasItsType}
 use Rattle.session_vars.specs.declared.Variable.{Variable}
 use Rattle.bound_tree.specs.Typed.{AreOf, system_kinds}
@@ -24,11 +24,10 @@ use Rattle.value_types.specs.Units.{same_units}
 use Rattle.tsql_tree.specs.declared.definition.TableTree.{TableTree}
 use Rattle.clause_binder.specs.Scope.{or_first, table_of}
 use Rattle.table_rows.specs.Definitions.{tables_of}
+use Rattle.table_rows.specs.Rows.{is_value_of, shape_of}
 use Rattle.std.specs.Cmp.Lexicographic.{pointwise}
 use Rattle.std.specs.Prelude.{IsTrue}
-use Rattle.table_rows.specs.Rows.{is_value_of}
 use Rattle.catalog_rows.proofs.Fitting.{image_typed, value_of_type}
-use Rattle.constraint_check.specs.Reads.{shape_of}
 use Rattle.typed_nodes.specs.Nodes.{is_kind}
 use Rattle.typed_nodes.specs.Refusals.{Outcome, after}
 use Rattle.clause_binder.specs.declared.operand.Selected.{Selected}

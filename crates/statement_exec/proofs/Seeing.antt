@@ -5,7 +5,7 @@ use Rattle.std.specs.List.{position_or_len}
 use Rattle.std.specs.Prelude.{position, slice_get}
 use Rattle.value_types.specs.declared.table_name.TableName.{TableName}
 use Rattle.tsql_tree.specs.declared.definition.TableTree.{TableTree}
-use Rattle.constraint_check.specs.Reads.{is_shape_of, shape_of}
+use Rattle.table_rows.specs.Rows.{is_shape_of, shape_of}
 
 module _ (table : TableName) where
   -- the first of them that is its

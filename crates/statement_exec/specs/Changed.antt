@@ -6,7 +6,7 @@ use Rattle.tsql_tree.specs.declared.definition.TableTree.{TableTree}
 use Rattle.tsql_tree.specs.declared.statement.Statement.{Statement}
 use Rattle.bound_tree.specs.declared.write.BoundWrite.{BoundWrite}
 use Rattle.table_rows.specs.Definitions.{tables_of}
-use Rattle.constraint_check.specs.Reads.{shape_of}
+use Rattle.table_rows.specs.Rows.{shape_of}
 use Rattle.dml_exec.specs.Planning.{table_written}
 use Rattle.step_model.specs.declared.change.Planned.{Planned}
 use Rattle.step_model.specs.Ranges.{Rows}

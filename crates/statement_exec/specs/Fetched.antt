@@ -3,13 +3,13 @@ use Rattle.std.specs.Prelude.{◌≡◌, List, Option, None, Some, Result, Ok, E
 use Rattle.value_types.specs.declared.value.Value.{Value}
 use Rattle.tsql_tree.specs.declared.definition.Definition.{Definition}
 use Rattle.table_rows.specs.Definitions.{objects_name, IsDefinitionIn}
+use Rattle.table_rows.specs.Rows.{rows_table}
 use Rattle.lock_modes.specs.declared.KeyPart.TheVariants.{S}
 use Rattle.step_model.specs.declared.op.Hold.TheVariants as hold
 use Rattle.step_model.specs.declared.op.Op.{Op}
 use Rattle.step_model.specs.declared.op.Op.TheVariants.{Fetch}
 use Rattle.step_model.specs.declared.range.Stop.TheVariants.{Last}
 use Rattle.step_model.specs.Ranges.{no_memory}
-use Rattle.constraint_check.specs.Reads.{rows_table}
 use Rattle.dml_exec.specs.Reading.{behind_gone, from}
 use Rattle.batch_meaning.specs.Asking.{with_found}
 use Rattle.batch_meaning.specs.declared.failure.Failure.{Failure}

@@ -20,12 +20,11 @@ use Rattle.binder.specs.Names.{Layer, form_of}
 use Rattle.query_eval.specs.Ans.{Ans}
 use Rattle.query_eval.specs.Given.{tables_read}
 use Rattle.table_rows.specs.Definitions.{IsDefinitionIn, tables_of}
-use Rattle.table_rows.specs.Rows.{has_columns, is_value_of}
+use Rattle.table_rows.specs.Rows.{has_columns, is_value_of, shape_of}
 use Rattle.step_model.specs.declared.op.Op.{Op}
 use Rattle.step_model.specs.declared.op.Op.TheVariants.{Insert}
 use Rattle.step_model.specs.Port.{PortPast}
 use Rattle.step_model.specs.Ranges.{Rows, no_memory}
-use Rattle.constraint_check.specs.Reads.{shape_of}
 use Rattle.dml_exec.specs.declared.refusal.Refusal.{Refusal}
 use Rattle.dml_exec.specs.declared.written.Attempt.{Attempt}
 use Rattle.dml_exec.specs.declared.written.Written.{Written}

@@ -13,7 +13,7 @@ ghost use Rattle.batch_meaning.specs.Progress.{Ready};
 ghost use Rattle.batch_meaning.specs.Working.{asks_any, binds, enters, given_in, known_by};
 ghost use Rattle.batch_meaning.specs.Writes.{change_bound, changes, fired_by, fires_of, shape_or};
 ghost use Rattle.table_rows.specs.Definitions.{tables_of};
-ghost use Rattle.constraint_check.specs.Reads.{shape_of};
+ghost use Rattle.table_rows.specs.Rows.{shape_of};
 ghost use Rattle.dml_exec.specs.Planning.{table_written};
 ghost use Rattle.statement_exec.specs.Changed.{HasWritten, MayFire, changes_planned, changes_read, effect_in};
 ghost use Rattle.statement_exec.specs.Selected.{IsLive, asks_bound};

@@ -11,9 +11,9 @@ ghost use Rattle.batch_meaning.specs.Doing.{Did, asks};
 ghost use Rattle.batch_meaning.specs.Asking.{unless_refused, finds_by, is_table, known, look_up, looks_up, with_found};
 ghost use Rattle.batch_meaning.specs.Working.{asks_any, asks_first, known_in};
 ghost use Rattle.batch_meaning.specs.Progress.{Ready};
-ghost use Rattle.constraint_check.specs.Reads.{rows_table};
 ghost use Rattle.dml_exec.specs.Asking.{seen};
 ghost use Rattle.table_rows.specs.Definitions.{is_objects, objects_name, object_key};
+ghost use Rattle.table_rows.specs.Rows.{rows_table};
 ghost use Rattle.statement_exec.specs.Fetched.{IsFetch};
 ghost use Rattle.statement_exec.specs.Selected.{IsDefined};
 

@@ -6,7 +6,7 @@ ghost use Rattle.step_model.specs.Ranges.{range_limit};
 ghost use Rattle.batch_meaning.specs.Doing.{Did, asks};
 ghost use Rattle.batch_meaning.specs.Asking.{defined_by, defined_from, reads_definitions, unless_refused};
 ghost use Rattle.batch_meaning.specs.Progress.{Ready};
-ghost use Rattle.constraint_check.specs.Reads.{rows_table};
+ghost use Rattle.table_rows.specs.Rows.{rows_table};
 ghost use Rattle.table_rows.specs.Definitions.{objects_name};
 ghost use Rattle.statement_exec.specs.Fetched.{fetch_behind, ReadsObjects, IsKeyDefined};
 ghost use Rattle.dml_exec.specs.Asking.{beside, seen};

@@ -1,11 +1,11 @@
 //! What the triggers of a write see.
 
 ghost use Rattle.std.specs.Prelude.{◌≡◌, ◌-◌, [], Ok, Some, IfOk, IfSome, get_or, length, position};
-ghost use Rattle.clause_binder.specs.Scope as scope;
 ghost use Rattle.call_rules.specs.Triggers as seen;
-ghost use Rattle.constraint_check.specs.Reads.{is_shape_of, shape_of};
+ghost use Rattle.table_rows.specs.Rows.{is_shape_of, shape_of};
 ghost use Rattle.dml_exec.specs.Planning as planning;
 ghost use Rattle.tsql_tree.specs.declared.definition.TableTree.{TableTree as Shape};
+ghost use Rattle.tsql_tree.specs.Places as scope;
 ghost use Rattle.batch_meaning.specs.Changing.{target_rows};
 ghost use Rattle.batch_meaning.specs.Writes.{fired_by, shape_or};
 ghost use Rattle.session_state.specs.Parts.{IsOrMemory};

@@ -20,7 +20,8 @@ use Rattle.step_model.specs.Dialog.{Dialog}
 use Rattle.step_model.specs.Ranges.{Keeps, Rows, range_limit}
 use Rattle.constraint_check.specs.declared.check_read.CheckRead.{CheckRead}
 use Rattle.constraint_check.specs.Judged.{judge}
-use Rattle.constraint_check.specs.Reads.{reads_for, shape_of}
+use Rattle.table_rows.specs.Rows.{shape_of}
+use Rattle.constraint_check.specs.Reads.{reads_for}
 use Rattle.dml_exec.specs.declared.refusal.Level.{Level}
 use Rattle.dml_exec.specs.declared.refusal.Refusal.{Refusal}
 use Rattle.dml_exec.specs.declared.refusal.Refusal.TheVariants as refusal

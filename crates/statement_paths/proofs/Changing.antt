@@ -7,11 +7,11 @@ use Rattle.bound_tree.specs.declared.write.Bound.{Bound}
 use Rattle.bound_tree.specs.declared.write.Bound.TheVariants as bound
 use Rattle.bound_tree.specs.declared.write.BoundWrite.{BoundWrite}
 use Rattle.table_rows.specs.Definitions.{tables_of}
+use Rattle.table_rows.specs.Rows.{shape_of}
 use Rattle.step_model.specs.declared.change.Planned.{Planned}
 use Rattle.step_model.specs.declared.manner.Manner.{Manner}
 use Rattle.step_model.specs.Exchange.{Exchange}
 use Rattle.step_model.specs.Ranges.{Rows}
-use Rattle.constraint_check.specs.Reads.{shape_of}
 use Rattle.dml_exec.specs.Planning.{table_written}
 use Rattle.dml_exec.specs.Reading.{GivenRows}
 use Rattle.statement_paths.specs.Asked.{AskOnly, IsFetch}

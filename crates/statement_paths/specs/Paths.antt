@@ -19,6 +19,7 @@ use Rattle.bound_tree.specs.declared.write.Bound.TheVariants as bound
 use Rattle.bound_tree.specs.declared.write.BoundWrite.{BoundWrite}
 use Rattle.binder.specs.Names.{Layer, form_of, looked_up}
 use Rattle.table_rows.specs.Definitions.{IsDefinitionIn, defined_name, is_objects, objects_name, object_key, row_of, tables_of}
+use Rattle.table_rows.specs.Rows.{rows_table, shape_of}
 use Rattle.clause_binder.specs.Scope.{is_long}
 use Rattle.step_model.specs.declared.change.Deed.TheVariants.{Insert}
 use Rattle.step_model.specs.declared.change.Planned.{Planned}
@@ -32,7 +33,7 @@ use Rattle.step_model.specs.declared.reply.Reply.TheVariants.{Began, Row, Gone, 
 use Rattle.step_model.specs.Dialog.{Held}
 use Rattle.step_model.specs.Exchange.{Exchange, CanReply}
 use Rattle.step_model.specs.Ranges.{Rows}
-use Rattle.constraint_check.specs.Reads.{reads_for, rows_table, shape_of}
+use Rattle.constraint_check.specs.Reads.{reads_for}
 use Rattle.dml_exec.specs.declared.refusal.Level.{Level}
 use Rattle.dml_exec.specs.declared.refusal.Level.TheVariants.{Serializable}
 use Rattle.dml_exec.specs.declared.written.Written.TheVariants as written

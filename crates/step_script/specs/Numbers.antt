@@ -3,7 +3,7 @@
 use Rattle.std.specs.Prelude.{ℕ, suc, zero, ℤ, pos, negsuc, Bool, ◌==◌, ◌&&◌, nat_le, if◌then◌else◌, List, [], ◌∷◌, length, Option, Some, None, option_map}
 use Rattle.std.specs.List.{list_all}
 use Rattle.value_types.specs.declared.sql_type.SqlType.TheVariants.{BigInt}
-use Rattle.convert_rules.specs.Types.{is_between, is_in_range}
+use Rattle.value_types.specs.Types.{is_between, is_in_range}
 use Rattle.convert_rules.specs.Reading.{minus, is_digit, digits_value}
 use Rattle.step_model.specs.Exchange.{last_session}
 

@@ -1,3 +1,3 @@
 -- Read in this order; the comment behind a name says what the file is for.
-pub mod Rows  -- row_fits: which rows are rows of a table
+pub mod Rows  -- row_fits: which rows are rows of a table; shape_of: the table of that name
 pub mod Definitions  -- IsDefinitionOf: what a row of `objects` defines

@@ -1,21 +1,23 @@
 -- Transact-SQL reference, "CREATE TABLE": which rows are rows of a table. A row has a value for each column, NULL or of
 -- the column's type, and stands at its own key: the values of the PRIMARY KEY's columns, in the key's order. What else
 -- stands among a table's rows is read as no row. NOT NULL is no part of this: it is a constraint.
-use Rattle.std.specs.Prelude.{ℕ, Bool, true, false, ◌&&◌, nat_eq, nat_le, List, length, map, filter_map, Some}
+use Rattle.std.specs.Prelude.{ℕ, Bool, true, false, ◌&&◌, nat_eq, nat_le, if◌then◌else◌, List, [], ◌∷◌, length, map, filter_map, Option, Some, None}
 use Rattle.std.specs.Cmp.Lexicographic.{pointwise}
 use Rattle.std.specs.Ordering.{eq_by_cmp}
+use Rattle.value_types.specs.declared.table_name.TableName.{TableName}
 use Rattle.value_types.specs.declared.sql_type.SqlType.{SqlType}
 use Rattle.value_types.specs.declared.sql_type.SqlType.TheVariants.{Bit as BitType, NText}
 use Rattle.value_types.specs.declared.value.Value.{Value}
 use Rattle.value_types.specs.declared.value.Value.TheVariants.{Null, Whole, Bit, Text}
+use Rattle.value_types.specs.Units.{same_units}
+use Rattle.value_types.specs.Types.{is_in_range}
 use Rattle.value_types.specs.Order.{key_cmp}
-use Rattle.convert_rules.specs.Types.{is_in_range}
 use Rattle.tsql_tree.specs.declared.definition.ColumnTree.{ColumnTree}
 use Rattle.tsql_tree.specs.declared.definition.TableTree.{TableTree}
+use Rattle.tsql_tree.specs.Places.{key_places, place_in}
 use Rattle.bound_tree.specs.Setting.{value_at}
-use Rattle.clause_binder.specs.Scope.{key_places, place_in}
 
--- NULL, or a value of the type: `IsOf` of `convert_rules` as a test
+-- NULL, or a value of the type: `IsOf` of `value_types` as a test
 abbrev pub is_value_of : SqlType → Value → Bool
 is_value_of kind Null = true
 is_value_of kind (Whole number) = is_in_range kind number
@@ -46,3 +48,17 @@ same_key = eq_by_cmp key_cmp
 -- A row at a key is one of the table's own part, which is part 0. There is no other part yet.
 abbrev pub row_fits : TableTree → ℕ → List Value → List Value → Bool
 row_fits shape part key row = nat_eq part 0 && (has_columns shape.columns row && same_key (key_of shape row) key)
+
+-- ---- tables
+
+-- the table's own rows, which are part 0
+abbrev pub rows_table : List ℕ → TableName
+rows_table name = record { object = name; part = 0 }
+
+abbrev pub is_shape_of : TableName → TableTree → Bool
+is_shape_of table shape = nat_eq table.part 0 && same_units table.object shape.name
+
+-- the first shape of that table
+abbrev pub shape_of : TableName → List TableTree → Option TableTree
+shape_of table [] = None
+shape_of table (shape ∷ rest) = if is_shape_of table shape then Some shape else shape_of table rest

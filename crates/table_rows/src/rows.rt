@@ -4,9 +4,9 @@ ghost use Rattle.std.specs.Prelude.{◌≡◌, filter_map, option_map, position}
 ghost use Rattle.std.specs.Ordering.{eq_by_cmp, is_eq};
 ghost use Rattle.value_types.specs.Units.{same_units};
 ghost use Rattle.value_types.specs.Order as order;
-ghost use Rattle.convert_rules.specs.Types.{is_in_range};
+ghost use Rattle.value_types.specs.Types.{is_in_range};
 ghost use Rattle.bound_tree.specs.Setting.{value_at};
-ghost use Rattle.clause_binder.specs.Scope as scope;
+ghost use Rattle.tsql_tree.specs.Places as places;
 ghost use Rattle.table_rows.specs.Rows as spec;
 
 use tsql_tree::{ColumnTree, TableTree};
@@ -79,7 +79,7 @@ fn has_key(shape: &TableTree, row: &Row, key: &Key) -> bool
 
 /// Whether the values of the columns of these names are these, in this order.
 fn has_named(columns: &[ColumnTree], names: &[Units], row: &Row, wanted: &[Value]) -> bool
-    ensures { result ≡ eq_by_cmp order.key_cmp (spec.values_at (filter_map (scope.place_in columns.now) names.now) row.now) wanted.now }
+    ensures { result ≡ eq_by_cmp order.key_cmp (spec.values_at (filter_map (places.place_in columns.now) names.now) row.now) wanted.now }
 {
     let mut rest = wanted;
     for name in names {
@@ -145,7 +145,7 @@ fn kind_rank(value: &Value) -> u8
 
 /// The place of the first column of that name, where a tree can name it.
 pub fn place_in(columns: &[ColumnTree], name: &Units) -> Option<u16>
-    ensures { result ≡ scope.place_in columns.now name.now }
+    ensures { result ≡ places.place_in columns.now name.now }
 {
     nameable(position_in(columns, name))
 }
@@ -157,7 +157,7 @@ fn position_in(columns: &[ColumnTree], name: &Units) -> Option<usize>
 }
 
 fn nameable(place: Option<usize>) -> Option<u16>
-    ensures { result ≡ scope.nameable place }
+    ensures { result ≡ places.nameable place }
 {
     match place {
         Some(place) => u16::try_from(place).ok(),

@@ -1,0 +1,1 @@
+pub mod Places  -- the places of columns in a table

@@ -5,8 +5,8 @@ use Rattle.std.specs.Prelude.{ℕ, ◌+◌, ℤ, min, max, Bool, true, false, �
 use Rattle.value_types.specs.declared.sql_type.SqlType.{SqlType}
 use Rattle.value_types.specs.declared.sql_type.SqlType.TheVariants.{TinyInt, SmallInt, Int, BigInt, Bit as BitType, NText}
 use Rattle.value_types.specs.declared.value.Value.TheVariants.{Null, Whole, Text}
+use Rattle.value_types.specs.Types.{text_limit}
 use Rattle.convert_rules.specs.Conversion.{is_text}
-use Rattle.convert_rules.specs.Types.{text_limit}
 use Rattle.bound_tree.specs.declared.expr.InfixOp.{InfixOp}
 use Rattle.bound_tree.specs.declared.expr.BoundExpr.{BoundExpr}
 use Rattle.bound_tree.specs.declared.expr.BoundExpr.TheVariants as bound

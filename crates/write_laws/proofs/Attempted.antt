@@ -23,9 +23,8 @@ use Rattle.index_laws.specs.Deeds.{deeds_by, rows_added, rows_gone, rows_set}
 use Rattle.index_laws.specs.Laws.{FreshRows, erasures_of, itself, never}
 use Rattle.index_laws.specs.Parts.{IsOld, RowChange}
 use Rattle.index_laws.proofs.Found.{some_is}
-use Rattle.table_rows.specs.Rows.{key_of}
+use Rattle.table_rows.specs.Rows.{key_of, rows_table}
 use Rattle.constraint_check.specs.Laws.{behind}
-use Rattle.constraint_check.specs.Reads.{rows_table}
 use Rattle.constraint_check.proofs.Lists.{all_more}
 use Rattle.dml_exec.specs.declared.refusal.Level.{Level}
 use Rattle.dml_exec.specs.declared.rewritten.Rewritten.{Rewritten}

@@ -12,9 +12,9 @@ use Rattle.step_model.specs.declared.change.Deed.TheVariants.{Erase, Replace, In
 use Rattle.step_model.specs.declared.change.Planned.{Planned}
 use Rattle.step_model.specs.Database.{Database}
 use Rattle.step_model.specs.Own.{row_of}
-use Rattle.table_rows.specs.Rows.{has_columns, key_of, row_fits}
+use Rattle.table_rows.specs.Rows.{has_columns, key_of, row_fits, rows_table, shape_of}
 use Rattle.constraint_check.specs.Laws.{behind}
-use Rattle.constraint_check.specs.Reads.{is_erase, rows_table, shape_of}
+use Rattle.constraint_check.specs.Reads.{is_erase}
 use Rattle.constraint_check.proofs.Behind.{elsewhere, name_is, origin, same, same_on}
 use Rattle.constraint_check.proofs.Lists.{all_more, all_two, among_both, from_among}
 use Rattle.write_laws.specs.Planning.{AreOneEach, AreRight, RowsFit}

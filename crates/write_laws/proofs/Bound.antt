@@ -16,8 +16,9 @@ use Rattle.bound_tree.specs.declared.write.Bound.{Bound}
 use Rattle.typed_nodes.specs.Refusals.{Outcome, after}
 use Rattle.table_names.specs.Contents.{all_of, distinct_onto, is_among}
 use Rattle.clause_binder.specs.declared.progress.Progress.{Progress}
-use Rattle.clause_binder.specs.Scope.{as_table, columns_of, invalid_column, invalid_object, key_places, max_columns, nameable, or_first, place_in, table_of}
-use Rattle.clause_binder.specs.Scope as scope
+use Rattle.tsql_tree.specs.Places.{key_places, nameable, place_in}
+use Rattle.tsql_tree.specs.Places as scope
+use Rattle.clause_binder.specs.Scope.{as_table, columns_of, invalid_column, invalid_object, max_columns, or_first, table_of}
 use Rattle.binder.specs.declared.made.Made.{Made}
 use Rattle.binder.specs.Limits.{is_beyond, within_limits}
 use Rattle.binder.specs.Names.{all_tables, in_foreign, table_names}

@@ -10,14 +10,14 @@ use Rattle.value_types.specs.declared.table_name.TableName.{TableName}
 use Rattle.value_types.specs.declared.value.Value.{Value}
 use Rattle.value_types.specs.OrderLaws.{key_cmp_total}
 use Rattle.tsql_tree.specs.declared.definition.TableTree.{TableTree}
+use Rattle.tsql_tree.specs.Places.{key_places}
 use Rattle.bound_tree.specs.declared.expr.BoundTest.{BoundTest}
-use Rattle.clause_binder.specs.Scope.{key_places}
 use Rattle.step_model.specs.declared.change.Deed.TheVariants.{Replace}
 use Rattle.step_model.specs.declared.change.Planned.{Planned}
 use Rattle.step_model.specs.Own.{row_of}
-use Rattle.table_rows.specs.Rows.{has_columns, row_fits, same_key, values_at}
+use Rattle.table_rows.specs.Rows.{has_columns, row_fits, rows_table, same_key, values_at}
 use Rattle.constraint_check.specs.Local.{first_local}
-use Rattle.constraint_check.specs.Reads.{is_erase, rows_table}
+use Rattle.constraint_check.specs.Reads.{is_erase}
 use Rattle.query_laws.specs.Laws.{AllOf}
 use Rattle.query_laws.proofs.Lists.{all_zip}
 use Rattle.dml_exec.specs.declared.rewritten.Rewritten.{Rewritten}

@@ -10,8 +10,8 @@ use Rattle.value_types.specs.declared.value.Value.{Value}
 use Rattle.tsql_tree.specs.declared.definition.ForeignTree.{ForeignTree}
 use Rattle.tsql_tree.specs.declared.definition.KeyTree.{KeyTree}
 use Rattle.tsql_tree.specs.declared.definition.TableTree.{TableTree}
+use Rattle.tsql_tree.specs.Places.{key_places}
 use Rattle.bound_tree.specs.Setting.{value_at}
-use Rattle.clause_binder.specs.Scope.{key_places}
 use Rattle.step_model.specs.declared.change.Planned.{Planned}
 use Rattle.step_model.specs.declared.range.KeyRange.{KeyRange}
 use Rattle.step_model.specs.declared.range.Start.TheVariants.{First, At}
@@ -22,10 +22,10 @@ use Rattle.index_laws.specs.Parts.{IsExact, same}
 use Rattle.index_laws.specs.Whole.{IndexPart}
 use Rattle.index_laws.proofs.Found.{same_back, same_on}
 use Rattle.index_laws.proofs.Whole.{index_within, tells}
-use Rattle.table_rows.specs.Rows.{has_columns, key_of, places_of, same_key, values_at}
+use Rattle.table_rows.specs.Rows.{has_columns, key_of, places_of, rows_table, same_key, shape_of, values_at}
 use Rattle.constraint_check.specs.declared.check_read.CheckRead.{CheckRead}
 use Rattle.constraint_check.specs.Laws.{Agrees, Passes}
-use Rattle.constraint_check.specs.Reads.{child_reads, is_gone, is_key, of_both, of_key, of_row, parent_read, parent_reads, parent_reads_of, rows_table, shape_of, unique_read, unique_reads}
+use Rattle.constraint_check.specs.Reads.{child_reads, is_gone, is_key, of_both, of_key, of_row, parent_read, parent_reads, parent_reads_of, unique_read, unique_reads}
 use Rattle.constraint_check.proofs.Lists.{all_left, all_right}
 use Rattle.write_laws.specs.Checking.{ArePartsFrom, HasParts, PartsPass, all_parents, all_uniques, first_foreign, index_rows, parent_part, parent_parts, parents_of_key, places_from, unique_part, unique_parts}
 use Rattle.write_laws.specs.Indexed.{Indexed, index_columns, index_part, index_places}

@@ -10,8 +10,8 @@ use Rattle.value_types.specs.declared.table_name.TableName.{TableName}
 use Rattle.value_types.specs.declared.value.Value.{Value}
 use Rattle.value_types.specs.Order.{key_cmp}
 use Rattle.tsql_tree.specs.declared.definition.TableTree.{TableTree}
+use Rattle.tsql_tree.specs.Places.{key_places}
 use Rattle.bound_tree.specs.Setting.{value_at}
-use Rattle.clause_binder.specs.Scope.{key_places}
 use Rattle.step_model.specs.declared.manner.Manner.{Manner}
 use Rattle.step_model.specs.declared.range.KeyRange.{KeyRange}
 use Rattle.step_model.specs.Database.{Database, In, is_within}
@@ -19,11 +19,10 @@ use Rattle.step_model.specs.Dialog.{Dialog, over, ◌then◌, Held}
 use Rattle.step_model.specs.Exchange.{Exchange}
 use Rattle.step_model.specs.Fits.{AnswersIn}
 use Rattle.step_model.specs.Ranges.{Rows}
-use Rattle.table_rows.specs.Rows.{has_columns, key_of, same_key}
+use Rattle.table_rows.specs.Rows.{has_columns, key_of, same_key, shape_of}
 use Rattle.constraint_check.specs.declared.check_read.CheckRead.{CheckRead}
 use Rattle.constraint_check.specs.Judged.{judge}
 use Rattle.constraint_check.specs.Laws.{KeysAreOne, Passes}
-use Rattle.constraint_check.specs.Reads.{shape_of}
 use Rattle.constraint_check.proofs.Judging.{judged_passes}
 use Rattle.constraint_check.proofs.Lists.{all_left, all_right}
 use Rattle.history_laws.proofs.Basics.{both}

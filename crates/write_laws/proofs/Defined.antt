@@ -9,8 +9,8 @@ use Rattle.tsql_tree.specs.declared.definition.Definition.TheVariants.{Table}
 use Rattle.tsql_tree.specs.declared.definition.TableTree.{TableTree}
 use Rattle.step_model.specs.Database.{Database}
 use Rattle.table_rows.specs.Definitions.{IsDefinitionOf, is_objects, object_key, objects_name, row_of}
+use Rattle.table_rows.specs.Rows.{rows_table}
 use Rattle.catalog_rows.proofs.Defining.{one_definition}
-use Rattle.constraint_check.specs.Reads.{rows_table}
 use Rattle.write_laws.specs.Sound.{HasTable, IsDefined, IsTableOf, Firm}
 
 -- ---- names

@@ -18,8 +18,9 @@ use Rattle.step_model.specs.Database.{Database, With, with_change}
 use Rattle.step_model.specs.Own.{change_of, row_of}
 use Rattle.step_model.proofs.Databases.{With-append}
 use Rattle.table_rows.specs.Definitions.{IsDefinitionOf, is_objects, object_key, objects_name}
+use Rattle.table_rows.specs.Rows.{rows_table}
 use Rattle.constraint_check.specs.Laws.{behind}
-use Rattle.constraint_check.specs.Reads.{is_erase, rows_table}
+use Rattle.constraint_check.specs.Reads.{is_erase}
 use Rattle.constraint_check.proofs.Behind.{at_is, one_behind, same, same_itself}
 use Rattle.constraint_check.proofs.Lists.{Among, all_more, all_two, among_any}
 use Rattle.dml_exec.specs.Planning.{erased_at}

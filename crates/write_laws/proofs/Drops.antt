@@ -15,15 +15,15 @@ use Rattle.tsql_tree.specs.declared.definition.Definition.{Definition}
 use Rattle.tsql_tree.specs.declared.definition.Definition.TheVariants.{Table, Procedure, Trigger}
 use Rattle.tsql_tree.specs.declared.definition.TableTree.{TableTree}
 use Rattle.tsql_tree.specs.declared.definition.TriggerTree.{TriggerTree}
-use Rattle.clause_binder.specs.Scope.{key_places}
+use Rattle.tsql_tree.specs.Places.{key_places}
 use Rattle.step_model.specs.declared.change.Planned.{Planned}
 use Rattle.step_model.specs.Database.{Database, With, with_change}
 use Rattle.step_model.specs.Own.{change_of, row_of}
 use Rattle.step_model.proofs.Databases.{With-append}
 use Rattle.table_rows.specs.Definitions.{defined_name, object_key, objects_name, tables_of}
-use Rattle.table_rows.specs.Rows.{has_columns, key_of, same_key}
+use Rattle.table_rows.specs.Rows.{has_columns, key_of, rows_table, same_key}
 use Rattle.constraint_check.specs.Laws.{behind}
-use Rattle.constraint_check.specs.Reads.{is_erase, rows_table}
+use Rattle.constraint_check.specs.Reads.{is_erase}
 use Rattle.constraint_check.proofs.Behind.{same, same_back, same_itself, same_on}
 use Rattle.constraint_check.proofs.Lists.{Among, all_more, among_any, among_both}
 use Rattle.dml_exec.specs.declared.rewritten.Rewritten.TheVariants.{Erased}

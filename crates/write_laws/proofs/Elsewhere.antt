@@ -21,7 +21,7 @@ use Rattle.step_model.specs.Database.{Database, with_change}
 use Rattle.step_model.specs.Own.{change_of, row_of}
 use Rattle.constraint_check.specs.Integrity.{HasParents, IsKept, IsUnique, Stands}
 use Rattle.constraint_check.specs.Laws.{behind}
-use Rattle.constraint_check.specs.Reads.{rows_table}
+use Rattle.table_rows.specs.Rows.{rows_table}
 use Rattle.constraint_check.proofs.Behind.{same}
 use Rattle.constraint_check.proofs.Lists.{all_more, all_two}
 use Rattle.constraint_check.proofs.Spots.{is_eq-then}

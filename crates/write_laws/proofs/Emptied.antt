@@ -19,8 +19,8 @@ use Rattle.index_laws.specs.Laws.{itself, never}
 use Rattle.index_laws.specs.Parts.{Among, OfRow, RowChange, same}
 use Rattle.index_laws.specs.Whole.{IndexPart, part_table}
 use Rattle.index_laws.proofs.Found.{same_back}
-use Rattle.table_rows.specs.Rows.{has_columns, key_of, places_of}
-use Rattle.constraint_check.specs.Reads.{is_erase, rows_table}
+use Rattle.table_rows.specs.Rows.{has_columns, key_of, places_of, rows_table}
+use Rattle.constraint_check.specs.Reads.{is_erase}
 use Rattle.constraint_check.proofs.Lists.{all_more}
 use Rattle.dml_exec.specs.Filling.{Row}
 use Rattle.write_laws.specs.Indexed.{index_columns, index_places, part_places}

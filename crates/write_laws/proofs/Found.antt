@@ -12,8 +12,7 @@ use Rattle.step_model.specs.declared.range.Start.TheVariants.{First}
 use Rattle.step_model.specs.declared.range.Stop.TheVariants.{Last}
 use Rattle.step_model.specs.Database.{Database, In}
 use Rattle.table_rows.specs.Definitions.{IsDefinitionIn, IsDefinitionOf, IsOfName, defined_name, object_key, objects_name, own_name, tables_of}
-use Rattle.table_rows.specs.Rows.{same_key}
-use Rattle.constraint_check.specs.Reads.{rows_table, shape_of}
+use Rattle.table_rows.specs.Rows.{rows_table, same_key, shape_of}
 use Rattle.constraint_check.proofs.Behind.{name_is}
 use Rattle.constraint_check.proofs.Lists.{Among, among_any, among_both, among_left, among_more, among_right}
 use Rattle.batch_meaning.specs.Asking.{with_found}

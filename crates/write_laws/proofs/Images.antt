@@ -15,7 +15,7 @@ use Rattle.step_model.specs.Exchange.{Exchange}
 use Rattle.step_model.specs.Fits.{AnswersIn}
 use Rattle.step_model.specs.Ranges.{Keeps, Rows, range_limit, with_row}
 use Rattle.constraint_check.specs.Laws.{KeysAreOne}
-use Rattle.constraint_check.specs.Reads.{shape_of}
+use Rattle.table_rows.specs.Rows.{shape_of}
 use Rattle.constraint_check.proofs.Lists.{all_left, all_right}
 use Rattle.dml_exec.specs.declared.refusal.Level.{Level}
 use Rattle.dml_exec.specs.declared.refusal.Level.TheVariants.{Serializable}

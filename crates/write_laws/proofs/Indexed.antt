@@ -20,9 +20,9 @@ use Rattle.step_model.proofs.Databases.{With-append}
 use Rattle.index_laws.specs.Parts.{Among, IsExact, OfRow, Part}
 use Rattle.index_laws.proofs.Behind.{gives}
 use Rattle.table_rows.specs.Definitions.{IsDefinitionOf, is_objects, object_key, objects_name}
-use Rattle.table_rows.specs.Rows.{values_at}
+use Rattle.table_rows.specs.Rows.{rows_table, values_at}
 use Rattle.constraint_check.specs.Laws.{behind}
-use Rattle.constraint_check.specs.Reads.{is_erase, rows_table}
+use Rattle.constraint_check.specs.Reads.{is_erase}
 use Rattle.constraint_check.proofs.Behind.{name_is, same, same_itself}
 use Rattle.batch_meaning.specs.Changing.{definition_erased}
 use Rattle.statement_paths.specs.Paths.{definition_put}

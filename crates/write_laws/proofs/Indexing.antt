@@ -11,8 +11,8 @@ use Rattle.value_types.specs.declared.value.Value.{Value}
 use Rattle.value_types.specs.Order.{table_cmp}
 use Rattle.tsql_tree.specs.declared.definition.Definition.TheVariants.{Table}
 use Rattle.tsql_tree.specs.declared.definition.TableTree.{TableTree}
+use Rattle.tsql_tree.specs.Places.{key_places}
 use Rattle.bound_tree.specs.Setting.{value_at}
-use Rattle.clause_binder.specs.Scope.{key_places}
 use Rattle.step_model.specs.declared.change.Change.{Change}
 use Rattle.step_model.specs.declared.change.Planned.{Planned}
 use Rattle.step_model.specs.Database.{Database, With, with_change}
@@ -28,9 +28,8 @@ use Rattle.index_laws.proofs.Fresh.{fresh_may}
 use Rattle.index_laws.proofs.PartFresh.{olds_one, part_fresh}
 use Rattle.index_laws.proofs.Whole.{parts_kept, tells}
 use Rattle.table_rows.specs.Definitions.{object_key, objects_name}
-use Rattle.table_rows.specs.Rows.{has_columns, key_of, places_of, values_at}
+use Rattle.table_rows.specs.Rows.{has_columns, key_of, places_of, rows_table, values_at}
 use Rattle.constraint_check.specs.Laws.{behind}
-use Rattle.constraint_check.specs.Reads.{rows_table}
 use Rattle.constraint_check.proofs.Behind.{name_is}
 use Rattle.constraint_check.proofs.Lists.{all_map, all_two}
 use Rattle.dml_exec.specs.Filling.{Row}

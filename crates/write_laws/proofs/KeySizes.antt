@@ -6,11 +6,10 @@ use Rattle.std.specs.Cmp.{Equal-is}
 use Rattle.value_types.specs.declared.value.Value.{Value}
 use Rattle.value_types.specs.Order.{key_cmp}
 use Rattle.tsql_tree.specs.declared.definition.TableTree.{TableTree}
-use Rattle.clause_binder.specs.Scope.{key_places}
+use Rattle.tsql_tree.specs.Places.{key_places}
 use Rattle.bound_tree.specs.Setting.{value_at}
 use Rattle.table_rows.specs.Definitions.{object_key, objects_name}
-use Rattle.table_rows.specs.Rows.{has_columns, key_of, row_fits, same_key}
-use Rattle.constraint_check.specs.Reads.{rows_table}
+use Rattle.table_rows.specs.Rows.{has_columns, key_of, row_fits, rows_table, same_key}
 use Rattle.write_laws.proofs.Keys.{tied_long}
 use Rattle.write_laws.specs.Keeping.{KeysSized}
 

@@ -12,9 +12,8 @@ use Rattle.step_model.specs.Moves.{with_pending}
 use Rattle.step_model.specs.State.{Engine}
 use Rattle.step_model.specs.Step.{fetch_reply}
 use Rattle.table_rows.specs.Definitions.{Defines, IsDefinitionIn, object_key, objects_name, row_of}
-use Rattle.table_rows.specs.Rows.{same_key}
+use Rattle.table_rows.specs.Rows.{rows_table, same_key}
 use Rattle.constraint_check.specs.Laws.{behind}
-use Rattle.constraint_check.specs.Reads.{rows_table}
 use Rattle.statement_paths.specs.Paths.{definition_put}
 
 abbrev t : List ℕ

@@ -17,12 +17,12 @@ use Rattle.step_model.specs.Database.{Database, In, nothing, with_change}
 use Rattle.step_model.specs.Own.{change_of, row_of}
 use Rattle.step_model.specs.Ranges.{Keeps, Rows}
 use Rattle.table_rows.specs.Definitions.{objects_name}
-use Rattle.table_rows.specs.Rows.{places_of, values_at}
+use Rattle.table_rows.specs.Rows.{places_of, rows_table, shape_of, values_at}
 use Rattle.constraint_check.specs.declared.check_read.Check.{Check}
 use Rattle.constraint_check.specs.declared.check_read.Check.TheVariants.{Unique, Child, Parent}
 use Rattle.constraint_check.specs.declared.check_read.CheckRead.{CheckRead}
 use Rattle.constraint_check.specs.Laws.{Agrees, Passes, PassesBy, behind}
-use Rattle.constraint_check.specs.Reads.{all_rows, child_read, child_reads, child_where, is_gone, is_key, of_both, of_key, of_row, parent_read, parent_reads, parent_reads_of, reads_for, row_at, rows_table, shape_of, unique_read, unique_reads}
+use Rattle.constraint_check.specs.Reads.{all_rows, child_read, child_reads, child_where, is_gone, is_key, of_both, of_key, of_row, parent_read, parent_reads, parent_reads_of, reads_for, row_at, unique_read, unique_reads}
 use Rattle.constraint_check.proofs.Behind.{same}
 use Rattle.constraint_check.proofs.Lists.{all_more, all_two}
 use Rattle.batch_meaning.specs.Changing.{definition_erased, triggers_of, with_definitions}

@@ -6,6 +6,7 @@ use Rattle.value_types.specs.declared.table_name.TableName.{TableName}
 use Rattle.value_types.specs.Units.{same_units}
 use Rattle.value_types.specs.declared.value.Value.{Value}
 use Rattle.tsql_tree.specs.declared.definition.TableTree.{TableTree}
+use Rattle.tsql_tree.specs.Places.{key_places}
 use Rattle.bound_tree.specs.declared.expr.BoundTest.{BoundTest}
 use Rattle.bound_tree.specs.declared.query.InnerQuery.{InnerQuery}
 use Rattle.bound_tree.specs.declared.write.BoundRows.{BoundRows}
@@ -16,7 +17,6 @@ use Rattle.bound_tree.specs.declared.write.BoundWrite.TheVariants as write
 use Rattle.bound_tree.specs.Outcomes.{Outcome, after}
 use Rattle.scalar_eval.specs.declared.fault.EvalFault.{EvalFault}
 use Rattle.scalar_eval.specs.declared.fault.EvalFault.TheVariants.{Number}
-use Rattle.clause_binder.specs.Scope.{key_places}
 use Rattle.query_eval.specs.Ans.{Ans}
 use Rattle.query_eval.specs.Joining.{image_of}
 use Rattle.query_eval.specs.Phases.{each}
@@ -27,7 +27,8 @@ use Rattle.query_laws.proofs.Lists.{all_of_each, each_gives}
 use Rattle.step_model.specs.declared.change.Planned.{Planned}
 use Rattle.constraint_check.specs.Local.{first_local}
 use Rattle.constraint_check.proofs.Behind.{name_is}
-use Rattle.constraint_check.specs.Reads.{is_shape_of, reads_for, rows_table, shape_of}
+use Rattle.table_rows.specs.Rows.{is_shape_of, rows_table, shape_of}
+use Rattle.constraint_check.specs.Reads.{reads_for}
 use Rattle.constraint_check.specs.Integrity.{AreKept}
 use Rattle.constraint_check.specs.Laws.{Passes, behind}
 use Rattle.constraint_check.proofs.Keeping.{checked_kept}

@@ -4,15 +4,15 @@ use Rattle.std.specs.List.{AllByRecursion, flat_map, zip}
 use Rattle.std.proofs.lemmas.List.{length-map}
 use Rattle.value_types.specs.declared.table_name.TableName.{TableName}
 use Rattle.tsql_tree.specs.declared.definition.TableTree.{TableTree}
+use Rattle.tsql_tree.specs.Places.{key_places}
 use Rattle.bound_tree.specs.declared.expr.BoundTest.{BoundTest}
 use Rattle.bound_tree.specs.Outcomes.{Outcome}
 use Rattle.bound_tree.specs.Setting.{value_at}
 use Rattle.scalar_eval.specs.declared.fault.EvalFault.{EvalFault}
 use Rattle.scalar_eval.specs.declared.fault.EvalFault.TheVariants.{Number}
-use Rattle.clause_binder.specs.Scope.{key_places}
 use Rattle.step_model.specs.declared.change.Planned.{Planned}
 use Rattle.constraint_check.specs.Local.{first_local}
-use Rattle.constraint_check.specs.Reads.{shape_of}
+use Rattle.table_rows.specs.Rows.{shape_of}
 use Rattle.constraint_check.proofs.Lists.{all_more}
 use Rattle.history_laws.proofs.Splits.{all_both}
 use Rattle.dml_exec.specs.declared.rewritten.Rewritten.{Rewritten}

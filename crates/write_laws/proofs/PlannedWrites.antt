@@ -3,12 +3,12 @@ use Rattle.std.proofs.Common.{◌≡◌, sym, ap, ◌∙◌, subst, List, length
 use Rattle.std.specs.List.{AllByRecursion}
 use Rattle.value_types.specs.declared.table_name.TableName.{TableName}
 use Rattle.tsql_tree.specs.declared.definition.TableTree.{TableTree}
+use Rattle.tsql_tree.specs.Places.{key_places}
 use Rattle.bound_tree.specs.declared.write.BoundWrite.{BoundWrite}
-use Rattle.clause_binder.specs.Scope.{key_places}
 use Rattle.step_model.specs.declared.change.Planned.{Planned}
 use Rattle.step_model.specs.Database.{Database}
 use Rattle.constraint_check.specs.Integrity.{IsKept}
-use Rattle.constraint_check.specs.Reads.{rows_table, shape_of}
+use Rattle.table_rows.specs.Rows.{rows_table, shape_of}
 use Rattle.constraint_check.proofs.Lists.{all_more}
 use Rattle.dml_exec.specs.Filling.{Row}
 use Rattle.dml_exec.specs.Planning.{Chg, table_written}

@@ -5,6 +5,7 @@ use Rattle.std.specs.List.{AllByRecursion, flat_map}
 use Rattle.value_types.specs.declared.table_name.TableName.{TableName}
 use Rattle.value_types.specs.declared.value.Value.{Value}
 use Rattle.tsql_tree.specs.declared.definition.TableTree.{TableTree}
+use Rattle.tsql_tree.specs.Places.{key_places}
 use Rattle.bound_tree.specs.declared.expr.BoundTest.{BoundTest}
 use Rattle.bound_tree.specs.declared.write.BoundWrite.{BoundWrite}
 use Rattle.bound_tree.specs.Outcomes.{Outcome}
@@ -12,12 +13,10 @@ use Rattle.bound_tree.specs.Setting.{value_at}
 use Rattle.scalar_eval.specs.declared.fault.EvalFault.{EvalFault}
 use Rattle.scalar_eval.specs.declared.fault.EvalFault.TheVariants.{Number, Named, Memory}
 use Rattle.binder.specs.Statements.{bind_checks}
-use Rattle.clause_binder.specs.Scope.{key_places}
 use Rattle.step_model.specs.declared.change.Deed.TheVariants.{Replace}
 use Rattle.step_model.specs.declared.change.Planned.{Planned}
-use Rattle.table_rows.specs.Rows.{values_at}
+use Rattle.table_rows.specs.Rows.{shape_of, values_at}
 use Rattle.constraint_check.specs.Local.{first_local}
-use Rattle.constraint_check.specs.Reads.{shape_of}
 use Rattle.dml_exec.specs.declared.rewritten.Rewritten.{Rewritten}
 use Rattle.dml_exec.specs.declared.rewritten.Rewritten.TheVariants.{Inserted, Set, Erased}
 use Rattle.dml_exec.specs.Filling.{Row}

@@ -9,8 +9,8 @@ use Rattle.tsql_tree.specs.declared.definition.TableTree.{TableTree}
 use Rattle.tsql_tree.specs.declared.definition.TriggerTree.{TriggerTree}
 use Rattle.step_model.specs.Database.{Database}
 use Rattle.table_rows.specs.Definitions.{IsDefinitionOf, is_objects, object_key, objects_name, row_of}
+use Rattle.table_rows.specs.Rows.{rows_table}
 use Rattle.constraint_check.specs.Laws.{behind}
-use Rattle.constraint_check.specs.Reads.{rows_table}
 use Rattle.constraint_check.proofs.Behind.{one_behind, same}
 use Rattle.constraint_check.proofs.Lists.{all_more}
 use Rattle.statement_paths.specs.Paths.{definition_put}

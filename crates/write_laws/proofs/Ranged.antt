@@ -13,7 +13,7 @@ use Rattle.value_types.specs.declared.value.Value.{Value}
 use Rattle.value_types.specs.Order.{key_cmp}
 use Rattle.value_types.specs.OrderLaws.{key_cmp_total}
 use Rattle.tsql_tree.specs.declared.definition.TableTree.{TableTree}
-use Rattle.clause_binder.specs.Scope.{key_places}
+use Rattle.tsql_tree.specs.Places.{key_places}
 use Rattle.step_model.specs.declared.range.Start.{Start}
 use Rattle.step_model.specs.declared.range.Start.TheVariants.{First as FromFirst}
 use Rattle.step_model.specs.declared.range.Stop.{Stop}

@@ -10,6 +10,7 @@ use Rattle.value_types.specs.declared.table_name.TableName.{TableName}
 use Rattle.value_types.specs.declared.value.Value.{Value}
 use Rattle.value_types.specs.Order.{key_cmp}
 use Rattle.tsql_tree.specs.declared.definition.TableTree.{TableTree}
+use Rattle.tsql_tree.specs.Places.{key_places}
 use Rattle.bound_tree.specs.declared.expr.BoundTest.{BoundTest}
 use Rattle.bound_tree.specs.declared.query.InnerQuery.{InnerQuery}
 use Rattle.bound_tree.specs.declared.write.BoundSet.{BoundSet}
@@ -18,7 +19,6 @@ use Rattle.bound_tree.specs.declared.write.BoundWrite.TheVariants as write
 use Rattle.bound_tree.specs.Meaning.{truth}
 use Rattle.bound_tree.specs.Outcomes.{Outcome, after}
 use Rattle.bound_tree.specs.Truths.{is_true}
-use Rattle.clause_binder.specs.Scope.{key_places}
 use Rattle.query_eval.specs.Joining.{image_of}
 use Rattle.query_eval.specs.KeyTests.{key_tests, meets, where_tests}
 use Rattle.query_eval.specs.Phases.{each, rows_where}

@@ -5,9 +5,9 @@ use Rattle.value_types.specs.declared.sql_type.SqlType.{SqlType}
 use Rattle.value_types.specs.declared.sql_type.SqlType.TheVariants.{TinyInt, SmallInt, Int, BigInt, Bit as BitType, NText}
 use Rattle.value_types.specs.declared.value.Value.{Value}
 use Rattle.value_types.specs.declared.value.Value.TheVariants.{Null, Whole, Bit, Text}
+use Rattle.value_types.specs.Types.{type_of}
 use Rattle.convert_rules.specs.declared.fault.ConvertFault.{ConvertFault}
 use Rattle.convert_rules.specs.declared.fault.ConvertFault.TheVariants.{TooLong}
-use Rattle.convert_rules.specs.Types.{type_of}
 use Rattle.convert_rules.specs.Conversion.{cast_of, converted}
 use Rattle.tsql_tree.specs.declared.definition.ColumnTree.{ColumnTree}
 use Rattle.bound_tree.specs.Conversions.{cast_outcome}

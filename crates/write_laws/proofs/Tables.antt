@@ -14,9 +14,9 @@ use Rattle.step_model.specs.declared.range.Start.TheVariants.{At}
 use Rattle.step_model.specs.declared.range.Stop.TheVariants.{Within}
 use Rattle.step_model.specs.Database.{Database}
 use Rattle.step_model.specs.Own.{row_of}
-use Rattle.table_rows.specs.Rows.{places_of, values_at}
+use Rattle.table_rows.specs.Rows.{is_shape_of, places_of, rows_table, shape_of, values_at}
 use Rattle.constraint_check.specs.declared.check_read.CheckRead.{CheckRead}
-use Rattle.constraint_check.specs.Reads.{all_rows, child_read, child_reads, child_where, is_gone, is_key, is_shape_of, of_both, of_key, of_row, parent_read, parent_reads, parent_reads_of, reads_for, row_at, rows_table, shape_of, unique_read, unique_reads}
+use Rattle.constraint_check.specs.Reads.{all_rows, child_read, child_reads, child_where, is_gone, is_key, of_both, of_key, of_row, parent_read, parent_reads, parent_reads_of, reads_for, row_at, unique_read, unique_reads}
 use Rattle.constraint_check.proofs.Behind.{name_is, name_itself}
 use Rattle.constraint_check.proofs.Lists.{all_more}
 use Rattle.history_laws.proofs.Basics.{both}

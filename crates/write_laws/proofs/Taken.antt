@@ -11,7 +11,8 @@ use Rattle.bound_tree.specs.declared.write.BoundWrite.{BoundWrite}
 use Rattle.bound_tree.specs.declared.write.BoundWrite.TheVariants as write
 use Rattle.step_model.specs.declared.range.KeyRange.{KeyRange}
 use Rattle.step_model.specs.Exchange.{Exchange}
-use Rattle.constraint_check.specs.Reads.{all_rows, shape_of}
+use Rattle.table_rows.specs.Rows.{shape_of}
+use Rattle.constraint_check.specs.Reads.{all_rows}
 use Rattle.dml_exec.specs.declared.refusal.Level.{Level}
 use Rattle.dml_exec.specs.declared.rewritten.Rewritten.{Rewritten}
 use Rattle.dml_exec.specs.Filling.{Row}

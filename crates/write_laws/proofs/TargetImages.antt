@@ -17,8 +17,7 @@ use Rattle.step_model.specs.declared.reply.Reply.TheVariants as replies
 use Rattle.step_model.specs.Dialog.{Dialog, over, asks, room, never, ◌then◌, Held}
 use Rattle.step_model.specs.Exchange.{Exchange}
 use Rattle.step_model.specs.Ranges.{Keeps, Rows, range_limit, with_row}
-use Rattle.table_rows.specs.Rows.{has_columns, key_of, row_fits, same_key}
-use Rattle.constraint_check.specs.Reads.{shape_of}
+use Rattle.table_rows.specs.Rows.{has_columns, key_of, row_fits, same_key, shape_of}
 use Rattle.dml_exec.specs.declared.refusal.Level.{Level}
 use Rattle.dml_exec.specs.declared.refusal.Refusal.{Refusal}
 use Rattle.dml_exec.specs.declared.refusal.Refusal.TheVariants.{Memory}

@@ -27,7 +27,7 @@ use Rattle.step_model.specs.Database.{allows, includes, is_within}
 use Rattle.step_model.specs.Dialog.{Dialog, over, ◌then◌, Held}
 use Rattle.step_model.specs.Exchange.{CanReply, Exchange}
 use Rattle.step_model.specs.Ranges.{Keeps, Rows, range_limit, with_row}
-use Rattle.constraint_check.specs.Reads.{shape_of}
+use Rattle.table_rows.specs.Rows.{shape_of}
 use Rattle.constraint_check.proofs.Lists.{all_more}
 use Rattle.history_laws.proofs.Basics.{both}
 use Rattle.history_laws.proofs.Ranges.{allows_above}

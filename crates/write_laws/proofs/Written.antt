@@ -7,15 +7,15 @@ use Rattle.tsql_tree.specs.declared.definition.Definition.{Definition}
 use Rattle.tsql_tree.specs.declared.definition.Definition.TheVariants.{Table, Trigger}
 use Rattle.tsql_tree.specs.declared.definition.ForeignTree.{ForeignTree}
 use Rattle.tsql_tree.specs.declared.definition.TableTree.{TableTree}
+use Rattle.tsql_tree.specs.Places.{key_places}
 use Rattle.bound_tree.specs.declared.expr.BoundTest.{BoundTest}
-use Rattle.clause_binder.specs.Scope.{key_places}
 use Rattle.binder.specs.Statements.{bind_checks}
 use Rattle.step_model.specs.declared.change.Planned.{Planned}
 use Rattle.step_model.specs.Database.{Database}
 use Rattle.table_rows.specs.Definitions.{objects_name, object_key}
+use Rattle.table_rows.specs.Rows.{is_shape_of, rows_table, shape_of}
 use Rattle.constraint_check.specs.Integrity.{AreKept, IsKept}
 use Rattle.constraint_check.specs.Laws.{behind}
-use Rattle.constraint_check.specs.Reads.{is_shape_of, rows_table, shape_of}
 use Rattle.constraint_check.proofs.Behind.{one_behind}
 use Rattle.constraint_check.proofs.Lists.{all_more}
 use Rattle.write_laws.specs.Reads.{HasParent}

@@ -15,11 +15,11 @@ use Rattle.step_model.specs.declared.range.Start.TheVariants.{First, At}
 use Rattle.step_model.specs.declared.range.Stop.TheVariants.{Last, Within}
 use Rattle.step_model.specs.Database.{Database}
 use Rattle.index_laws.specs.Parts.{IsExact}
-use Rattle.table_rows.specs.Rows.{places_of, values_at}
+use Rattle.table_rows.specs.Rows.{places_of, rows_table, values_at}
 use Rattle.constraint_check.specs.declared.check_read.Check.TheVariants.{Unique, Parent}
 use Rattle.constraint_check.specs.declared.check_read.CheckRead.{CheckRead}
 use Rattle.constraint_check.specs.Laws.{Passes}
-use Rattle.constraint_check.specs.Reads.{child_reads, is_gone, is_key, of_row, reads_for, rows_table}
+use Rattle.constraint_check.specs.Reads.{child_reads, is_gone, is_key, of_row, reads_for}
 use Rattle.write_laws.specs.Indexed.{index_part, index_places}
 use Rattle.write_laws.specs.Reads.{RowsFit}
 

@@ -8,7 +8,7 @@ use Rattle.step_model.specs.declared.range.Start.TheVariants.{First}
 use Rattle.step_model.specs.declared.range.Stop.TheVariants.{Last}
 use Rattle.step_model.specs.Database.{Database, In}
 use Rattle.table_rows.specs.Definitions.{IsDefinitionIn, defined_name, objects_name, tables_of}
-use Rattle.constraint_check.specs.Reads.{rows_table}
+use Rattle.table_rows.specs.Rows.{rows_table}
 use Rattle.batch_meaning.specs.Asking.{with_found}
 use Rattle.write_laws.specs.Sound.{IsDefined, Firm}
 use Rattle.write_laws.specs.Keeping.{AreDefinitions, AreTables}

@@ -5,11 +5,10 @@ use Rattle.std.specs.Option.{option_map}
 use Rattle.value_types.specs.declared.table_name.TableName.{TableName}
 use Rattle.value_types.specs.declared.value.Value.{Value}
 use Rattle.tsql_tree.specs.declared.definition.TableTree.{TableTree}
-use Rattle.clause_binder.specs.Scope.{key_places}
+use Rattle.tsql_tree.specs.Places.{key_places}
 use Rattle.step_model.specs.Database.{Database}
 use Rattle.index_laws.specs.Parts.{IsExact}
-use Rattle.table_rows.specs.Rows.{places_of, values_at}
-use Rattle.constraint_check.specs.Reads.{rows_table}
+use Rattle.table_rows.specs.Rows.{places_of, rows_table, values_at}
 use Rattle.write_laws.specs.Sound.{IsTableOf, SoundRows}
 
 -- ---- the parts of a table

@@ -5,16 +5,15 @@ use Rattle.std.specs.Prelude.{◌≡◌, ℕ, suc, Bool, true, false, IsSome, Li
 use Rattle.std.specs.List.{AllByRecursion, flat_map}
 use Rattle.value_types.specs.declared.value.Value.{Value}
 use Rattle.tsql_tree.specs.declared.definition.TableTree.{TableTree}
-use Rattle.clause_binder.specs.Scope.{key_places}
+use Rattle.tsql_tree.specs.Places.{key_places}
 use Rattle.step_model.specs.declared.change.Planned.{Planned}
 use Rattle.step_model.specs.Database.{Database, With}
 use Rattle.index_laws.specs.Deeds.{deeds_by, rows_gone}
 use Rattle.index_laws.specs.Laws.{FreshRows, OldsApart, erasures_of, itself, never}
 use Rattle.index_laws.specs.Parts.{Among, IsOld, RowChange}
 use Rattle.index_laws.specs.Whole.{IndexPart, index_of, part_table}
-use Rattle.table_rows.specs.Rows.{key_of, places_of}
+use Rattle.table_rows.specs.Rows.{key_of, places_of, rows_table}
 use Rattle.constraint_check.specs.Laws.{KeysAreOne, behind}
-use Rattle.constraint_check.specs.Reads.{rows_table}
 use Rattle.dml_exec.specs.Filling.{Row}
 use Rattle.write_laws.specs.IndexKept.{AreEmptied}
 use Rattle.write_laws.specs.Indexed.{Indexed, index_columns, own_rows}

@@ -8,17 +8,18 @@ use Rattle.tsql_tree.specs.declared.definition.Definition.{Definition}
 use Rattle.tsql_tree.specs.declared.definition.Definition.TheVariants.{Table, Procedure, Trigger}
 use Rattle.tsql_tree.specs.declared.definition.TableTree.{TableTree}
 use Rattle.tsql_tree.specs.declared.definition.TriggerTree.{TriggerTree}
+use Rattle.tsql_tree.specs.Places.{key_places}
 use Rattle.bound_tree.specs.declared.expr.BoundTest.{BoundTest}
 use Rattle.typed_nodes.specs.Refusals.{Outcome}
-use Rattle.clause_binder.specs.Scope.{key_places, max_columns}
+use Rattle.clause_binder.specs.Scope.{max_columns}
 use Rattle.binder.specs.Statements.{bind_checks}
 use Rattle.step_model.specs.declared.change.Planned.{Planned}
 use Rattle.step_model.specs.Database.{Database, nothing}
 use Rattle.table_rows.specs.Definitions.{Defines, defined_name, is_objects, object_key, objects_name, tables_of}
-use Rattle.table_rows.specs.Rows.{same_key}
+use Rattle.table_rows.specs.Rows.{rows_table, same_key, shape_of}
 use Rattle.constraint_check.specs.Integrity.{AreKept}
 use Rattle.constraint_check.specs.Laws.{behind}
-use Rattle.constraint_check.specs.Reads.{is_erase, rows_table, shape_of}
+use Rattle.constraint_check.specs.Reads.{is_erase}
 use Rattle.write_laws.specs.Planning.{AreOneEach}
 use Rattle.batch_meaning.specs.Changing.{definition_erased, is_referred}
 use Rattle.statement_paths.specs.Paths.{definition_put}

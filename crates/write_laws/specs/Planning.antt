@@ -19,9 +19,9 @@ use Rattle.step_model.specs.Database.{Database}
 use Rattle.step_model.specs.Dialog.{Held}
 use Rattle.step_model.specs.Exchange.{Exchange}
 use Rattle.step_model.specs.Own.{row_of}
-use Rattle.table_rows.specs.Rows.{has_columns, row_fits}
+use Rattle.table_rows.specs.Rows.{has_columns, row_fits, rows_table, shape_of}
 use Rattle.constraint_check.specs.Local.{first_local}
-use Rattle.constraint_check.specs.Reads.{is_erase, reads_for, rows_table, shape_of}
+use Rattle.constraint_check.specs.Reads.{is_erase, reads_for}
 use Rattle.constraint_check.specs.Integrity.{AreKept, Stands}
 use Rattle.constraint_check.specs.Laws.{KeysAreOne, Passes, behind}
 use Rattle.dml_exec.specs.declared.refusal.Level.{Level}

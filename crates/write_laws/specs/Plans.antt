@@ -14,8 +14,9 @@ use Rattle.session_vars.specs.declared.Variable.{Variable}
 use Rattle.step_model.specs.declared.change.Planned.{Planned}
 use Rattle.step_model.specs.Database.{Database}
 use Rattle.table_rows.specs.Definitions.{defined_name, tables_of}
+use Rattle.table_rows.specs.Rows.{shape_of}
 use Rattle.constraint_check.specs.Laws.{Passes, behind}
-use Rattle.constraint_check.specs.Reads.{all_rows, reads_for, shape_of}
+use Rattle.constraint_check.specs.Reads.{all_rows, reads_for}
 use Rattle.dml_exec.specs.Filling.{Row}
 use Rattle.dml_exec.specs.Planning.{table_written}
 use Rattle.dml_exec.specs.Reading.{fits}

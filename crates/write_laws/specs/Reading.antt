@@ -4,6 +4,7 @@ use Rattle.std.specs.List.{AllByRecursion}
 use Rattle.lock_modes.specs.declared.KeyPart.{KeyPart}
 use Rattle.value_types.specs.declared.table_name.TableName.{TableName}
 use Rattle.tsql_tree.specs.declared.definition.TableTree.{TableTree}
+use Rattle.tsql_tree.specs.Places.{key_places}
 use Rattle.value_types.specs.declared.value.Value.{Value}
 use Rattle.bound_tree.specs.declared.expr.BoundTest.{BoundTest}
 use Rattle.bound_tree.specs.declared.write.Bound.{Bound}
@@ -29,9 +30,9 @@ use Rattle.step_model.specs.Fits.{Fits, AnswersIn, commit_of, commits_once, fetc
 use Rattle.step_model.specs.Log.{Commit as Logged, State}
 use Rattle.step_model.specs.Ranges.{Rows}
 use Rattle.constraint_check.specs.declared.check_read.CheckRead.{CheckRead}
-use Rattle.constraint_check.specs.Reads.{reads_for, shape_of}
+use Rattle.table_rows.specs.Rows.{shape_of}
+use Rattle.constraint_check.specs.Reads.{reads_for}
 use Rattle.constraint_check.specs.Laws.{KeysAreOne, Passes, behind}
-use Rattle.clause_binder.specs.Scope.{key_places}
 use Rattle.range_plan.specs.RangeOf.{whole_table}
 use Rattle.range_plan.specs.Laws.{stands_in}
 use Rattle.dml_exec.specs.declared.written.Written.TheVariants.{Done}

@@ -8,7 +8,7 @@ use Rattle.value_types.specs.declared.value.Value.{Value}
 use Rattle.value_types.specs.Order.{key_cmp}
 use Rattle.tsql_tree.specs.declared.definition.ForeignTree.{ForeignTree}
 use Rattle.tsql_tree.specs.declared.definition.TableTree.{TableTree}
-use Rattle.clause_binder.specs.Scope.{key_places}
+use Rattle.tsql_tree.specs.Places.{key_places}
 use Rattle.step_model.specs.declared.range.KeyRange.{KeyRange}
 use Rattle.step_model.specs.declared.range.Start.{Start}
 use Rattle.step_model.specs.declared.range.Start.TheVariants.{At}
@@ -25,9 +25,8 @@ use Rattle.step_model.specs.Exchange.{CanReply, Exchange}
 use Rattle.step_model.specs.Fits.{place_of, view}
 use Rattle.step_model.specs.Log.{Commit as Logged}
 use Rattle.step_model.specs.Ranges.{Keeps, Rows}
-use Rattle.table_rows.specs.Rows.{places_of, row_fits, same_key}
+use Rattle.table_rows.specs.Rows.{places_of, row_fits, rows_table, same_key, shape_of}
 use Rattle.constraint_check.specs.Integrity.{Stands}
-use Rattle.constraint_check.specs.Reads.{rows_table, shape_of}
 use Rattle.dml_exec.specs.Reading.{GivenRows, TableRead, behind_gone, fits}
 
 -- what the database has at the place of a transaction, of which `later` is left, with its own changes so far

@@ -7,10 +7,10 @@ use Rattle.lock_modes.specs.declared.KeyPart.TheVariants.{U}
 use Rattle.value_types.specs.declared.table_name.TableName.{TableName}
 use Rattle.value_types.specs.declared.value.Value.{Value}
 use Rattle.tsql_tree.specs.declared.definition.TableTree.{TableTree}
+use Rattle.tsql_tree.specs.Places.{key_places}
 use Rattle.bound_tree.specs.declared.expr.BoundTest.{BoundTest}
 use Rattle.bound_tree.specs.declared.write.BoundWrite.{BoundWrite}
 use Rattle.bound_tree.specs.declared.write.BoundWrite.TheVariants as write
-use Rattle.clause_binder.specs.Scope.{key_places}
 use Rattle.step_model.specs.declared.change.Planned.{Planned}
 use Rattle.step_model.specs.declared.op.Hold.{Hold}
 use Rattle.step_model.specs.declared.range.KeyRange.{KeyRange}
@@ -18,8 +18,7 @@ use Rattle.step_model.specs.Exchange.{Exchange}
 use Rattle.index_laws.specs.Deeds.{deeds_by, rows_added, rows_gone, rows_set}
 use Rattle.index_laws.specs.Laws.{OldsApart, itself, never}
 use Rattle.index_laws.specs.Parts.{RowChange}
-use Rattle.table_rows.specs.Rows.{key_of, same_key, values_at}
-use Rattle.constraint_check.specs.Reads.{rows_table, shape_of}
+use Rattle.table_rows.specs.Rows.{key_of, rows_table, same_key, shape_of, values_at}
 use Rattle.dml_exec.specs.declared.refusal.Level.{Level}
 use Rattle.dml_exec.specs.declared.rewritten.Rewritten.{Rewritten}
 use Rattle.dml_exec.specs.declared.rewritten.Rewritten.TheVariants.{Inserted, Set, Erased}

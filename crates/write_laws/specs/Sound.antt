@@ -10,16 +10,16 @@ use Rattle.tsql_tree.specs.declared.definition.Definition.TheVariants.{Table, Tr
 use Rattle.tsql_tree.specs.declared.definition.ForeignTree.{ForeignTree}
 use Rattle.tsql_tree.specs.declared.definition.TableTree.{TableTree}
 use Rattle.tsql_tree.specs.declared.definition.TriggerTree.{TriggerTree}
+use Rattle.tsql_tree.specs.Places.{key_places}
 use Rattle.bound_tree.specs.declared.expr.BoundTest.{BoundTest}
-use Rattle.clause_binder.specs.Scope.{key_places, max_columns}
+use Rattle.clause_binder.specs.Scope.{max_columns}
 use Rattle.binder.specs.Statements.{bind_checks}
 use Rattle.step_model.specs.Database.{Database}
 use Rattle.table_rows.specs.Definitions.{IsDefinitionOf, is_objects, object_key, objects_name}
-use Rattle.table_rows.specs.Rows.{places_of, row_fits, same_key}
+use Rattle.table_rows.specs.Rows.{places_of, row_fits, rows_table, same_key}
 use Rattle.constraint_check.specs.Integrity.{HasParents, IsKept, IsUnique, Stands, has_false}
 use Rattle.constraint_check.specs.Laws.{KeysAreOne}
 use Rattle.constraint_check.specs.Local.{null_in}
-use Rattle.constraint_check.specs.Reads.{rows_table}
 
 -- ---- what is defined
 

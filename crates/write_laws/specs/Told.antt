@@ -23,7 +23,7 @@ use Rattle.step_model.specs.Database.{is_within}
 use Rattle.step_model.specs.Dialog.{Held}
 use Rattle.step_model.specs.Exchange.{Exchange}
 use Rattle.step_model.specs.Ranges.{Keeps, Rows}
-use Rattle.constraint_check.specs.Reads.{shape_of}
+use Rattle.table_rows.specs.Rows.{shape_of}
 use Rattle.dml_exec.specs.declared.refusal.Level.{Level}
 use Rattle.dml_exec.specs.Planning.{table_written}
 use Rattle.dml_exec.specs.Reading.{GivenRows, fetch_of, fits, hold_at, images_of, rows_in, target_read}

@@ -1,5 +1,5 @@
 use Rattle.std.proofs.Common.{◌≡◌, ◌+◌, ◌≤◌, drop, filter_map, length}
-use Rattle.clause_binder.specs.Scope.{place_in}
+use Rattle.tsql_tree.specs.Places.{place_in}
 use Rattle.dml_exec.proofs.ranges.places_in.Given as goal
 
 -- those that were counted, and those of the names that are left, are all

@@ -1,5 +1,5 @@
 use Rattle.std.proofs.Common.{◌≡◌, Some, None, Err, inl, sym, ap}
-use Rattle.constraint_check.specs.Reads.{shape_of}
+use Rattle.table_rows.specs.Rows.{shape_of}
 use Rattle.dml_exec.specs.Planning.{table_written}
 use Rattle.statement_exec.proofs.changing.plan.Goals as goal
 

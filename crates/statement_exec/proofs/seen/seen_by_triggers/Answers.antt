@@ -1,5 +1,5 @@
 use Rattle.std.proofs.Common.{◌≡◌, Some, Ok, inl, ap}
-use Rattle.constraint_check.specs.Reads.{shape_of}
+use Rattle.table_rows.specs.Rows.{shape_of}
 use Rattle.dml_exec.specs.Planning.{table_written}
 use Rattle.statement_exec.proofs.seen.seen_by_triggers.Goals as goal
 

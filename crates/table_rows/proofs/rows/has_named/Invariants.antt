@@ -2,7 +2,7 @@ use Rattle.std.proofs.Common.{◌≡◌, drop}
 use Rattle.std.specs.Prelude.{filter_map}
 use Rattle.std.specs.Ordering.{eq_by_cmp}
 use Rattle.value_types.specs.Order.{key_cmp}
-use Rattle.clause_binder.specs.Scope.{place_in}
+use Rattle.tsql_tree.specs.Places.{place_in}
 use Rattle.table_rows.specs.Rows.{values_at}
 use Rattle.table_rows.proofs.rows.has_named.Given as goal
 

@@ -2,7 +2,7 @@ use Rattle.std.proofs.Common.{◌≡◌, ◌≢◌, List, take, sym, ap, subst}
 use Rattle.std.specs.List.{All}
 use Rattle.step_model.specs.Log.{State}
 use Rattle.shared_port.specs.Asked.{EngineSeat}
-use Rattle.sound_laws.proofs.Logs.{intact_sound}
+use Rattle.connection_laws.proofs.Sound.{intact_sound}
 use Rattle.seat_server.specs.House.{KnowsSeat}
 use Rattle.seat_server.proofs.Housing.{all_intact, knows_seats}
 use Rattle.seat_server.proofs.house.House.close.Goals as goal
