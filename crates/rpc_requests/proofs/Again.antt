@@ -1,9 +1,8 @@
 -- What is spelled so is read: the bytes of a call, behind readable headers, are read as that call.
-use Rattle.std.proofs.Common.{◌≡◌, ℕ, zero, suc, ◌+◌, ◌*◌, ◌/◌, ◌%◌, ◌-◌, ◌^◌, ◌<◌, ◌≤◌, Bool, true, false, cond, eqb, ltb, List, [], ◌∷◌, ◌++◌, length, take, drop, All, Option, Some, None, Result, Ok, Err, ℤ, pos, negsuc, refl, sym, ap, ◌∙◌, append_assoc, arith}
-use Rattle.std.specs.Prelude.{FitsSigned, min}
-use Rattle.std.proofs.Math.Nat.{min-eq_left}
+use Rattle.std.proofs.Common.{◌≡◌, ℕ, zero, suc, ◌+◌, ◌*◌, ◌/◌, ◌%◌, ◌^◌, ◌<◌, ◌≤◌, Bool, true, false, eqb, ltb, List, [], ◌∷◌, ◌++◌, length, All, Option, Some, Result, Ok, ℤ, pos, negsuc, refl, ap, ◌∙◌, append_assoc, arith}
+use Rattle.std.specs.Prelude.{FitsSigned}
 use Rattle.std.specs.List.{flat_map}
-use Rattle.std.specs.Int.{w8, w16, w32, w64, to_le_bytes, from_le_bytes, cast_signed, cast_unsigned}
+use Rattle.std.specs.Int.{w16, w32, w64, to_le_bytes, cast_signed, cast_unsigned}
 use Rattle.std.proofs.lemmas.Bool.{le-ltb, ne_eqb, eq-eqb}
 use Rattle.std.proofs.lemmas.Int.{ints, to_z-of_z}
 use Rattle.std.proofs.lemmas.List.{take_at, drop_at, length-append}
@@ -24,8 +23,8 @@ use Rattle.rpc_requests.specs.declared.types.Form.TheVariants.{Number, Units, By
 use Rattle.rpc_requests.specs.declared.fault.Refusal.{Refusal}
 use Rattle.tds_tokens.specs.Spelling.{collation, type_info, value_bytes}
 use Rattle.rpc_requests.specs.Spelling.{charbin_null, by_number, sp_executesql, target_bytes, status_of, parameter_bytes, call_bytes}
-use Rattle.rpc_requests.specs.Fit.{name_limit, text_limit, IsName, IsKind, IsOf, IsParameter, IsTarget, IsCall, AreHeaders}
-use Rattle.rpc_requests.specs.Reading.{◌>>=◌, bytes_at, byte_at, short_at, units_at, whole_form, bit_form, units_form, sized_at, long_sized_at, tagged_at, type_at, ntext_of, ascii_text, ascii_of, size_of, filled, filled_of, value_at, has_bit, named_at, counted_at, parameter_at, parameters_at, numbered_of, numbered_at, target_of, target_at, call_at, behind_headers, whole_call, rpc_of}
+use Rattle.rpc_requests.specs.Fit.{name_limit, text_limit, IsKind, IsOf, IsParameter, IsTarget, IsCall, AreHeaders}
+use Rattle.rpc_requests.specs.Reading.{◌>>=◌, bytes_at, byte_at, short_at, units_at, whole_form, bit_form, units_form, sized_at, long_sized_at, tagged_at, type_at, ntext_of, ascii_of, size_of, filled, filled_of, value_at, has_bit, named_at, counted_at, parameter_at, parameters_at, numbered_of, numbered_at, target_of, target_at, call_at, behind_headers, whole_call, rpc_of}
 use Rattle.rpc_requests.proofs.Texts.{ascii_passes}
 use Rattle.rpc_requests.proofs.Forms.{form_of, form_again}
 

@@ -1,5 +1,5 @@
 -- The forms of types: which type has which form.
-use Rattle.std.proofs.Common.{◌≡◌, ℕ, ◌^◌, ◌<◌, ◌≤◌, List, [], ◌∷◌, length, All, refl, arith}
+use Rattle.std.proofs.Common.{◌≡◌, ℕ, ◌^◌, ◌<◌, ◌≤◌, List, [], ◌∷◌, All, refl, arith}
 use Rattle.std.specs.Prelude.{min}
 use Rattle.std.proofs.Math.Nat.{min-le_right, le-min}
 use Rattle.std.proofs.lemmas.List.Elements.{All-nil, All-cons, All-head, All-tail}
@@ -41,7 +41,7 @@ number_form BigInt is = refl
 number_form BitType is = refl
 number_form (NText size) is = absurd is
 
-number_kind : (kind : SqlType) → IsForm (Number kind) → IsKind kind
+pub number_kind : (kind : SqlType) → IsForm (Number kind) → IsKind kind
 number_kind TinyInt is = tt
 number_kind SmallInt is = tt
 number_kind Int is = tt

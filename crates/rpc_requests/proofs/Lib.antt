@@ -1,4 +1,5 @@
 pub mod StandardFacts
+pub mod DriverFacts
 pub mod Texts
 pub mod Forms
 pub mod Shrinks
@@ -9,3 +10,8 @@ pub mod Takes
 pub mod TakesCall
 pub mod TakesRpc
 pub mod SpelledAgain
+pub mod DriverShrinks
+pub mod DriverLoop
+pub mod Chunks
+pub mod DriverFits
+pub mod DriverSizes

@@ -1,5 +1,5 @@
 -- A reader leaves no more bytes than it got, and a parameter leaves fewer.
-use Rattle.std.proofs.Common.{◌≡◌, ℕ, zero, suc, ◌+◌, ◌*◌, ◌-◌, ◌/◌, ◌%◌, ◌<◌, ◌≤◌, Bool, true, false, cond, eqb, ltb, List, [], ◌∷◌, length, take, drop, Option, Some, None, Result, Ok, Err, refl, arith}
+use Rattle.std.proofs.Common.{ℕ, ◌*◌, ◌/◌, ◌%◌, ◌≤◌, Bool, true, false, cond, eqb, ltb, List, [], ◌∷◌, length, Option, Some, None, Result, Ok, Err, arith}
 use Rattle.std.proofs.lemmas.List.{length-drop}
 use Rattle.value_types.specs.declared.sql_type.SqlType.{SqlType}
 use Rattle.value_types.specs.declared.value.Value.{Value}
@@ -21,11 +21,11 @@ abbrev pub Leaves : {A : Type 0} → ℕ → Result (A × List ℕ) Refusal → 
 Leaves n (Ok x) = length x.1 ≤ n
 Leaves n (Err refusal) = Unit {0}
 
-leaves_then : {A B : Type 0} (n m : ℕ) (r : Result (A × List ℕ) Refusal) (f : A × List ℕ → Result (B × List ℕ) Refusal) → Leaves n r → ((x : A × List ℕ) → length x.1 ≤ n → Leaves m (f x)) → Leaves m (r >>= f)
+pub leaves_then : {A B : Type 0} (n m : ℕ) (r : Result (A × List ℕ) Refusal) (f : A × List ℕ → Result (B × List ℕ) Refusal) → Leaves n r → ((x : A × List ℕ) → length x.1 ≤ n → Leaves m (f x)) → Leaves m (r >>= f)
 leaves_then n m (Ok x) f h g = g x h
 leaves_then n m (Err refusal) f h g = tt
 
-leaves_if : {A : Type 0} (n : ℕ) (test : Bool) (x y : Result (A × List ℕ) Refusal) → Leaves n x → Leaves n y → Leaves n (cond test x y)
+pub leaves_if : {A : Type 0} (n : ℕ) (test : Bool) (x y : Result (A × List ℕ) Refusal) → Leaves n x → Leaves n y → Leaves n (cond test x y)
 leaves_if n true x y h g = h
 leaves_if n false x y h g = g
 
@@ -33,24 +33,24 @@ leaves_more : {A : Type 0} (n m : ℕ) (r : Result (A × List ℕ) Refusal) → 
 leaves_more n m (Ok x) le h = omega arith
 leaves_more n m (Err refusal) le h = tt
 
-bytes_leave : (count n : ℕ) (bytes : List ℕ) → length bytes ≤ n → Leaves n (bytes_at count bytes)
+pub bytes_leave : (count n : ℕ) (bytes : List ℕ) → length bytes ≤ n → Leaves n (bytes_at count bytes)
 unfolding bytes_at
 bytes_leave count n bytes le = leaves_if n (ltb (length bytes) count) _ _ tt (omega (arith, length-drop count bytes))
 
-byte_leaves : (n : ℕ) (bytes : List ℕ) → length bytes ≤ n → Leaves n (byte_at bytes)
+pub byte_leaves : (n : ℕ) (bytes : List ℕ) → length bytes ≤ n → Leaves n (byte_at bytes)
 unfolding byte_at
 byte_leaves n [] le = tt
 byte_leaves n (byte ∷ bytes) le = omega arith
 
-short_leaves : (n : ℕ) (bytes : List ℕ) → length bytes ≤ n → Leaves n (short_at bytes)
+pub short_leaves : (n : ℕ) (bytes : List ℕ) → length bytes ≤ n → Leaves n (short_at bytes)
 unfolding short_at
 short_leaves n bytes le = leaves_then n n (bytes_at 2 bytes) _ (bytes_leave 2 n bytes le) (λ x h. h)
 
-units_leave : (count n : ℕ) (bytes : List ℕ) → length bytes ≤ n → Leaves n (units_at count bytes)
+pub units_leave : (count n : ℕ) (bytes : List ℕ) → length bytes ≤ n → Leaves n (units_at count bytes)
 unfolding units_at
 units_leave count n bytes le = leaves_then n n (bytes_at (2 * count) bytes) _ (bytes_leave (2 * count) n bytes le) (λ x h. h)
 
-formed_leaves : (n : ℕ) (bytes : List ℕ) (form : Option Form) (rest : List ℕ) → length rest ≤ n → Leaves n (formed bytes form rest)
+pub formed_leaves : {A : Type 0} (n : ℕ) (bytes : List ℕ) (form : Option A) (rest : List ℕ) → length rest ≤ n → Leaves n (formed bytes form rest)
 formed_leaves n bytes None rest le = tt
 formed_leaves n bytes (Some form) rest le = le
 
@@ -95,7 +95,7 @@ ascii_leaves size count n bytes rest le =
     (leaves_if n (ltb size count) (refuse kinds.Value bytes) (bytes_at count rest >>= told) tt
     (leaves_then n n (bytes_at count rest) told (bytes_leave count n rest le) (λ x h. leaves_if n (list_all (λ byte. ltb byte 128) x.0) (is (Text x.0, x.1)) (refuse kinds.Value rest) h tt)))
 
-filled_leaves : (kind : SqlType) (count n : ℕ) (bytes rest : List ℕ) → length rest ≤ n → Leaves n (filled_of kind count bytes rest)
+pub filled_leaves : (kind : SqlType) (count n : ℕ) (bytes rest : List ℕ) → length rest ≤ n → Leaves n (filled_of kind count bytes rest)
 unfolding filled_of
 filled_leaves kind count n bytes rest le =
     let told : List ℕ × List ℕ → Result (Value × List ℕ) Refusal = λ part. Ok (filled kind part.0, part.1) in

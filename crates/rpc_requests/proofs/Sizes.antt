@@ -1,5 +1,5 @@
 -- A call has no text that is longer than the payload that says it.
-use Rattle.std.proofs.Common.{◌≡◌, ℕ, zero, suc, ◌+◌, ◌*◌, ◌-◌, ◌/◌, ◌%◌, ◌<◌, ◌≤◌, Bool, true, false, cond, eqb, ltb, List, [], ◌∷◌, length, length-take, take, drop, Option, None, Some, Result, Ok, Err, refl, subst, arith}
+use Rattle.std.proofs.Common.{◌≡◌, ℕ, zero, suc, ◌*◌, ◌/◌, ◌%◌, ◌≤◌, Bool, true, false, cond, eqb, ltb, List, [], ◌∷◌, length, length-take, drop, Option, None, Some, Result, Ok, Err, subst, arith}
 use Rattle.std.specs.Prelude.{◌||◌}
 use Rattle.std.specs.List.{AllByRecursion}
 use Rattle.std.proofs.lemmas.List.{length-drop}
@@ -15,61 +15,60 @@ use Rattle.rpc_requests.specs.declared.call.RpcParameter.{RpcParameter}
 use Rattle.rpc_requests.specs.declared.call.RpcTarget.{RpcTarget}
 use Rattle.rpc_requests.specs.declared.call.RpcTarget.TheVariants.{Named, ExecuteSql}
 use Rattle.rpc_requests.specs.declared.fault.Refusal.{Refusal}
-use Rattle.rpc_requests.specs.declared.fault.RpcFault.{RpcFault}
 use Rattle.rpc_requests.specs.declared.fault.RpcKind.TheVariants as kinds
 use Rattle.rpc_requests.specs.declared.types.Form.{Form}
 use Rattle.rpc_requests.specs.declared.types.Form.TheVariants.{Number, Units, Bytes}
 use Rattle.rpc_requests.specs.Fit.{name_limit}
 use Rattle.rpc_requests.specs.Spelling.{bigvarchartype, by_number, charbin_null, sp_executesql}
-use Rattle.rpc_requests.specs.Reading.{◌>>=◌, ascii_of, ascii_text, behind_headers, bit_form, byte_at, bytes_at, bytes_form, call_at, counted_at, filled, filled_of, formed, is_ascii, long_sized_at, named_at, ntext_of, numbered_at, numbered_of, parameter_at, parameters_at, placed, refuse, rpc_of, short_at, size_of, sized_at, tagged_at, target_at, target_of, type_at, units_at, units_form, value_at, whole_call, whole_form}
+use Rattle.rpc_requests.specs.Reading.{◌>>=◌, ascii_of, behind_headers, bit_form, byte_at, bytes_at, bytes_form, call_at, counted_at, filled, filled_of, formed, is_ascii, long_sized_at, named_at, ntext_of, numbered_at, numbered_of, parameter_at, parameters_at, placed, refuse, rpc_of, short_at, size_of, sized_at, tagged_at, target_at, target_of, type_at, units_at, units_form, value_at, whole_call, whole_form}
 
 -- ---- what is read, and how many bytes it leaves
 
 -- what is read is so, and at most so many bytes are left
-abbrev Bounded : {A : Type 0} → (A → Type 0) → ℕ → Result (A × List ℕ) Refusal → Type 0
+abbrev pub Bounded : {A : Type 0} → (A → Type 0) → ℕ → Result (A × List ℕ) Refusal → Type 0
 Bounded P n (Ok x) = P x.0 × (length x.1 ≤ n)
 Bounded P n (Err refusal) = Unit {0}
 
-bounded_then : {A B : Type 0} (P : A → Type 0) (Q : B → Type 0) (n : ℕ) (r : Result (A × List ℕ) Refusal) (f : A × List ℕ → Result (B × List ℕ) Refusal) → Bounded P n r → ((x : A × List ℕ) → P x.0 → length x.1 ≤ n → Bounded Q n (f x)) → Bounded Q n (r >>= f)
+pub bounded_then : {A B : Type 0} (P : A → Type 0) (Q : B → Type 0) (n : ℕ) (r : Result (A × List ℕ) Refusal) (f : A × List ℕ → Result (B × List ℕ) Refusal) → Bounded P n r → ((x : A × List ℕ) → P x.0 → length x.1 ≤ n → Bounded Q n (f x)) → Bounded Q n (r >>= f)
 bounded_then P Q n (Ok x) f h g = g x h.0 h.1
 bounded_then P Q n (Err refusal) f h g = tt
 
-bounded_if : {A : Type 0} (P : A → Type 0) (n : ℕ) (test : Bool) (x y : Result (A × List ℕ) Refusal) → Bounded P n x → Bounded P n y → Bounded P n (cond test x y)
+pub bounded_if : {A : Type 0} (P : A → Type 0) (n : ℕ) (test : Bool) (x y : Result (A × List ℕ) Refusal) → Bounded P n x → Bounded P n y → Bounded P n (cond test x y)
 bounded_if P n true x y one two = one
 bounded_if P n false x y one two = two
 
-abbrev Any : {A : Type 0} → A → Type 0
+abbrev pub Any : {A : Type 0} → A → Type 0
 Any a = Unit {0}
 
 -- a list is no longer than that
-abbrev AtMost : ℕ → List ℕ → Type 0
+abbrev pub AtMost : ℕ → List ℕ → Type 0
 AtMost n list = length list ≤ n
 
-bytes_bounded : (count n : ℕ) (bytes : List ℕ) → length bytes ≤ n → Bounded (AtMost n) n (bytes_at count bytes)
+pub bytes_bounded : (count n : ℕ) (bytes : List ℕ) → length bytes ≤ n → Bounded (AtMost n) n (bytes_at count bytes)
 unfolding bytes_at
 bytes_bounded count n bytes le = bounded_if (AtMost n) n (ltb (length bytes) count) _ _ tt (omega (arith, length-take count bytes), omega (arith, length-drop count bytes))
 
-byte_bounded : (n : ℕ) (bytes : List ℕ) → length bytes ≤ n → Bounded {A = ℕ} Any n (byte_at bytes)
+pub byte_bounded : (n : ℕ) (bytes : List ℕ) → length bytes ≤ n → Bounded {A = ℕ} Any n (byte_at bytes)
 unfolding byte_at
 byte_bounded n [] le = tt
 byte_bounded n (byte ∷ bytes) le = (tt, omega arith)
 
-short_bounded : (n : ℕ) (bytes : List ℕ) → length bytes ≤ n → Bounded {A = ℕ} Any n (short_at bytes)
+pub short_bounded : (n : ℕ) (bytes : List ℕ) → length bytes ≤ n → Bounded {A = ℕ} Any n (short_at bytes)
 unfolding short_at
 short_bounded n bytes le = bounded_then (AtMost n) (Any {A = ℕ}) n (bytes_at 2 bytes) _ (bytes_bounded 2 n bytes le) (λ x few left. (tt, left))
 
-units_fewer : (bytes : List ℕ) → length (units_of bytes) ≤ length bytes
+pub units_fewer : (bytes : List ℕ) → length (units_of bytes) ≤ length bytes
 units_fewer [] = omega arith
 units_fewer (low ∷ []) = omega arith
 units_fewer (low ∷ high ∷ bytes) = omega (arith, units_fewer bytes)
 
-units_bounded : (count n : ℕ) (bytes : List ℕ) → length bytes ≤ n → Bounded (AtMost n) n (units_at count bytes)
+pub units_bounded : (count n : ℕ) (bytes : List ℕ) → length bytes ≤ n → Bounded (AtMost n) n (units_at count bytes)
 unfolding units_at
 units_bounded count n bytes le = bounded_then (AtMost n) (AtMost n) n (bytes_at (2 * count) bytes) _ (bytes_bounded (2 * count) n bytes le) (λ x few left. (omega (arith, units_fewer x.0, few), left))
 
 -- ---- types
 
-formed_bounded : (n : ℕ) (bytes : List ℕ) (form : Option Form) (rest : List ℕ) → length rest ≤ n → Bounded {A = Form} Any n (formed bytes form rest)
+pub formed_bounded : {A : Type 0} (n : ℕ) (bytes : List ℕ) (form : Option A) (rest : List ℕ) → length rest ≤ n → Bounded {A = A} Any n (formed bytes form rest)
 formed_bounded n bytes None rest le = tt
 formed_bounded n bytes (Some form) rest le = (tt, le)
 
@@ -122,7 +121,7 @@ filled_small n BigInt bytes = tt
 filled_small n BitType bytes = tt
 filled_small n (NText size) bytes = tt
 
-filled_bounded : (kind : SqlType) (count n : ℕ) (bytes rest : List ℕ) → length rest ≤ n → Bounded (IsSmall n) n (filled_of kind count bytes rest)
+pub filled_bounded : (kind : SqlType) (count n : ℕ) (bytes rest : List ℕ) → length rest ≤ n → Bounded (IsSmall n) n (filled_of kind count bytes rest)
 unfolding filled_of
 filled_bounded kind count n bytes rest le = bounded_if (IsSmall n) n (eqb count 0) _ _ (tt, le)
     (bounded_if (IsSmall n) n (eqb count (size_of kind)) _ _
@@ -151,11 +150,11 @@ parameter_bounded n bytes le = bounded_then (Any {A = ℕ}) (HasSmall n) n (byte
     bounded_if (HasSmall n) n (ltb name_limit count.0) _ _ tt
     (bounded_then (AtMost n) (HasSmall n) n (units_at count.0 count.1) _ (units_bounded count.0 n count.1 left) (λ name few left. named_bounded n name.0 name.1 left)))
 
-abbrev AreSmall : ℕ → Result (List RpcParameter) Refusal → Type 0
+abbrev pub AreSmall : ℕ → Result (List RpcParameter) Refusal → Type 0
 AreSmall n (Ok parameters) = AllByRecursion (HasSmall n) parameters
 AreSmall n (Err refusal) = Unit {0}
 
-small_with : (n : ℕ) (first : RpcParameter) (r : Result (List RpcParameter) Refusal) → HasSmall n first → AreSmall n r → AreSmall n (r >>= λ others. Ok (first ∷ others))
+pub small_with : (n : ℕ) (first : RpcParameter) (r : Result (List RpcParameter) Refusal) → HasSmall n first → AreSmall n r → AreSmall n (r >>= λ others. Ok (first ∷ others))
 small_with n first (Ok others) one all = (one, all)
 small_with n first (Err refusal) one all = tt
 

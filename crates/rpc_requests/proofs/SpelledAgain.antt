@@ -1,6 +1,6 @@
 -- What a payload spells is read, whatever is not looked at.
-use Rattle.std.proofs.Common.{◌≡◌, ◌≢◌, ℕ, zero, suc, ◌+◌, ◌*◌, ◌-◌, ◌^◌, ◌<◌, ◌≤◌, Bool, true, false, cond, eqb, ltb, List, [], ◌∷◌, ◌++◌, length, take, drop, All, Option, Some, None, Result, Ok, Err, refl, sym, ap, subst, ◌∙◌, append_assoc, arith}
-use Rattle.std.specs.Prelude.{◌||◌, min}
+use Rattle.std.proofs.Common.{◌≡◌, ◌≢◌, ℕ, zero, suc, ◌+◌, ◌*◌, ◌<◌, ◌≤◌, true, false, eqb, ltb, List, [], ◌∷◌, ◌++◌, length, All, Some, Result, Ok, refl, sym, ap, subst, ◌∙◌, append_assoc, arith}
+use Rattle.std.specs.Prelude.{min}
 use Rattle.std.specs.Int.{w16, to_le_bytes}
 use Rattle.std.proofs.lemmas.Bool.{le-ltb, ne_eqb}
 use Rattle.std.proofs.lemmas.List.{length-append}
@@ -21,7 +21,7 @@ use Rattle.rpc_requests.specs.Spelling.{by_number, target_bytes}
 use Rattle.tds_tokens.specs.Spelling.{type_info, value_bytes}
 use Rattle.rpc_requests.specs.Fit.{name_limit, text_limit, IsKind, IsOf, IsParameter, IsTarget, IsCall}
 use Rattle.std.proofs.lemmas.List.Elements.{All-nil, All-cons}
-use Rattle.rpc_requests.specs.Reading.{◌>>=◌, bytes_at, byte_at, units_at, kind_of, units_form, bytes_form, sized_at, long_sized_at, tagged_at, type_at, filled_of, value_at, has_bit, named_at, counted_at, parameter_at, parameters_at, target_of, target_at, call_at, behind_headers, whole_call, rpc_of, Answers}
+use Rattle.rpc_requests.specs.Reading.{◌>>=◌, bytes_at, byte_at, units_form, bytes_form, tagged_at, type_at, value_at, named_at, counted_at, parameter_at, parameters_at, target_of, target_at, call_at, behind_headers, whole_call, rpc_of, Answers}
 use Rattle.rpc_requests.specs.Spelled.{SpellsType, SpellsValue, IsSent, SpellsParameter, SpellsParameters, IsCalled, Spells}
 use Rattle.rpc_requests.proofs.Again.{bytes_again, short_again, units_again, long_sized_again, units_form_again, type_again, filled_again, ascii_again, null_ascii_again, value_again, numbered_again, headers_again}
 use Rattle.rpc_requests.proofs.Forms.{form_of, IsForm, number_form, kind_of_form, form_of_type, sent_is_of}

@@ -1,11 +1,11 @@
 -- The definitions at the request of 103 bytes that a driver is known to send, behind its packet's header, and
 -- at requests beside it.
-use Rattle.std.proofs.Common.{◌≡◌, ℕ, List, [], ◌∷◌, ◌++◌, take, drop, true, false, pos, Ok, Err, refl}
+use Rattle.std.proofs.Common.{◌≡◌, ℕ, List, [], ◌∷◌, ◌++◌, take, drop, false, pos, Ok, Err, refl}
 use Rattle.std.specs.Prelude.{codes}
-use Rattle.value_types.specs.declared.sql_type.SqlType.TheVariants.{TinyInt, SmallInt, Int, BigInt, Bit as BitType, NText}
-use Rattle.value_types.specs.declared.value.Value.TheVariants.{Null, Whole, Bit, Text}
+use Rattle.value_types.specs.declared.sql_type.SqlType.TheVariants.{Int, NText}
+use Rattle.value_types.specs.declared.value.Value.TheVariants.{Whole, Text}
 use Rattle.rpc_requests.specs.declared.call.RpcCall.{RpcCall}
-use Rattle.rpc_requests.specs.declared.call.RpcTarget.TheVariants.{Named, ExecuteSql}
+use Rattle.rpc_requests.specs.declared.call.RpcTarget.TheVariants.{ExecuteSql}
 use Rattle.rpc_requests.specs.declared.fault.RpcFault.TheVariants.{Bad}
 use Rattle.rpc_requests.specs.declared.fault.RpcKind.TheVariants as kinds
 use Rattle.rpc_requests.specs.Spelling.{call_bytes}

@@ -1,9 +1,9 @@
 -- What is read is spelled so: parameters and calls.
-use Rattle.std.proofs.Common.{◌≡◌, ◌≢◌, ℕ, zero, suc, ◌+◌, ◌*◌, ◌-◌, ◌^◌, ◌<◌, ◌≤◌, ◌⊎◌, inl, inr, Bool, true, false, cond, eqb, ltb, List, [], ◌∷◌, ◌++◌, length, take, drop, All, Result, Ok, Err, refl, sym, ap, subst, ◌∙◌, append_assoc, arith}
+use Rattle.std.proofs.Common.{◌≡◌, ℕ, zero, suc, ◌<◌, ◌≤◌, inl, inr, eqb, ltb, List, [], ◌∷◌, ◌++◌, length, take, drop, Result, Ok, Err, refl, sym, ap, subst, ◌∙◌, append_assoc, arith}
 use Rattle.std.specs.Prelude.{◌||◌, IfOk}
 use Rattle.std.specs.Int.{w16, to_le_bytes}
 use Rattle.std.proofs.lemmas.Bool.{ltb-false, eqb-true, eqb-false}
-use Rattle.std.proofs.lemmas.List.{take-append-drop, length-append, length-take}
+use Rattle.std.proofs.lemmas.List.{take-append-drop, length-take}
 use Rattle.byteorder.specs.Endian.{little_number}
 use Rattle.value_types.specs.declared.sql_type.SqlType.{SqlType}
 use Rattle.value_types.specs.declared.value.Value.{Value}
@@ -15,11 +15,9 @@ use Rattle.rpc_requests.specs.declared.call.RpcTarget.TheVariants.{Named, Execut
 use Rattle.rpc_requests.specs.declared.types.Form.{Form}
 use Rattle.rpc_requests.specs.declared.fault.Refusal.{Refusal}
 use Rattle.rpc_requests.specs.declared.fault.RpcFault.{RpcFault}
-use Rattle.rpc_requests.specs.declared.fault.RpcFault.TheVariants.{Bad, Memory}
-use Rattle.rpc_requests.specs.declared.fault.RpcKind.TheVariants as kinds
 use Rattle.rpc_requests.specs.Spelling.{by_number, sp_executesql, target_bytes}
 use Rattle.rpc_requests.specs.Fit.{name_limit, IsName, AreHeaders}
-use Rattle.rpc_requests.specs.Reading.{◌>>=◌, refuse, bytes_at, byte_at, short_at, units_at, type_at, value_at, kind_of, has_bit, named_at, counted_at, parameter_at, parameters_at, numbered_of, numbered_at, target_of, target_at, call_at, behind_headers, whole_call, placed, rpc_of, Answers}
+use Rattle.rpc_requests.specs.Reading.{◌>>=◌, bytes_at, byte_at, short_at, units_at, type_at, value_at, kind_of, has_bit, named_at, counted_at, parameter_at, parameters_at, numbered_of, numbered_at, target_of, target_at, call_at, behind_headers, whole_call, placed, rpc_of, Answers}
 use Rattle.rpc_requests.specs.Spelled.{SpellsParameter, SpellsParameters, IsCalled, Spells}
 use Rattle.rpc_requests.proofs.Shrinks.{Leaves, parameter_leaves}
 use Rattle.rpc_requests.proofs.Takes.{IsBytes, IsBytes-rest, bind_ok, done, ok_is, passed, needed, either, neither, bytes_take, byte_takes, short_takes, units_take}

@@ -1,6 +1,7 @@
 -- Own: which calls have a spelling. Names have at most 128 units, texts a size of 1 to 4,000, and each value
 -- is NULL or of its parameter's type. The ranges of units are said too, since a law speaks of all numbers.
-use Rattle.std.specs.Prelude.{ℕ, ◌+◌, ◌*◌, ◌^◌, ◌<◌, ◌≤◌, ◌≤ℤ◌, ◌≡◌, pos, List, length, All, FitsSigned}
+-- And the parameters of a call as a driver spells it, of which the front ones have texts of any length.
+use Rattle.std.specs.Prelude.{ℕ, zero, suc, ◌-◌, ◌^◌, ◌<◌, ◌≤◌, ◌≤ℤ◌, ◌≡◌, pos, List, [], ◌∷◌, length, All, FitsSigned}
 use Rattle.std.specs.Int.{w16, w32, w64}
 use Rattle.byteorder.specs.Endian.{little_number}
 use Rattle.value_types.specs.declared.sql_type.SqlType.{SqlType}
@@ -55,6 +56,22 @@ IsTarget ExecuteSql = Unit {0}
 pub record IsCall (call : RpcCall) : Type 0 where
   pub target : IsTarget call.target
   pub parameters : All IsParameter call.parameters
+
+-- the value is NULL or of the type, and a text of any length
+abbrev pub IsFrontValue : SqlType → Value → Type 0
+IsFrontValue (NText size) (Text units) = All (λ unit. unit < 2 ^ 16) units
+IsFrontValue kind value = IsOf kind value
+
+-- a parameter of a driver's call, with so many front ones ahead: their texts have any length
+abbrev pub IsDriverParameter : ℕ → RpcParameter → Type 0
+IsDriverParameter zero parameter = IsParameter parameter
+IsDriverParameter (suc ahead) parameter =
+    IsName parameter.name × IsKind parameter.kind × IsFrontValue parameter.kind parameter.value
+
+-- parameters of a driver's call, with so many front ones ahead
+abbrev pub AreDriverParameters : ℕ → List RpcParameter → Type 0
+AreDriverParameters ahead [] = Unit {0}
+AreDriverParameters ahead (parameter ∷ rest) = IsDriverParameter ahead parameter × AreDriverParameters (ahead - 1) rest
 
 -- headers that are read: their total length stands in their first four bytes
 abbrev pub AreHeaders : List ℕ → Type 0

@@ -3,9 +3,9 @@
 -- tells how many bytes are left where its field begins; `rpc_of` makes the field's offset of it.
 -- Not looked at: what stands within the headers, the option flags, other bits of a status, the collation, and
 -- which number that is not 0 a bit has.
-use Rattle.std.specs.Prelude.{◌≡◌, ℕ, zero, suc, ◌+◌, ◌*◌, ◌-◌, ◌/◌, ◌%◌, min, pos, Bool, not, ◌==◌, ◌||◌, ◌&&◌, nat_lt, nat_le, if◌then◌else◌, List, [], ◌∷◌, length, take, drop, slice_index, Option, Some, None, Result, Ok, Err}
+use Rattle.std.specs.Prelude.{◌≡◌, ℕ, zero, suc, ◌*◌, ◌-◌, ◌/◌, ◌%◌, min, pos, Bool, not, ◌==◌, ◌||◌, nat_lt, if◌then◌else◌, List, [], ◌∷◌, length, take, drop, slice_index, Option, Some, None, Result, Ok, Err}
 use Rattle.std.specs.List.{list_all}
-use Rattle.std.specs.Int.{Width, w16, w32, w64, byte_len, from_le_bytes, cast_signed}
+use Rattle.std.specs.Int.{w16, w32, w64, from_le_bytes, cast_signed}
 use Rattle.byteorder.specs.Endian.{little_number}
 use Rattle.value_types.specs.declared.sql_type.SqlType.{SqlType}
 use Rattle.value_types.specs.declared.sql_type.SqlType.TheVariants.{TinyInt, SmallInt, Int, BigInt, Bit as BitType, NText}
@@ -102,7 +102,7 @@ abbrev pub bytes_form : ℕ → Option Form
 bytes_form size = if size == 0 || nat_lt (2 * text_limit) size then None else Some (Bytes (min size text_limit))
 
 -- a form, where there is one
-abbrev pub formed : List ℕ → Option Form → List ℕ → Result (Form × List ℕ) Refusal
+abbrev pub formed : {A : Type 0} → List ℕ → Option A → List ℕ → Result (A × List ℕ) Refusal
 formed bytes None rest = refuse kinds.Kind bytes
 formed bytes (Some form) rest = Ok (form, rest)
 
@@ -272,7 +272,7 @@ whole_call payload = do
   call_at rest
 
 -- a refusal, by the offset of its field in a payload of so many bytes
-abbrev pub placed : ℕ → Result RpcCall Refusal → Result RpcCall RpcFault
+abbrev pub placed : {A : Type 0} → ℕ → Result A Refusal → Result A RpcFault
 placed size (Ok call) = Ok call
 placed size (Err refusal) = Err (Bad (size - refusal.left) refusal.kind)
 
@@ -281,7 +281,7 @@ unfoldable pub rpc_of : List ℕ → Result RpcCall RpcFault
 rpc_of payload = placed (length payload) (whole_call payload)
 
 -- the answer is what the payload says, unless memory ran out
-abbrev pub Answers : Result RpcCall RpcFault → Result RpcCall RpcFault → Type 0
+abbrev pub Answers : {A : Type 0} → Result A RpcFault → Result A RpcFault → Type 0
 Answers (Ok call) read = read ≡ Ok call
 Answers (Err (Bad place kind)) read = read ≡ Err (Bad place kind)
 Answers (Err Memory) read = Unit {0}

@@ -1,7 +1,7 @@
 -- Which payloads spell a call, with all that is not looked at: what stands within the headers, the option flags,
 -- other bits of a status, a collation, a size of a text of bytes above 4,000, and which number that is not 0 a
 -- bit has. `rpc_of` reads from left to right; here each part of a payload is said of the part of the call.
-use Rattle.std.specs.Prelude.{◌≡◌, ◌≢◌, ℕ, ◌*◌, ◌^◌, ◌<◌, ◌≤◌, min, Bool, true, List, [], ◌∷◌, ◌++◌, length, All}
+use Rattle.std.specs.Prelude.{◌≡◌, ◌≢◌, ℕ, ◌*◌, ◌^◌, ◌<◌, ◌≤◌, min, true, List, [], ◌∷◌, ◌++◌, length, All}
 use Rattle.std.specs.Int.{w16, to_le_bytes}
 use Rattle.value_types.specs.declared.sql_type.SqlType.TheVariants.{NText}
 use Rattle.value_types.specs.declared.value.Value.{Value}

@@ -1,6 +1,6 @@
 -- [MS-TDS] 2.2.6.6: the bytes of an RPC request behind its headers, as a client of this crate sends them. Types
 -- and values have the bytes that they have in tokens.
-use Rattle.std.specs.Prelude.{ℕ, ◌+◌, Bool, if◌then◌else◌, List, [], ◌∷◌, ◌++◌, length}
+use Rattle.std.specs.Prelude.{ℕ, ◌+◌, Bool, if◌then◌else◌, List, ◌∷◌, ◌++◌, length}
 use Rattle.std.specs.List.{flat_map}
 use Rattle.std.specs.Int.{w16, to_le_bytes}
 use Rattle.value_types.specs.Units.{le_bytes_of}

@@ -59,6 +59,13 @@ impl RpcParameters {
     {
         self.parameters.as_slice()
     }
+
+    /// The arguments in order, owned.
+    pub fn into_vec(self) -> Vec<RpcParameter>
+        ensures { result.items ≡ self }
+    {
+        self.parameters
+    }
 }
 
 /// A call of a procedure.
@@ -66,6 +73,41 @@ impl RpcParameters {
 pub struct RpcCall {
     /// Which procedure.
     pub target: RpcTarget,
+    /// Its arguments.
+    pub parameters: RpcParameters,
+}
+
+/// A procedure of the server that drivers call.
+#[derive(Clone, Copy)]
+pub enum DriverProcedure {
+    /// `sp_executesql`: runs a text.
+    ExecuteSql,
+    /// `sp_prepare`: keeps a text.
+    Prepare,
+    /// `sp_execute`: runs a text that was kept.
+    Execute,
+    /// `sp_prepexec`: keeps a text and runs it.
+    PrepExec,
+    /// `sp_unprepare`: keeps a text no longer.
+    Unprepare,
+    /// `sp_reset_connection`: makes the session as new.
+    Reset,
+}
+
+/// What a driver calls.
+#[derive(Drop)]
+pub enum DriverTarget {
+    /// The procedure of this name.
+    Named(Units),
+    /// A procedure of the server, by its number or its name.
+    System(DriverProcedure),
+}
+
+/// A call as a driver spells it.
+#[derive(Drop)]
+pub struct DriverCall {
+    /// What is called.
+    pub target: DriverTarget,
     /// Its arguments.
     pub parameters: RpcParameters,
 }

@@ -21,6 +21,8 @@ pub enum RpcKind {
     Value,
     /// What begins is no parameter: its name would have more than 128 units.
     Trailing,
+    /// The text has more than 4,000 units. It is told of calls as drivers spell them alone.
+    Long,
 }
 
 /// Why a payload is no call.

@@ -8,6 +8,9 @@
 //! any headers are read as that call again ([`law_written_call`]); its names have at most 128
 //! units, its texts a size from 1 to 4,000, and its values are NULL or of their types. What is read
 //! can be written, unless the procedure's name is longer ([`law_read_call`]).
+//! [`read_driver_call`] reads calls as drivers spell them instead, with the procedures that prepare
+//! statements and texts of every kind: exactly the call that `specs/Drivers.antt` says, or the first
+//! refused field and its offset.
 //!
 //! ```text
 //! let call = read_rpc(alloc, payload)?;
@@ -17,14 +20,21 @@
 #![tactic(auto)]
 
 mod call;
+mod driver_types;
+mod driver_values;
+mod drivers;
 mod fault;
 mod fields;
 mod reading;
 mod types;
 mod values;
+mod windows;
 mod writing;
 
-pub use call::{RpcCall, RpcParameter, RpcParameters, RpcTarget};
+pub use call::{
+    DriverCall, DriverProcedure, DriverTarget, RpcCall, RpcParameter, RpcParameters, RpcTarget,
+};
+pub use drivers::read_driver_call;
 pub use fault::{RpcFault, RpcKind};
 pub use reading::{law_read_call, law_written_call, read_rpc};
 pub use writing::write_rpc;

@@ -76,7 +76,7 @@ fn whole_call(alloc: Global, payload: &[u8]) -> Result<RpcCall, ReadFault>
 
 /// The bytes behind the headers.
 #[tactic(auto, unfolding(crate::specs::Reading::behind_headers))]
-fn behind_headers(payload: &[u8]) -> Result<&[u8], ReadFault>
+pub(crate) fn behind_headers(payload: &[u8]) -> Result<&[u8], ReadFault>
     ensures { Gives (λ x. x.now) result (behind_headers payload.now) }
 {
     if payload.len() < 4 {

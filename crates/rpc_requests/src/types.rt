@@ -32,7 +32,7 @@ pub(crate) const NVARCHARTYPE: u8 = 0xE7;
 pub(crate) const BIGVARCHARTYPE: u8 = 0xA7;
 
 /// The most bytes of a text.
-const MOST: u16 = 8000;
+pub(crate) const MOST: u16 = 8000;
 
 /// The type that a parameter of the form gets. A text of bytes is one of units, since the language
 /// has no VARCHAR; its units are ASCII.
@@ -81,7 +81,7 @@ fn tagged_at(tag: u8, bytes: &[u8]) -> Result<(Form, &[u8]), ReadFault>
 }
 
 /// The size behind a type's first byte.
-fn size_in(front: &[u8]) -> u16
+pub(crate) fn size_in(front: &[u8]) -> u16
     requires { length front.now ≡ 8 }
     ensures { result ≡ from_le_bytes w16 (take 2 (drop 1 front.now)) }
 {
@@ -89,11 +89,11 @@ fn size_in(front: &[u8]) -> u16
 }
 
 /// A form, where there is one.
-fn formed<'a>(
+pub(crate) fn formed<'a, T>(
     bytes: &[u8],
-    form: Option<Form>,
+    form: Option<T>,
     rest: &'a [u8],
-) -> Result<(Form, &'a [u8]), ReadFault>
+) -> Result<(T, &'a [u8]), ReadFault>
     ensures { Gives (λ x. (x.0, x.1.now)) result (formed bytes.now form rest.now) }
 {
     match form {
@@ -103,7 +103,7 @@ fn formed<'a>(
 }
 
 /// Whole numbers of so many bytes.
-fn whole_form(size: u8) -> Option<Form>
+pub(crate) fn whole_form(size: u8) -> Option<Form>
     ensures { result ≡ whole_form size }
 {
     match size {
@@ -116,7 +116,7 @@ fn whole_form(size: u8) -> Option<Form>
 }
 
 /// Bits of so many bytes.
-fn bit_form(size: u8) -> Option<Form>
+pub(crate) fn bit_form(size: u8) -> Option<Form>
     ensures { result ≡ bit_form size }
 {
     match size {

@@ -103,7 +103,7 @@ fn ascii_text<'a>(
 
 /// A number or a bit behind its length, where it is not NULL.
 #[tactic(auto, unfolding(crate::specs::Reading::filled_of))]
-fn filled_of<'a>(
+pub(crate) fn filled_of<'a>(
     kind: SqlType,
     count: u8,
     bytes: &[u8],
