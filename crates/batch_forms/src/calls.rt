@@ -1,31 +1,70 @@
-//! Calls by RPC: the text that is read for one.
+//! Calls by RPC: how one is run, and the text that is read for it.
 
 ghost use Rattle.std.specs.Prelude.{◌≡◌, IfOk};
 ghost use Rattle.std.specs.Option.{option_copied};
-ghost use Rattle.batch_meaning.specs.Rpc.{ReadsCallAs, is_sql, naming_text, rpc_text, sql_in, sql_text, text_in};
+ghost use Rattle.rpc_requests.specs.declared.call.RpcTarget.TheVariants.{Named};
+ghost use Rattle.batch_meaning.specs.Rpc.{ReadsFor, is_sql, naming_text, plain_errand, plain_way, rpc_text, sql_in, sql_text, text_in};
 
 use crate::text::read_text;
-use batch_meaning::ReadText;
+use batch_meaning::{Errand, ReadText, Way};
 use rpc_requests::{RpcCall, RpcParameter, RpcTarget};
 use sqlite_items::Items;
 use std::alloc::Global;
 use value_types::{Memory, Units, Value};
 
-/// What is read for a call: the definition of its procedure, or one that shows whether its name is an object's.
-pub fn read_call(alloc: Global, call: &RpcCall) -> Result<ReadText, Memory>
-    ensures { IfOk result (ReadsCallAs call.now) }
+/// How many parameters of `sp_executesql` are its own: the statement and its declarations.
+pub(crate) const OWN_OF_SQL: u8 = 2;
+
+/// What is read for a call, where it has a text.
+pub fn read_call(alloc: Global, call: &Errand) -> Result<ReadText, Memory>
+    ensures { IfOk result (ReadsFor call.now.text) }
 {
-    match rpc_text(alloc, call)? {
+    match &call.text {
         Some(text) => {
-            let (read, _) = read_text(alloc, &text)?;
+            let (read, _) = read_text(alloc, text)?;
             Ok(read)
         }
         None => Ok(ReadText::Statements(Items::from_vec(Vec::new(alloc)))),
     }
 }
 
+/// A call as it is run: `sp_executesql` runs what its text is read as, and what has another name is looked up.
+pub fn plain_errand(alloc: Global, call: RpcCall) -> Result<Errand, Memory>
+    ensures { IfOk result (λ errand. errand ≡ plain_errand call) }
+{
+    let text = rpc_text(alloc, &call)?;
+    let RpcCall { target, parameters } = call;
+    let way = plain_way(target);
+    Ok(Errand {
+        way,
+        parameters,
+        text,
+    })
+}
+
+/// How the procedure of a target is found.
+fn plain_way(target: RpcTarget) -> Way
+    ensures { result ≡ plain_way target }
+{
+    match target {
+        RpcTarget::ExecuteSql => Way::RunsRead(OWN_OF_SQL),
+        RpcTarget::Named(name) => named_way(name),
+    }
+}
+
+/// The same of a name.
+fn named_way(name: Units) -> Way
+    ensures { result ≡ plain_way (Named name) }
+{
+    if name.is("sp_executesql") {
+        Way::RunsRead(OWN_OF_SQL)
+    } else {
+        Way::LooksUp(name)
+    }
+}
+
 /// Whether `sp_executesql` is called, by its number or its name.
-pub fn is_sql(target: &RpcTarget) -> bool
+fn is_sql(target: &RpcTarget) -> bool
     ensures { result ≡ is_sql target.now }
 {
     match target {
@@ -45,7 +84,7 @@ fn rpc_text(alloc: Global, call: &RpcCall) -> Result<Option<Units>, Memory>
 }
 
 /// A definition that has nothing but this name, behind which the line ends.
-fn naming_text(alloc: Global, name: &Units) -> Result<Units, Memory>
+pub(crate) fn naming_text(alloc: Global, name: &Units) -> Result<Units, Memory>
     ensures { IfOk result (λ text. text ≡ naming_text name.now) }
 {
     let mut text = Units::of_ascii(alloc, b"CREATE PROCEDURE ")?.into_vec();
@@ -72,7 +111,7 @@ fn sql_in(alloc: Global, parameters: &[RpcParameter]) -> Result<Option<Units>, M
 }
 
 /// The text that a parameter gives, if it is given and is one.
-fn text_in(parameter: &RpcParameter) -> Option<&[u16]>
+pub(crate) fn text_in(parameter: &RpcParameter) -> Option<&[u16]>
     ensures { option_copied result ≡ text_in parameter.now }
 {
     match &parameter.value {
@@ -82,7 +121,11 @@ fn text_in(parameter: &RpcParameter) -> Option<&[u16]>
 }
 
 /// A statement as the body of a procedure, and declarations as its parameters.
-fn sql_text(alloc: Global, declarations: &[u16], statement: &[u16]) -> Result<Units, Memory>
+pub(crate) fn sql_text(
+    alloc: Global,
+    declarations: &[u16],
+    statement: &[u16],
+) -> Result<Units, Memory>
     ensures { IfOk result (λ text. text ≡ sql_text declarations.now statement.now) }
 {
     let mut text = Units::of_ascii(alloc, b"CREATE PROCEDURE ")?.into_vec();

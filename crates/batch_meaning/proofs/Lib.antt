@@ -2,3 +2,5 @@ pub mod Composed
 pub mod OneReading
 mod StandardFacts
 mod RpcFacts
+mod Kept
+mod DriverFacts

@@ -1,5 +1,5 @@
 -- Calls by RPC that are known, with what their texts are read as: what they send.
-use Rattle.std.proofs.Common.{◌≡◌, ℕ, ◌-◌, Bool, true, false, List, [], ◌∷◌, None, Some, pos, refl}
+use Rattle.std.proofs.Common.{◌≡◌, ℕ, ◌-◌, true, false, List, [], ◌∷◌, None, Some, pos, refl}
 use Rattle.std.specs.Prelude.{codes}
 use Rattle.value_types.specs.declared.sql_type.SqlType.TheVariants.{Int, NText}
 use Rattle.value_types.specs.declared.value.Value.{Value}
@@ -13,19 +13,18 @@ use Rattle.tds_tokens.specs.Spelling.{tokens_bytes}
 use Rattle.tds_tokens.specs.declared.token.DoneKind.TheVariants.{Proc}
 use Rattle.tds_tokens.specs.declared.token.Token.{Token}
 use Rattle.tds_tokens.specs.declared.token.Token.TheVariants.{Error, Finished, ReturnStatus, ReturnValue}
-use Rattle.tsql_tree.specs.declared.definition.Definition.TheVariants.{Procedure}
 use Rattle.tsql_tree.specs.declared.definition.ProcedureTree.{ProcedureTree}
-use Rattle.tsql_tree.specs.declared.statement.Argument.{Argument}
 use Rattle.tsql_tree.specs.declared.statement.ArgumentValue.TheVariants as argument
+use Rattle.batch_meaning.specs.declared.errand.Errand.{Errand}
+use Rattle.batch_meaning.specs.declared.errand.Way.TheVariants as way
 use Rattle.batch_meaning.specs.declared.exit.Exit.TheVariants as exit
 use Rattle.batch_meaning.specs.declared.form.ReadText.TheVariants as text
-use Rattle.batch_meaning.specs.Tokens.{rpc_done}
 use Rattle.batch_meaning.specs.Progress.{SessionProgress, batch_limit, end_size, first_progress, size_of}
 use Rattle.batch_meaning.specs.Doing.{◌then◌, Held, over}
 use Rattle.batch_meaning.specs.Calls.{Call}
 use Rattle.batch_meaning.specs.Meaning.{each_of, ended_by, runs_body}
 use Rattle.batch_meaning.specs.Asking.{assigns_all}
-use Rattle.batch_meaning.specs.Rpc.{ends_exec, ends_rpc, fails_call, gives_call_back, leaves_body, rpc, rpc_arguments, rpc_text, rpc_vars, runs_exec, runs_rpc}
+use Rattle.batch_meaning.specs.Rpc.{ends_exec, ends_rpc, fails_call, gives_call_back, leaves_body, plain_errand, rpc, rpc_arguments, rpc_text, rpc_vars, runs_exec, runs_rpc}
 
 -- ---- a statement with a parameter, as [MS-TDS] 2.2.6.6 sends it
 
@@ -46,10 +45,10 @@ selects_text : rpc_text selects ≡ Some (codes "CREATE PROCEDURE [sp_executesql
 selects_text = refl
 
 -- the third variable is its argument
-selects_arguments : rpc_arguments selects ≡ record { name = Some (codes "@a"); value = argument.Variable (2 ∷ []); output = false } ∷ []
+selects_arguments : rpc_arguments (plain_errand selects) ≡ record { name = Some (codes "@a"); value = argument.Variable (2 ∷ []); output = false } ∷ []
 selects_arguments = refl
 
-selects_vars : rpc_vars selects ≡
+selects_vars : rpc_vars (plain_errand selects) ≡
     record { name = 0 ∷ []; kind = NText 20; value = Text (codes "SELECT @a") }
     ∷ record { name = 1 ∷ []; kind = NText 20; value = Text (codes "@a INT") }
     ∷ record { name = 2 ∷ []; kind = Int; value = Whole (pos 5) }
@@ -57,7 +56,7 @@ selects_vars : rpc_vars selects ≡
 selects_vars = refl
 
 -- its name means the same
-selects_by_name : rpc_text (record selects { target = Named (codes "sp_executesql") }) ≡ rpc_text selects
+selects_by_name : plain_errand (record selects { target = Named (codes "sp_executesql") }) ≡ plain_errand selects
 selects_by_name = refl
 
 -- ---- a procedure
@@ -69,7 +68,7 @@ adds = record { target = Named (codes "add_item"); parameters = input [] (Whole 
 adds_text : rpc_text adds ≡ Some (codes "CREATE PROCEDURE add_item\nAS")
 adds_text = refl
 
-adds_arguments : rpc_arguments adds ≡
+adds_arguments : rpc_arguments (plain_errand adds) ≡
     record { name = None; value = argument.Variable (0 ∷ []); output = false }
     ∷ record { name = None; value = argument.Variable (1 ∷ []); output = false }
     ∷ record { name = Some (codes "@n"); value = argument.Variable (2 ∷ []); output = true }
@@ -96,20 +95,20 @@ var name value = record { name = name; kind = Int; value = value }
 
 -- the session in it, whose variables are those of the caller
 abbrev calling : SessionProgress
-calling = record first_progress { bytes_left = batch_limit - end_size; vars = rpc_vars adds }
+calling = record first_progress { bytes_left = batch_limit - end_size; vars = rpc_vars (plain_errand adds) }
 
 abbrev told : List Token
 told = ReturnStatus (pos 7) ∷ ReturnValue 2 (codes "@n") Int (Whole (pos 1)) ∷ []
 
 -- it returns 7, and leaves 1 in @n
-adds_returned : Held (leaves_body adds added 0 (var (codes "@o") (Whole (pos 3)) ∷ var (codes "@q") (Whole (pos 5)) ∷ var (codes "@n") (Whole (pos 1)) ∷ []) (exit.Return (pos 7))) calling [] exit.On
+adds_returned : Held (leaves_body (plain_errand adds) added 0 (var (codes "@o") (Whole (pos 3)) ∷ var (codes "@q") (Whole (pos 5)) ∷ var (codes "@n") (Whole (pos 1)) ∷ []) (exit.Return (pos 7))) calling [] exit.On
     (record calling { tokens = told; bytes_left = batch_limit - end_size - size_of told; vars = var (0 ∷ []) (Whole (pos 3)) ∷ var (1 ∷ []) (Whole (pos 5)) ∷ var (2 ∷ []) (Whole (pos 1)) ∷ [] })
 unfolding Held ◌then◌ gives_call_back ends_exec assigns_all tokens_bytes
 adds_returned = (true, (refl, refl, refl))
 
 -- ---- calls that end before they begin
 
-abbrev behind : RpcCall → List Token → SessionProgress
+abbrev behind : Errand → List Token → SessionProgress
 behind call tokens = record first_progress { tokens = tokens; bytes_left = batch_limit - end_size - size_of tokens; statements_left = 999999; vars = rpc_vars call }
 
 -- sp_executesql without a statement
@@ -122,7 +121,7 @@ unmatched =
     ∷ Finished Proc 2 0 0
     ∷ []
 
-empty_held : Held (rpc empty (text.Statements [])) first_progress [] tt (record (behind empty unmatched) { error = pos 49012 })
+empty_held : Held (rpc (plain_errand empty) (text.Statements [])) first_progress [] tt (record (behind (plain_errand empty) unmatched) { error = pos 49012 })
 unfolding Held ◌then◌ rpc runs_rpc fails_call ended_by ends_rpc tokens_bytes table.row_of table.error_lines
 empty_held = (refl, refl, refl)
 
@@ -133,7 +132,7 @@ refused =
     ∷ Finished Proc 2 0 0
     ∷ []
 
-refused_held : Held (rpc selects (text.Refused (pos 1) 102 (codes "FROM"))) first_progress [] tt (behind selects refused)
+refused_held : Held (rpc (plain_errand selects) (text.Refused (pos 1) 102 (codes "FROM"))) first_progress [] tt (behind (plain_errand selects) refused)
 unfolding Held ◌then◌ rpc runs_rpc ends_rpc tokens_bytes table.row_of table.error_lines
 refused_held = (refl, refl, refl)
 
@@ -144,7 +143,7 @@ unknown =
     ∷ Finished Proc 2 0 0
     ∷ []
 
-unknown_held : Held (rpc adds (text.Refused (pos 1) 102 [])) first_progress [] tt (record (behind adds unknown) { error = pos 2812 })
+unknown_held : Held (rpc (plain_errand adds) (text.Refused (pos 1) 102 [])) first_progress [] tt (record (behind (plain_errand adds) unknown) { error = pos 2812 })
 unfolding Held ◌then◌ rpc runs_rpc fails_call ended_by ends_rpc tokens_bytes table.row_of table.error_lines
 unknown_held = (true, (refl, refl, refl))
 
@@ -165,8 +164,60 @@ abbrev nothing_called : Call
 nothing_called = record { procedure = nothing_read; values = Whole (pos 5) ∷ [] }
 
 abbrev nothing_begun : SessionProgress
-nothing_begun = record first_progress { bytes_left = batch_limit - end_size; statements_left = 999999; vars = rpc_vars nothing }
+nothing_begun = record first_progress { bytes_left = batch_limit - end_size; statements_left = 999999; vars = rpc_vars (plain_errand nothing) }
 
-nothing_held : Held (runs_exec (λ inner at. over exit.On) nothing nothing_called then ends_rpc) nothing_begun [] tt (behind nothing nothing_told)
+nothing_held : Held (runs_exec (λ inner at. over exit.On) (plain_errand nothing) nothing_called then ends_rpc) nothing_begun [] tt (behind (plain_errand nothing) nothing_told)
 unfolding Held ◌then◌ runs_exec runs_body each_of gives_call_back ends_exec ends_rpc assigns_all tokens_bytes
 nothing_held = (true, (refl, refl, refl))
+
+-- ---- errands that run no procedure
+
+-- with a handle that is told, as sp_prepare and sp_prepexec have it
+abbrev told_handle : RpcParameter
+told_handle = output [] (Whole (pos 3))
+
+abbrev handle_told : List Token
+handle_told = ReturnStatus (pos 0) ∷ ReturnValue 0 [] Int (Whole (pos 3)) ∷ Finished Proc 0 0 0 ∷ []
+
+-- the text reads, and that is told
+abbrev prepares : Errand
+prepares = record { way = way.Tells; parameters = told_handle ∷ sql [] ∷ sql (codes "SELECT 1") ∷ []; text = None }
+
+prepares_held : Held (rpc prepares (text.Statements [])) first_progress [] tt (behind prepares handle_told)
+unfolding Held ◌then◌ rpc runs_rpc ends_rpc tokens_bytes
+prepares_held = (refl, refl, refl)
+
+-- or it doesn't
+prepares_refused : Held (rpc prepares (text.Refused (pos 1) 102 (codes "FROM"))) first_progress [] tt (behind prepares refused)
+unfolding Held ◌then◌ rpc runs_rpc ends_rpc tokens_bytes table.row_of table.error_lines
+prepares_refused = (refl, refl, refl)
+
+-- a batch of nothing is run
+abbrev runs_none : Errand
+runs_none = record prepares { way = way.RunsBatch }
+
+runs_none_held : Held (rpc runs_none (text.Statements [])) first_progress [] tt (behind runs_none handle_told)
+unfolding Held ◌then◌ rpc runs_rpc ends_rpc each_of tokens_bytes
+runs_none_held = (refl, refl, refl)
+
+-- arguments that are none of the procedure's
+abbrev unmatches : Errand
+unmatches = record prepares { way = way.Unmatched }
+
+unmatches_held : Held (rpc unmatches (text.Statements [])) first_progress [] tt (record (behind unmatches unmatched) { error = pos 49012 })
+unfolding Held ◌then◌ rpc runs_rpc fails_call ended_by ends_rpc tokens_bytes table.row_of table.error_lines
+unmatches_held = (refl, refl, refl)
+
+-- a handle under which nothing is kept
+abbrev unkept : Errand
+unkept = record { way = way.Unknown (codes "7"); parameters = input [] (Whole (pos 7)) ∷ []; text = None }
+
+abbrev not_kept : List Token
+not_kept =
+    Error (record { number = pos 8179; state = 1; class = 16; text = codes "Could not find prepared statement with handle 7."; procedure = []; line = pos 1 })
+    ∷ Finished Proc 2 0 0
+    ∷ []
+
+unkept_held : Held (rpc unkept (text.Statements [])) first_progress [] tt (record (behind unkept not_kept) { error = pos 8179 })
+unfolding Held ◌then◌ rpc runs_rpc fails_call ended_by ends_rpc tokens_bytes table.row_of table.error_lines
+unkept_held = (true, (refl, refl, refl))

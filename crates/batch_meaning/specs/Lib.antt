@@ -18,3 +18,4 @@ pub mod Calls  -- finds_call, given_back: what a call runs, and what it gives ba
 pub mod Firing  -- leaves_fired: what becomes of a write by how its triggers end
 pub mod Meaning  -- batch: what statements ask, what they end, and what comes of the replies
 pub mod Rpc  -- rpc: what a call by RPC means, which is an EXEC by itself
+pub mod Drivers  -- taken: what a call of a driver is run as, and which statements are prepared behind it

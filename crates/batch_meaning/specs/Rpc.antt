@@ -1,7 +1,8 @@
 -- [MS-TDS] 2.2.6.6 and Transact-SQL reference, "EXECUTE" and "sp_executesql": what a call by RPC means. It is an EXEC that is a batch by itself, whose
 -- variables are the parameters of the request: the procedure is called with them, and they take what it gives back. What it sends
 -- tells them too, and ends with DONEPROC in the place of DONE; an error of the EXEC ends the call. The procedure is one that was created, or, for
--- sp_executesql, one that is read from the request and kept nowhere.
+-- sp_executesql, one that is read from the request and kept nowhere. Which it is the call's errand says, with the parameters and the text to be read;
+-- and other errands, which run a batch or nothing.
 use Rattle.std.specs.Prelude.{◌≡◌, ℕ, ℤ, pos, ◌==◌, ◌&&◌, not, Bool, true, false, nat_lt, if◌then◌else◌, List, [], ◌∷◌, ◌++◌, length, map, filter, drop, get_or, codes, Option, None, Some, Result, Ok, Err}
 use Rattle.std.specs.List.{enumerate_from}
 use Rattle.std.specs.Option.{option_map, option_and_then}
@@ -25,6 +26,9 @@ use Rattle.rpc_requests.specs.declared.call.RpcTarget.{RpcTarget}
 use Rattle.rpc_requests.specs.declared.call.RpcTarget.TheVariants.{Named, ExecuteSql}
 use Rattle.session_vars.specs.declared.Variable.{Variable}
 use Rattle.call_rules.specs.Arguments.{no_match}
+use Rattle.batch_meaning.specs.declared.errand.Errand.{Errand}
+use Rattle.batch_meaning.specs.declared.errand.Way.{Way}
+use Rattle.batch_meaning.specs.declared.errand.Way.TheVariants as way
 use Rattle.batch_meaning.specs.declared.exit.Exit.{Exit}
 use Rattle.batch_meaning.specs.declared.exit.Exit.TheVariants.{On, Return, Raise, RaiseUp, End}
 use Rattle.batch_meaning.specs.declared.failure.Failure.{Failure}
@@ -82,14 +86,10 @@ name_of (Named name) = name
 abbrev pub rpc_text : RpcCall → Option (List ℕ)
 rpc_text call = if is_sql call.target then sql_in call.parameters else Some (naming_text (name_of call.target))
 
--- where there is none, a text of no statements is read in its place
+-- What is read for an errand: where it has no text, one of no statements is read in its place.
 abbrev pub ReadsFor : Option (List ℕ) → ReadText → Type 0
 ReadsFor None read = read ≡ text.Statements []
 ReadsFor (Some units) read = ReadsAs units read
-
--- What is read for a call.
-abbrev pub ReadsCallAs : RpcCall → ReadText → Type 0
-ReadsCallAs call read = ReadsFor (rpc_text call) read
 
 -- the procedure that the text defines
 abbrev pub defined_in : ReadText → Option ProcedureTree
@@ -103,13 +103,29 @@ bare_name procedure = if length procedure.parameters == 0 && length procedure.bo
 abbrev pub object_in : ReadText → Option (List ℕ)
 object_in read = option_and_then bare_name (defined_in read)
 
+-- ---- how it is run
+
+-- how its procedure is found: of sp_executesql two parameters are not those of what is read
+abbrev pub plain_way : RpcTarget → Way
+plain_way target = if is_sql target then way.RunsRead 2 else way.LooksUp (name_of target)
+
+-- A call as it is run.
+abbrev pub plain_errand : RpcCall → Errand
+plain_errand call = record { way = plain_way call.target; parameters = call.parameters; text = rpc_text call }
+
+-- the parameters of what is run
+abbrev pub passed_by : {A : Type 0} → Way → List A → List A
+passed_by (way.LooksUp name) parameters = parameters
+passed_by (way.RunsRead own) parameters = drop own parameters
+passed_by other parameters = []
+
 -- ---- its variables and its arguments
 
 -- a parameter beside its place in the request, from 0
 abbrev pub Placed : Type 0
 Placed = ℕ × RpcParameter
 
-abbrev pub placed_in : RpcCall → List Placed
+abbrev pub placed_in : Errand → List Placed
 placed_in call = enumerate_from 0 call.parameters
 
 -- no text can name a variable by the one unit that is its place
@@ -119,11 +135,11 @@ variable_at place = place ∷ []
 abbrev pub rpc_var : Placed → Variable
 rpc_var placed = record { name = variable_at placed.0; kind = placed.1.kind; value = placed.1.value }
 
-abbrev pub is_too_many : RpcCall → Bool
+abbrev pub is_too_many : Errand → Bool
 is_too_many call = nat_lt max_variables (length call.parameters)
 
 -- A variable for each parameter, of its type and with its value. Of more than a batch may name there are none.
-abbrev pub rpc_vars : RpcCall → List Variable
+abbrev pub rpc_vars : Errand → List Variable
 rpc_vars call = if is_too_many call then [] else map rpc_var (placed_in call)
 
 -- an argument without a name stands by its place
@@ -138,25 +154,17 @@ rpc_argument placed = record { name = name_given placed.1.name; value = argument
 abbrev pub is_given : Placed → Bool
 is_given placed = not placed.1.missing
 
--- the parameters of the procedure: of sp_executesql those behind its own two
-abbrev pub passed_in : RpcCall → List Placed
-passed_in call = if is_sql call.target then drop 2 (placed_in call) else placed_in call
-
--- The variables of those that are given are its arguments, in their order.
-abbrev pub rpc_arguments : RpcCall → List Argument
-rpc_arguments call = map rpc_argument (filter is_given (passed_in call))
-
--- the parameters of its procedure
-abbrev pub own_parameters : RpcCall → List RpcParameter
-own_parameters call = if is_sql call.target then drop 2 call.parameters else call.parameters
+-- The variables of those that are given to what is run are its arguments, in their order.
+abbrev pub rpc_arguments : Errand → List Argument
+rpc_arguments call = map rpc_argument (filter is_given (passed_by call.way (placed_in call)))
 
 -- one without a name is given behind one that is not: no EXEC has it at its place
 abbrev pub skips : Bool → List RpcParameter → Bool
 skips behind [] = false
 skips behind (parameter ∷ rest) = if parameter.missing then skips true rest else if behind && length parameter.name == 0 then true else skips behind rest
 
-abbrev pub skips_place : RpcCall → Bool
-skips_place call = skips false (own_parameters call)
+abbrev pub skips_place : Errand → Bool
+skips_place call = skips false (passed_by call.way call.parameters)
 
 -- the EXEC of a procedure with these, at line 1
 abbrev pub rpc_statement : List ℕ → List Argument → Statement
@@ -199,11 +207,11 @@ return_value vars placed = ReturnValue placed.0 placed.1.name placed.1.kind (get
 abbrev pub is_output : Placed → Bool
 is_output placed = placed.1.output
 
-abbrev pub return_values : RpcCall → List Variable → List Token
+abbrev pub return_values : Errand → List Variable → List Token
 return_values call vars = map (return_value vars) (filter is_output (placed_in call))
 
 -- of a procedure that has returned: RETURNSTATUS, and what each OUTPUT parameter is
-abbrev pub returned : RpcCall → List Variable → ℤ → List Token
+abbrev pub returned : Errand → List Variable → ℤ → List Token
 returned call vars status = ReturnStatus status ∷ return_values call vars
 
 -- they fit into what the call may still send
@@ -221,21 +229,41 @@ abbrev pub returns_by : ℕ → List Token → Raised → Doing Exit
 returns_by count tokens raised = reads λ p. if p.txn.count == count then tells_returned (pos 0) tokens (over On)
     else returns_uneven tokens raised (action_in around_batch p.settings.xact_abort raised)
 
-unfoldable pub ends_exec : RpcCall → ℕ → ℤ → Doing Exit
+unfoldable pub ends_exec : Errand → ℕ → ℤ → Doing Exit
 ends_exec call count status = reads λ p. returns_by count (returned call p.vars status) (raised_at (pos 1) (plain uneven))
 
 -- what the procedure gives back is assigned first
-unfoldable pub gives_call_back : RpcCall → Call → ℕ → List Variable → ℤ → Doing Exit
+unfoldable pub gives_call_back : Errand → Call → ℕ → List Variable → ℤ → Doing Exit
 gives_call_back call of count inner status = (reads λ p. comes_to (given_back p.vars None (rpc_arguments call) of status inner)) then λ came.
     goes_on_with (λ sets. assigns_all sets (ends_exec call count status)) came
 
 -- by how its body was left; an error that nothing in it caught has ended the call
-abbrev pub leaves_body : RpcCall → Call → ℕ → List Variable → Exit → Doing Exit
+abbrev pub leaves_body : Errand → Call → ℕ → List Variable → Exit → Doing Exit
 leaves_body call of count inner (Raise raised) = makes (tells_rows 0) (over End)
 leaves_body call of count inner (RaiseUp raised) = makes (tells_rows 0) (over End)
 leaves_body call of count inner End = makes (tells_rows 0) (over End)
 leaves_body call of count inner (Return status) = gives_call_back call of count inner status
 leaves_body call of count inner exit = gives_call_back call of count inner (pos 0)
+
+-- ---- where no procedure is run
+
+-- it is told that all went well, as of a procedure that has returned 0
+abbrev pub tells_well : Errand → Doing Exit
+tells_well call = reads λ p. tells_returned (pos 0) (returned call p.vars (pos 0)) (over On)
+
+-- where the text reads
+abbrev pub tells_unless : Errand → ReadText → Doing Exit
+tells_unless call (text.Refused line code near) = runs_text (text.Refused line code near)
+tells_unless call read = tells_well call
+
+-- behind a batch that has come to its end
+abbrev pub behind_batch : Errand → Exit → Doing Exit
+behind_batch call On = tells_well call
+behind_batch call exit = over exit
+
+-- nothing is kept under a handle
+abbrev pub no_statement : ℕ
+no_statement = 8179
 
 -- ---- its end
 
@@ -258,37 +286,44 @@ binds_call statement arguments procedure = with_room (do
 abbrev pub binds_within : Statement → List Argument → ProcedureTree → Doing (Result Call Failure)
 binds_within statement arguments procedure = if is_odd_procedure procedure then over (Err (plain outside_limits)) else binds_call statement arguments procedure
 
--- the procedure of a name is looked up and bound as by an EXEC
-abbrev pub finds_named : RpcCall → Option (List ℕ) → Doing (Result Call Failure)
-finds_named call None = fails_naming no_procedure (name_of call.target)
-finds_named call (Some name) = finds_call around_batch (rpc_statement name (rpc_arguments call)) None name (rpc_arguments call)
+-- the procedure of a name is looked up and bound as by an EXEC, where that is an object's
+abbrev pub finds_named : Errand → List ℕ → Option (List ℕ) → Doing (Result Call Failure)
+finds_named call name None = fails_naming no_procedure name
+finds_named call name (Some object) = finds_call around_batch (rpc_statement object (rpc_arguments call)) None object (rpc_arguments call)
 
 -- that of sp_executesql is what was read
-abbrev pub finds_read : RpcCall → Option ProcedureTree → Doing (Result Call Failure)
+abbrev pub finds_read : Errand → Option ProcedureTree → Doing (Result Call Failure)
 finds_read call None = over (Err mismatch)
 finds_read call (Some procedure) = binds_within (rpc_statement procedure.name (rpc_arguments call)) (rpc_arguments call) procedure
 
 -- by the meaning of the statements of its procedure
 module _ (one : Statement → Meaning) where
-  unfoldable pub runs_exec : RpcCall → Call → Doing Exit
+  unfoldable pub runs_exec : Errand → Call → Doing Exit
   runs_exec call of = reads λ p.
       runs_body one (call_vars of) (λ settings. settings) of.procedure.body (in_body of.procedure.name None around_batch) then λ came.
       leaves_body call of p.txn.count came.1 came.0
 
-  abbrev pub execs : RpcCall → Doing (Result Call Failure) → Doing Exit
+  abbrev pub execs : Errand → Doing (Result Call Failure) → Doing Exit
   execs call finds = finds then λ found. goes_on_with (runs_exec call) found
 
   -- a text of sp_executesql that is refused is so as that of a batch
-  abbrev pub runs_sql : RpcCall → ReadText → Doing Exit
+  abbrev pub runs_sql : Errand → ReadText → Doing Exit
   runs_sql call (text.Refused line code near) = runs_text (text.Refused line code near)
   runs_sql call read = execs call (finds_read call (defined_in read))
 
-  unfoldable pub runs_rpc : RpcCall → ReadText → Doing Exit
+  abbrev pub runs_way : Errand → ReadText → Way → Doing Exit
+  runs_way call read (way.LooksUp name) = execs call (finds_named call name (object_in read))
+  runs_way call read (way.RunsRead own) = runs_sql call read
+  runs_way call read way.RunsBatch = runs_text read then behind_batch call
+  runs_way call read way.Tells = tells_unless call read
+  runs_way call read way.Unmatched = fails_call mismatch
+  runs_way call read (way.Unknown handle) = execs call (fails_naming no_statement handle)
+
+  unfoldable pub runs_rpc : Errand → ReadText → Doing Exit
   runs_rpc call read = if is_too_many call then fails_call (plain outside_limits)
       else if skips_place call then fails_call mismatch
-      else if is_sql call.target then runs_sql call read
-      else execs call (finds_named call (object_in read))
+      else runs_way call read call.way
 
 -- A call, whose text is read so: an EXEC, which counts as a statement that begins, and its end.
-unfoldable pub rpc : RpcCall → ReadText → Doing (Unit {0})
+unfoldable pub rpc : Errand → ReadText → Doing (Unit {0})
 rpc call read = makes (begins (rpc_vars call)) (makes counts (runs_rpc (λ inner at. mean_of statement_limit inner at) call read then ends_rpc))

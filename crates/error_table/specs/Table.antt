@@ -63,6 +63,7 @@ error_lines =
     ∷ line 8115 16 S Y (codes "Arithmetic overflow error.")
     ∷ line 8120 16 B L (codes "Column '{name}' is neither aggregated nor grouped.")
     ∷ line 8134 16 S Y (codes "Divide by zero error encountered.")
+    ∷ line 8179 16 S Y (codes "Could not find prepared statement with handle {name}.")
     ∷ line 16905 16 S Y (codes "The cursor is already open.")
     ∷ line 16915 16 S Y (codes "A cursor with the name '{name}' already exists.")
     ∷ line 16916 16 S Y (codes "A cursor with the name '{name}' does not exist.")

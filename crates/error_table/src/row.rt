@@ -64,7 +64,7 @@ macro_rules! rows {
 }
 
 /// The table, in the order of the numbers.
-const ERRORS: [ErrorRow; 56] = rows! {
+const ERRORS: [ErrorRow; 57] = rows! {
     102 15 Batch LevelUp "Incorrect syntax near '{near}'.",
     116 16 Batch LevelUp "Only one item is allowed in this subquery.",
     137 15 Batch LevelUp "Must declare the scalar variable \"{name}\".",
@@ -102,6 +102,7 @@ const ERRORS: [ErrorRow; 56] = rows! {
     8115 16 Statement Yes "Arithmetic overflow error.",
     8120 16 Batch LevelUp "Column '{name}' is neither aggregated nor grouped.",
     8134 16 Statement Yes "Divide by zero error encountered.",
+    8179 16 Statement Yes "Could not find prepared statement with handle {name}.",
     16905 16 Statement Yes "The cursor is already open.",
     16915 16 Statement Yes "A cursor with the name '{name}' already exists.",
     16916 16 Statement Yes "A cursor with the name '{name}' does not exist.",
