@@ -10,7 +10,7 @@ use Rattle.batch_meaning.specs.Failures.{plain}
 use Rattle.batch_meaning.specs.Meaning.{batch, doomed_at_end, ends, ends_doomed, has_failed, mean_of, rolls_back_doomed, rolls_back_told, runs_text, tells_end, vars_in_text}
 use Rattle.batch_meaning.specs.Progress.{SessionProgress, begins, counts, made, sends, statement_limit}
 use Rattle.batch_meaning.specs.Raised.{error_token, raised_at}
-use Rattle.batch_meaning.specs.Rpc.{ends_rpc, ends_rpc_doomed, rpc, rpc_text, rpc_vars, runs_rpc}
+use Rattle.batch_meaning.specs.Rpc.{ends_rpc, ends_rpc_doomed, rpc, rpc_vars, runs_rpc}
 use Rattle.batch_meaning.specs.Tokens.{batch_done, rpc_done}
 use Rattle.statement_paths.proofs.Apart.{held_apart}
 use Rattle.cause_laws.proofs.UsualValues.{Anything, read_usual}
@@ -113,5 +113,5 @@ calls_end call read old new exchanges reads_so held =
     let begun = made counts (made (begins (rpc_vars call)) old) in
     let runs = runs_rpc (λ inner at. mean_of statement_limit inner at) call read in
     let on = held_apart runs ends_rpc begun new exchanges tt held in
-    let first = held_more (LeavesBy end_watch) statement_limit runs begun on.mid on.front on.came (clean_call_of end_watch call read (called_usual (rpc_text call) read reads_so)) on.held in
+    let first = held_more (LeavesBy end_watch) statement_limit runs begun on.mid on.front on.came (clean_call_of end_watch call read (called_usual call.text read reads_so)) on.held in
     ends_with rpc_done begun on.mid new refl first (ending rpc_done on.mid new on.back on.came on.rest)

@@ -3,7 +3,7 @@ use Rattle.std.proofs.Common.{◌≡◌, refl, sym, subst, ℤ, pos, true, false
 use Rattle.batch_meaning.specs.Doing.{◌then◌}
 use Rattle.batch_meaning.specs.Meaning.{batch, ends, mean_of, runs_text, vars_in_text}
 use Rattle.batch_meaning.specs.Progress.{begins, counts, made, statement_limit}
-use Rattle.batch_meaning.specs.Rpc.{ends_rpc, rpc, rpc_text, rpc_vars, runs_rpc}
+use Rattle.batch_meaning.specs.Rpc.{ends_rpc, rpc, rpc_vars, runs_rpc}
 use Rattle.cause_laws.proofs.Usual.{IsUsual, differs, no_deadlock, no_timeout, no_want}
 use Rattle.cause_laws.proofs.UsualValues.{Anything, read_usual}
 use Rattle.cause_laws.proofs.Watch.{LeavesBy, Watch}
@@ -71,5 +71,5 @@ pub ample_calls : AmpleCalls
 unfolding rpc Ample
 ample_calls call read old new exchanges reads_so none ample =
     let came = ample_clean refusal_watch {A = Unit {0}} Anything statement_limit (runs_rpc (λ inner at. mean_of statement_limit inner at) call read then ends_rpc) (made counts (made (begins (rpc_vars call)) old)) new exchanges tt refl (λ few q. tt)
-    (clean_whole_call refusal_watch (λ failed. tt) call read (called_usual (rpc_text call) read reads_so)) none ample in
+    (clean_whole_call refusal_watch (λ failed. tt) call read (called_usual call.text read reads_so)) none ample in
     subst (TellsOnly IsNoRefusal) (sym came.1.1) (tells_only refusal_watch came.1.0 came.1.2)

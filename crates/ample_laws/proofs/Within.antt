@@ -7,7 +7,7 @@ use Rattle.batch_meaning.specs.declared.raised.Raised.{Raised}
 use Rattle.batch_meaning.specs.Doing.{Doing, Held, over, reads, makes, defines, asks, room, never, ◌then◌}
 use Rattle.batch_meaning.specs.Meaning.{batch, ends, mean_of, runs_text, vars_in_text}
 use Rattle.batch_meaning.specs.Progress.{SessionProgress, SessionStep, asked, begins, counts, made, statement_limit}
-use Rattle.batch_meaning.specs.Rpc.{ends_rpc, rpc, rpc_text, rpc_vars, runs_rpc}
+use Rattle.batch_meaning.specs.Rpc.{ends_rpc, rpc, rpc_vars, runs_rpc}
 use Rattle.cause_laws.proofs.Usual.{differs, no_spending}
 use Rattle.cause_laws.proofs.UsualValues.{Anything, read_usual}
 use Rattle.cause_laws.proofs.Watch.{CaughtBy, LeavesBy, Watch}
@@ -147,7 +147,7 @@ batches_within text read old new exchanges reads_so some held =
 pub calls_within : CallsWithin
 unfolding rpc Held
 calls_within call read old new exchanges reads_so some held =
-    let usual = called_usual (rpc_text call) read reads_so in
+    let usual = called_usual call.text read reads_so in
     let came = held_within {A = Unit {0}} Anything Anything statement_limit (runs_rpc (λ inner at. mean_of statement_limit inner at) call read then ends_rpc) (made counts (made (begins (rpc_vars call)) old)) new exchanges tt
     (clean_whole_call free_watch (λ failed. tt) call read usual) (clean_whole_call limit_watch (λ failed. tt) call read usual) (fewer_le statement_limit) some held in
     subst (TellsOnly IsNoLimit) (sym came.1.1) (tells_only limit_watch came.1.0 came.1.2)

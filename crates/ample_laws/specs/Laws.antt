@@ -4,14 +4,14 @@ use Rattle.std.specs.Prelude.{◌≡◌, ◌≢◌, ◌≤◌, ℕ, List, ◌++�
 use Rattle.tsql_tree.specs.declared.statement.Statement.{Statement}
 use Rattle.step_model.specs.Exchange.{Exchange}
 use Rattle.tds_tokens.specs.declared.token.Token.{Token}
-use Rattle.rpc_requests.specs.declared.call.RpcCall.{RpcCall}
+use Rattle.batch_meaning.specs.declared.errand.Errand.{Errand}
 use Rattle.batch_meaning.specs.declared.exit.Exit.{Exit}
 use Rattle.batch_meaning.specs.declared.form.ReadText.{ReadText}
 use Rattle.batch_meaning.specs.Doing.{Doing, Held}
 use Rattle.batch_meaning.specs.Meaning.{batch, mean_of}
 use Rattle.batch_meaning.specs.Progress.{SessionProgress}
 use Rattle.batch_meaning.specs.Raised.{Around}
-use Rattle.batch_meaning.specs.Rpc.{ReadsCallAs, rpc}
+use Rattle.batch_meaning.specs.Rpc.{ReadsFor, rpc}
 use Rattle.batch_meaning.specs.Statements.{ReadsAs}
 use Rattle.batch_meaning.specs.Tokens.{batch_done, rpc_done}
 use Rattle.ample_laws.specs.Ample.{Ample, NoneRefused}
@@ -42,8 +42,8 @@ AmpleBatches = (text : List ℕ) (read : ReadText) (old new : SessionProgress) (
 
 -- Nor does such a call by RPC.
 abbrev pub AmpleCalls : Type 0
-AmpleCalls = (call : RpcCall) (read : ReadText) (old new : SessionProgress) (exchanges : List Exchange)
-    → ReadsCallAs call read → NoneRefused exchanges → Ample (rpc call read) old exchanges tt new → TellsOnly IsNoRefusal new.tokens
+AmpleCalls = (call : Errand) (read : ReadText) (old new : SessionProgress) (exchanges : List Exchange)
+    → ReadsFor call.text read → NoneRefused exchanges → Ample (rpc call read) old exchanges tt new → TellsOnly IsNoRefusal new.tokens
 
 -- ---- whole responses
 
@@ -54,8 +54,8 @@ BatchesEnd = (text : List ℕ) (read : ReadText) (old new : SessionProgress) (ex
 
 -- A call by RPC has sent its last DONEPROC.
 abbrev pub CallsEnd : Type 0
-CallsEnd = (call : RpcCall) (read : ReadText) (old new : SessionProgress) (exchanges : List Exchange)
-    → ReadsCallAs call read → Held (rpc call read) old exchanges tt new → EndsWith rpc_done new.tokens
+CallsEnd = (call : Errand) (read : ReadText) (old new : SessionProgress) (exchanges : List Exchange)
+    → ReadsFor call.text read → Held (rpc call read) old exchanges tt new → EndsWith rpc_done new.tokens
 
 -- ---- the limit of statements
 
@@ -72,5 +72,5 @@ BatchesWithin = (text : List ℕ) (read : ReadText) (old new : SessionProgress) 
 
 -- Nor does a call by RPC behind which some are.
 abbrev pub CallsWithin : Type 0
-CallsWithin = (call : RpcCall) (read : ReadText) (old new : SessionProgress) (exchanges : List Exchange)
-    → ReadsCallAs call read → new.statements_left ≢ 0 → Held (rpc call read) old exchanges tt new → TellsOnly IsNoLimit new.tokens
+CallsWithin = (call : Errand) (read : ReadText) (old new : SessionProgress) (exchanges : List Exchange)
+    → ReadsFor call.text read → new.statements_left ≢ 0 → Held (rpc call read) old exchanges tt new → TellsOnly IsNoLimit new.tokens

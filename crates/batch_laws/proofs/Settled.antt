@@ -2,7 +2,6 @@
 use Rattle.std.proofs.Common.{◌≡◌, ◌⊎◌, inl, inr, ℕ, zero, suc, ◌+◌, ◌-◌, ℤ, pos, ◌==◌, not, Bool, true, false, if◌then◌else◌, is_ok, List, [], ◌∷◌, Option, None, Some, Result, Ok, Err, refl, sym, ap, ◌∙◌, subst, arith}
 use Rattle.std.specs.Prelude.{◌&&◌, ◌||◌, min, nat_le, nat_lt}
 use Rattle.std.proofs.lemmas.Bool.{eqb-false, ne_eqb}
-use Rattle.rpc_requests.specs.declared.call.RpcCall.{RpcCall}
 use Rattle.tsql_tree.specs.declared.definition.ProcedureTree.{ProcedureTree}
 use Rattle.tsql_tree.specs.declared.definition.Definition.{Definition}
 use Rattle.tsql_tree.specs.declared.definition.Definition.TheVariants.{Table, Procedure, Trigger}
@@ -36,6 +35,9 @@ use Rattle.txn_rules.specs.declared.state.TxnState.{TxnState}
 use Rattle.txn_rules.specs.State.{after_begin, after_commit, after_end, after_fire, after_fired, after_save, commit_answer, is_closed, save_refusal, serial_limit}
 use Rattle.tds_tokens.specs.Numbers.{command_none}
 use Rattle.tds_tokens.specs.declared.token.Token.{Token}
+use Rattle.batch_meaning.specs.declared.errand.Errand.{Errand}
+use Rattle.batch_meaning.specs.declared.errand.Way.{Way}
+use Rattle.batch_meaning.specs.declared.errand.Way.TheVariants as way
 use Rattle.batch_meaning.specs.declared.exit.Exit.{Exit}
 use Rattle.batch_meaning.specs.declared.exit.Exit.TheVariants.{On, Leave, Again, Return, Raise, RaiseUp, End}
 use Rattle.batch_meaning.specs.declared.failure.Failure.{Failure}
@@ -55,7 +57,7 @@ use Rattle.batch_meaning.specs.Doing.{Doing, asks, makes, over, reads, ◌then�
 use Rattle.batch_meaning.specs.Failures.{plain}
 use Rattle.batch_meaning.specs.Firing.{closes_own, has_mark, in_trigger, leaves_fired, relaxes_then, settles, trigger_end, undone_to}
 use Rattle.batch_meaning.specs.Meaning.{Meaning, batch, branch, calls, caught_as, concluded, concludes, counted, decides, defined, defines_object, does, doomed_write, each_of, effect_of, ended_by, ends, ends_call, ends_doomed, ends_even, ends_uneven, ends_uneven_as, fails_for, fires, gives_back, goes_on, handled, has_failed, is_refused_doomed, leaves_rows, line_of, mean_by, mean_form, mean_of, or_full, raises, raises_again, raises_at, raises_or_tells, returns_from, rolls_back_doomed, rolls_back_told, runs_body, runs_call, runs_fired, runs_text, runs_trigger, runs_triggers, sends_some, set_by, sets_option, spends, strikes, succeeds, tells, tells_behind, tells_end, told_as, told_unless_own, tries, turned, turns, turns_again, uneven_end, uneven_tokens, unless_stopped, way_of, where_it_fits, writes, written}
-use Rattle.batch_meaning.specs.Rpc.{binds_call, defined_in, ending, ends_exec, ends_rpc, ends_rpc_doomed, error_or_full, execs, fails_call, finds_named, finds_read, gives_call_back, goes_on_with, is_sql, is_too_many, leaves_body, mismatch, name_of, object_in, returned, returns_uneven, rpc, rpc_arguments, rpc_statement, runs_exec, runs_rpc, runs_sql, skips_place, tells_returned}
+use Rattle.batch_meaning.specs.Rpc.{behind_batch, binds_call, defined_in, ending, ends_exec, ends_rpc, ends_rpc_doomed, error_or_full, execs, fails_call, finds_named, finds_read, gives_call_back, goes_on_with, is_too_many, leaves_body, mismatch, no_statement, object_in, returned, returns_uneven, rpc, rpc_arguments, rpc_statement, runs_exec, runs_rpc, runs_sql, runs_way, skips_place, tells_returned, tells_unless, tells_well}
 use Rattle.batch_meaning.specs.Progress.{SessionProgress, SessionStep, after_doom, asked, assigns, begins, closes_one, counts, declares, dooms, fetches, fills, fired_from, fires_from, made, opens, removes, saves, sends, sets, shuts, size_of, stands_with, statement_limit, tells_error, tells_fetch, tells_rows, touches}
 use Rattle.batch_meaning.specs.Raised.{Around, action_in, around_batch, in_body, in_catch, in_try, is_caught_in, raised_at, raised_in}
 use Rattle.batch_meaning.specs.Selecting.{Effect, bound_over, no_effect, not_bound_so, result_full, sending}
@@ -891,7 +893,7 @@ returned_settles : (number : ℤ) (tokens : List Token) (next : Doing Exit) → 
 returned_settles number tokens next more = reads_settles _ (λ p. if_settles (nat_lt p.bytes_left (size_of tokens)) (fails_call (plain result_full)) (makes (tells_rows 0) (makes (tells_error number) (makes (sends tokens) next))) (call_fails (plain result_full))
     (makes_settles (tells_rows 0) _ tt (makes_settles (tells_error number) _ tt (makes_settles (sends tokens) next tt more))))
 
-exec_ends : (call : RpcCall) (count : ℕ) (status : ℤ) → Settles (ends_exec call count status)
+exec_ends : (call : Errand) (count : ℕ) (status : ℤ) → Settles (ends_exec call count status)
 unfolding ends_exec
 exec_ends call count status = reads_settles _ (λ p. reads_settles _ (λ q.
     if_settles (q.txn.count == count) (tells_returned (pos 0) (returned call p.vars status) (over On)) (returns_uneven (returned call p.vars status) raised (action_in around_batch q.settings.xact_abort raised))
@@ -901,13 +903,13 @@ exec_ends call count status = reads_settles _ (λ p. reads_settles _ (λ q.
     raised : Raised
     raised = raised_at (pos 1) (plain uneven)
 
-gives_call_settles : (call : RpcCall) (of : Call) (count : ℕ) (inner : List Variable) (status : ℤ) → Settles (gives_call_back call of count inner status)
+gives_call_settles : (call : Errand) (of : Call) (count : ℕ) (inner : List Variable) (status : ℤ) → Settles (gives_call_back call of count inner status)
 unfolding gives_call_back
 gives_call_settles call of count inner status = with_settles {A = List Assigned} (λ sets. assigns_all sets (ends_exec call count status)) (reads λ p. comes_to (given_back p.vars None (rpc_arguments call) of status inner))
     (calm_settles (reads λ p. comes_to (given_back p.vars None (rpc_arguments call) of status inner)) (λ p. only_comes IsSteadyStep IsInside (given_back p.vars None (rpc_arguments call) of status inner)))
     (λ assigned. sets_settles assigned (ends_exec call count status) (exec_ends call count status))
 
-leaves_settle : (call : RpcCall) (of : Call) (count : ℕ) (inner : List Variable) (exit : Exit) → Settles (leaves_body call of count inner exit)
+leaves_settle : (call : Errand) (of : Call) (count : ℕ) (inner : List Variable) (exit : Exit) → Settles (leaves_body call of count inner exit)
 leaves_settle call of count inner (Raise raised) = makes_settles (tells_rows 0) (over End) tt (over_settles End)
 leaves_settle call of count inner (RaiseUp raised) = makes_settles (tells_rows 0) (over End) tt (over_settles End)
 leaves_settle call of count inner End = makes_settles (tells_rows 0) (over End) tt (over_settles End)
@@ -916,7 +918,7 @@ leaves_settle call of count inner On = gives_call_settles call of count inner (p
 leaves_settle call of count inner Leave = gives_call_settles call of count inner (pos 0)
 leaves_settle call of count inner Again = gives_call_settles call of count inner (pos 0)
 
-module _ (p0 : SessionProgress) (call : RpcCall) where
+module _ (p0 : SessionProgress) (call : Errand) where
   exec_settles : (of : Call) → Settles (runs_exec (λ inner at. mean_of statement_limit inner at) call of)
   unfolding runs_exec
   exec_settles of = reads_settles _ (λ p. then_settles (runs_body (λ inner at. mean_of statement_limit inner at) (call_vars of) (λ settings. settings) of.procedure.body (in_body of.procedure.name None around_batch)) _
@@ -926,9 +928,12 @@ module _ (p0 : SessionProgress) (call : RpcCall) where
   execs_settle : (finds : Doing (Result Call Failure)) → Settles finds → Settles (execs (λ inner at. mean_of statement_limit inner at) call finds)
   execs_settle finds settles = with_settles {A = Call} (runs_exec (λ inner at. mean_of statement_limit inner at) call) finds settles exec_settles
 
-  named_settles : (name : Option (List ℕ)) → Settles (finds_named call name)
-  named_settles None = calm_settles (fails_naming {A = Call} no_procedure (name_of call.target)) (only_naming IsSteadyStep IsInside Call no_procedure (name_of call.target))
-  named_settles (Some name) = calls_settle around_batch p0 (rpc_statement name (rpc_arguments call)) None name (rpc_arguments call)
+  naming_settles : (number : ℕ) (name : List ℕ) → Settles (fails_naming {A = Call} number name)
+  naming_settles number name = calm_settles (fails_naming {A = Call} number name) (only_naming IsSteadyStep IsInside Call number name)
+
+  named_settles : (name : List ℕ) (object : Option (List ℕ)) → Settles (finds_named call name object)
+  named_settles name None = naming_settles no_procedure name
+  named_settles name (Some object) = calls_settle around_batch p0 (rpc_statement object (rpc_arguments call)) None object (rpc_arguments call)
 
   read_settles : (procedure : Option ProcedureTree) → Settles (finds_read call procedure)
   unfolding binds_call
@@ -942,12 +947,35 @@ module _ (p0 : SessionProgress) (call : RpcCall) where
   sql_settles (text.Defines line of units) = execs_settle (finds_read call (defined_in (text.Defines line of units))) (read_settles (defined_in (text.Defines line of units)))
   sql_settles (text.Refused line code near) = text_settles p0 (text.Refused line code near)
 
+  well_settles : Settles (tells_well call)
+  well_settles = reads_settles _ (λ p. returned_settles (pos 0) (returned call p.vars (pos 0)) (over On) (over_settles On))
+
+  unless_settles : (read : ReadText) → Settles (tells_unless call read)
+  unless_settles (text.Statements statements) = well_settles
+  unless_settles (text.Defines line of units) = well_settles
+  unless_settles (text.Refused line code near) = text_settles p0 (text.Refused line code near)
+
+  behind_settles : (exit : Exit) → Settles (behind_batch call exit)
+  behind_settles On = well_settles
+  behind_settles Leave = over_settles Leave
+  behind_settles Again = over_settles Again
+  behind_settles (Return status) = over_settles (Return status)
+  behind_settles (Raise raised) = over_settles (Raise raised)
+  behind_settles (RaiseUp raised) = over_settles (RaiseUp raised)
+  behind_settles End = over_settles End
+
+  way_settles : (read : ReadText) (of : Way) → Settles (runs_way (λ inner at. mean_of statement_limit inner at) call read of)
+  way_settles read (way.LooksUp name) = execs_settle (finds_named call name (object_in read)) (named_settles name (object_in read))
+  way_settles read (way.RunsRead own) = sql_settles read
+  way_settles read way.RunsBatch = then_settles (runs_text read) (behind_batch call) (text_settles p0 read) behind_settles
+  way_settles read way.Tells = unless_settles read
+  way_settles read way.Unmatched = call_fails mismatch
+  way_settles read (way.Unknown handle) = execs_settle (fails_naming {A = Call} no_statement handle) (naming_settles no_statement handle)
+
   rpc_settles : (read : ReadText) → Settles (runs_rpc (λ inner at. mean_of statement_limit inner at) call read)
   unfolding runs_rpc
   rpc_settles read = if_settles (is_too_many call) (fails_call (plain outside_limits)) _ (call_fails (plain outside_limits))
-      (if_settles (skips_place call) (fails_call mismatch) _ (call_fails mismatch)
-      (if_settles (is_sql call.target) (runs_sql (λ inner at. mean_of statement_limit inner at) call read) (execs (λ inner at. mean_of statement_limit inner at) call (finds_named call (object_in read)))
-      (sql_settles read) (execs_settle (finds_named call (object_in read)) (named_settles (object_in read)))))
+      (if_settles (skips_place call) (fails_call mismatch) _ (call_fails mismatch) (way_settles read call.way))
 
 rpc_ends_sound : (exit : Exit) (p new : SessionProgress) (exchanges : List Exchange) (done : Unit {0}) → IsSteady p → Held (ends_rpc exit) p exchanges done new → IsSteady new × (new.txn.doomed ≡ false)
 unfolding ends_rpc ends_rpc_doomed

@@ -4,7 +4,7 @@ use Rattle.std.specs.Prelude.{◌≡◌, ℕ, true, false, List}
 use Rattle.tsql_tree.specs.declared.statement.Statement.{Statement}
 use Rattle.step_model.specs.Exchange.{Exchange}
 use Rattle.txn_rules.specs.State.{is_closed}
-use Rattle.rpc_requests.specs.declared.call.RpcCall.{RpcCall}
+use Rattle.batch_meaning.specs.declared.errand.Errand.{Errand}
 use Rattle.batch_meaning.specs.declared.exit.Exit.{Exit}
 use Rattle.batch_meaning.specs.declared.form.ReadText.{ReadText}
 use Rattle.batch_meaning.specs.Doing.{Held}
@@ -28,7 +28,7 @@ BatchSettles = (read : ReadText) (old new : SessionProgress) (exchanges : List E
 
 -- so does each call by RPC
 abbrev pub CallSettles : Type 0
-CallSettles = (call : RpcCall) (read : ReadText) (old new : SessionProgress) (exchanges : List Exchange) → IsSteady old → Held (rpc call read) old exchanges tt new → IsSteady new × (new.txn.doomed ≡ false)
+CallSettles = (call : Errand) (read : ReadText) (old new : SessionProgress) (exchanges : List Exchange) → IsSteady old → Held (rpc call read) old exchanges tt new → IsSteady new × (new.txn.doomed ≡ false)
 
 -- where none is open then, the session is idle
 abbrev pub SteadyIdle : Type 0

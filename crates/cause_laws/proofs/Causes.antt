@@ -2,7 +2,6 @@
 -- all that is looked for.
 use Rattle.std.proofs.Common.{◌≡◌, refl, sym, subst, ℕ, zero, suc, ℤ, pos, List, [], ◌∷◌, Option, Some, None, Bool, true, false, Result, Ok, Err, cond, filter, is_ok, if◌then◌else◌, map, ◌==◌}
 use Rattle.std.specs.Prelude.{◌&&◌, nat_le, nat_lt}
-use Rattle.rpc_requests.specs.declared.call.RpcCall.{RpcCall}
 use Rattle.tsql_tree.specs.declared.definition.Definition.{Definition}
 use Rattle.tsql_tree.specs.declared.definition.Definition.TheVariants.{Procedure}
 use Rattle.tsql_tree.specs.declared.definition.ProcedureTree.{ProcedureTree}
@@ -25,6 +24,9 @@ use Rattle.txn_rules.specs.State.{is_closed}
 use Rattle.tds_tokens.specs.Numbers.{command_none}
 use Rattle.tds_tokens.specs.declared.token.DoneKind.{DoneKind}
 use Rattle.tds_tokens.specs.declared.token.Token.{Token}
+use Rattle.batch_meaning.specs.declared.errand.Errand.{Errand}
+use Rattle.batch_meaning.specs.declared.errand.Way.{Way}
+use Rattle.batch_meaning.specs.declared.errand.Way.TheVariants as way
 use Rattle.batch_meaning.specs.declared.exit.Exit.{Exit}
 use Rattle.batch_meaning.specs.declared.exit.Exit.TheVariants.{On, Leave, Again, Return, Raise, RaiseUp, End}
 use Rattle.batch_meaning.specs.declared.failure.Failure.{Failure}
@@ -36,14 +38,14 @@ use Rattle.batch_meaning.specs.declared.raised.Raised.{Raised}
 use Rattle.batch_meaning.specs.declared.settings.Settings.{Settings}
 use Rattle.batch_meaning.specs.declared.stop.Stop.{Stop}
 use Rattle.batch_meaning.specs.declared.stop.Stop.TheVariants.{Failed, Left}
-use Rattle.batch_meaning.specs.Asking.{assigns_all, comes_to, where_done, where_ended}
+use Rattle.batch_meaning.specs.Asking.{assigns_all, comes_to, fails_naming, where_done, where_ended}
 use Rattle.batch_meaning.specs.Calls.{Call, call_over, call_vars, depth_limit, finds_call, given_back, no_procedure, too_deep, uneven}
 use Rattle.batch_meaning.specs.Cursors.{closes_cursor, declares_cursor, fetches_cursor, opens_cursor, removes_cursor}
 use Rattle.batch_meaning.specs.Doing.{Doing, asks, makes, over, reads, ◌then◌, Held}
 use Rattle.batch_meaning.specs.Failures.{plain}
 use Rattle.batch_meaning.specs.Firing.{closes_own, ended_in_trigger, doomed_in_trigger, has_mark, in_trigger, leaves_fired, relaxes_then, settles, trigger_end, undone_to}
 use Rattle.batch_meaning.specs.Meaning.{Meaning, batch, branch, calls, caught_as, concluded, concludes, counted, decides, defined, defines_object, does, doomed_write, each_of, effect_of, ended_by, ends, ends_call, ends_doomed, ends_even, ends_uneven, ends_uneven_as, fails_for, fires, gives_back, goes_on, handled, has_failed, is_refused_doomed, leaves_rows, line_of, mean_by, mean_form, mean_of, or_full, raises, raises_again, raises_at, raises_or_tells, returns_from, rolls_back_told, runs_body, runs_call, runs_fired, runs_text, runs_trigger, runs_triggers, sends_some, set_by, sets_option, spends, statements_spent, strikes, succeeds, tells, told_as, told_tokens, told_unless_own, tries, turned, turns, turns_again, uneven_end, uneven_tokens, uneven_with, unless_stopped, vars_in_text, way_of, where_it_fits, writes, writes_in, written, written_in, written_with}
-use Rattle.batch_meaning.specs.Rpc.{Placed, ReadsFor, binds_call, defined_in, ending, ends_exec, ends_rpc, ends_rpc_doomed, error_or_full, execs, fails_call, finds_named, finds_read, gives_call_back, goes_on_with, is_output, is_sql, is_too_many, leaves_body, mismatch, name_of, object_in, placed_in, return_value, returned, returns_uneven, rpc, rpc_arguments, rpc_statement, rpc_text, rpc_vars, runs_exec, runs_rpc, runs_sql, skips_place, strikes_call, tells_returned}
+use Rattle.batch_meaning.specs.Rpc.{Placed, ReadsFor, behind_batch, binds_call, defined_in, ending, ends_exec, ends_rpc, ends_rpc_doomed, error_or_full, execs, fails_call, finds_named, finds_read, gives_call_back, goes_on_with, is_output, is_too_many, leaves_body, mismatch, no_statement, object_in, placed_in, return_value, returned, returns_uneven, rpc, rpc_arguments, rpc_statement, rpc_vars, runs_exec, runs_rpc, runs_sql, runs_way, skips_place, strikes_call, tells_returned, tells_unless, tells_well}
 use Rattle.batch_meaning.specs.Progress.{SessionProgress, begins, counts, fired_from, fires_from, made, sends, size_of, statement_limit, tells_error, tells_rows}
 use Rattle.batch_meaning.specs.Raised.{Around, again, action_in, around_batch, error_token, in_body, in_catch, in_try, is_caught_in, raised_at, raised_in}
 use Rattle.batch_meaning.specs.Selecting.{Effect, bound_over, messages, no_effect, result_full, sending}
@@ -481,7 +483,7 @@ module _ (error : Guard) where
   uneven_none act.Batch tokens raised none other = (other, tt)
   uneven_none act.BatchAndTransaction tokens raised none other = (other, tt)
 
-  clean_ends_exec : (call : RpcCall) (count : ℕ) (status : ℤ) → Exits (ends_exec call count status)
+  clean_ends_exec : (call : Errand) (count : ℕ) (status : ℤ) → Exits (ends_exec call count status)
   unfolding ends_exec
   clean_ends_exec call count status = λ p at q also. clean_if error (LeavesOther error) (q.txn.count == count) (tells_returned (pos 0) (returned call p.vars status) (over On)) (returns_uneven (returned call p.vars status) raised (action_in around_batch q.settings.xact_abort raised))
       (clean_tells_returned (pos 0) (returned call p.vars status) (over On) (tt, values_none p.vars (placed_in call)) tt)
@@ -491,13 +493,13 @@ module _ (error : Guard) where
       raised : Raised
       raised = raised_at (pos 1) (plain uneven)
 
-  clean_gives_call_back : (call : RpcCall) (of : Call) (count : ℕ) (inner : List Variable) (status : ℤ) → Exits (gives_call_back call of count inner status)
+  clean_gives_call_back : (call : Errand) (of : Call) (count : ℕ) (inner : List Variable) (status : ℤ) → Exits (gives_call_back call of count inner status)
   unfolding gives_call_back
   clean_gives_call_back call of count inner status = clean_goes {A = List Assigned} Anything (λ sets. assigns_all sets (ends_exec call count status)) (reads λ p. comes_to (given_back p.vars None (rpc_arguments call) of status inner))
       (λ p at. clean_comes error {A = List Assigned} Anything (given_back p.vars None (rpc_arguments call) of status inner) (assigned_usual p.vars _ _))
       (λ sets any. clean_assigns error (LeavesOther error) sets (ends_exec call count status) (clean_ends_exec call count status))
 
-  clean_leaves_body : (call : RpcCall) (of : Call) (count : ℕ) (inner : List Variable) (exit : Exit) → Exits (leaves_body call of count inner exit)
+  clean_leaves_body : (call : Errand) (of : Call) (count : ℕ) (inner : List Variable) (exit : Exit) → Exits (leaves_body call of count inner exit)
   clean_leaves_body call of count inner (Raise raised) = (tt, tt)
   clean_leaves_body call of count inner (RaiseUp raised) = (tt, tt)
   clean_leaves_body call of count inner End = (tt, tt)
@@ -512,11 +514,11 @@ module _ (error : Guard) where
       ((usual_other error (pos 3998) refl, tt), clean_then error Anything Anything rolls_back_told (λ done. makes (sends (rpc_done true ∷ [])) (over tt)) clean_told (λ done any. ((last true, tt), tt)))
       ((last (has_failed exit), tt), tt)
 
-  clean_named : (call : RpcCall) (name : Option (List ℕ)) → Clean error (OtherOr error {A = Call} Anything) (finds_named call name)
-  clean_named call None = clean_naming error Call Anything no_procedure (name_of call.target) refl
-  clean_named call (Some name) = clean_call error around_batch (rpc_statement name (rpc_arguments call)) None name (rpc_arguments call)
+  clean_named : (call : Errand) (name : List ℕ) (object : Option (List ℕ)) → Clean error (OtherOr error {A = Call} Anything) (finds_named call name object)
+  clean_named call name None = clean_naming error Call Anything no_procedure name refl
+  clean_named call name (Some object) = clean_call error around_batch (rpc_statement object (rpc_arguments call)) None object (rpc_arguments call)
 
-  clean_read : (call : RpcCall) (procedure : Option ProcedureTree) → Clean error (OtherOr error {A = Call} Anything) (finds_read call procedure)
+  clean_read : (call : Errand) (procedure : Option ProcedureTree) → Clean error (OtherOr error {A = Call} Anything) (finds_read call procedure)
   unfolding binds_call
   clean_read call None = usual_other error (pos 49012) refl
   clean_read call (Some procedure) = clean_if error (OtherOr error {A = Call} Anything) (is_odd_procedure procedure) (over (Err (plain outside_limits))) _ (usual_other error (pos 49007) refl) (clean_room error {A = Call} Anything _ (clean_bind error {A = Bound} {B = Call} Anything Anything (reads λ p. comes_to (bound_over [] p.vars (rpc_statement procedure.name (rpc_arguments call)))) _ (clean_bound error [] (rpc_statement procedure.name (rpc_arguments call)))
@@ -534,26 +536,49 @@ module _ (error : Guard) where
     abbrev CameOther : Exit × List Variable → Type 0
     CameOther came = LeavesOther error came.0
 
-    clean_exec : (call : RpcCall) (of : Call) → Exits (runs_exec (λ inner at. mean_of statement_limit inner at) call of)
+    clean_exec : (call : Errand) (of : Call) → Exits (runs_exec (λ inner at. mean_of statement_limit inner at) call of)
     unfolding runs_exec
     clean_exec call of = λ p at. clean_then error CameOther (LeavesOther error) (runs_body (λ inner at. mean_of statement_limit inner at) (call_vars of) (λ settings. settings) of.procedure.body (in_body of.procedure.name None around_batch)) _
         (clean_body (λ inner at. mean_of statement_limit inner at) (λ inner at is. means inner at is) (call_vars of) (λ settings. settings) of.procedure.body (in_body of.procedure.name None around_batch) tt)
         (λ came other. clean_leaves_body call of p.txn.count came.1 came.0)
 
-    clean_execs : (call : RpcCall) (finds : Doing (Result Call Failure)) → Clean error (OtherOr error {A = Call} Anything) finds → Exits (execs (λ inner at. mean_of statement_limit inner at) call finds)
+    clean_execs : (call : Errand) (finds : Doing (Result Call Failure)) → Clean error (OtherOr error {A = Call} Anything) finds → Exits (execs (λ inner at. mean_of statement_limit inner at) call finds)
     clean_execs call finds clean = clean_goes {A = Call} Anything (runs_exec (λ inner at. mean_of statement_limit inner at) call) finds clean (λ of any. clean_exec call of)
 
-    clean_sql : (call : RpcCall) (read : ReadText) → RefusedUsual read → Exits (runs_sql (λ inner at. mean_of statement_limit inner at) call read)
+    clean_sql : (call : Errand) (read : ReadText) → RefusedUsual read → Exits (runs_sql (λ inner at. mean_of statement_limit inner at) call read)
     clean_sql call (text.Statements statements) usual = clean_execs call (finds_read call None) (clean_read call None)
     clean_sql call (text.Defines line of units) usual = clean_execs call (finds_read call (defined_in (text.Defines line of units))) (clean_read call (defined_in (text.Defines line of units)))
     clean_sql call (text.Refused line code near) usual = clean_text (text.Refused line code near) usual
 
-    clean_rpc : (call : RpcCall) (read : ReadText) → RefusedUsual read → Exits (runs_rpc (λ inner at. mean_of statement_limit inner at) call read)
+    clean_well : (call : Errand) → Exits (tells_well call)
+    clean_well call = λ p at. clean_tells_returned (pos 0) (returned call p.vars (pos 0)) (over On) (tt, values_none p.vars (placed_in call)) tt
+
+    clean_unless : (call : Errand) (read : ReadText) → RefusedUsual read → Exits (tells_unless call read)
+    clean_unless call (text.Statements statements) usual = clean_well call
+    clean_unless call (text.Defines line of units) usual = clean_well call
+    clean_unless call (text.Refused line code near) usual = clean_text (text.Refused line code near) usual
+
+    clean_behind : (call : Errand) (exit : Exit) → LeavesOther error exit → Exits (behind_batch call exit)
+    clean_behind call On other = clean_well call
+    clean_behind call Leave other = tt
+    clean_behind call Again other = tt
+    clean_behind call (Return status) other = tt
+    clean_behind call (Raise raised) other = other
+    clean_behind call (RaiseUp raised) other = other
+    clean_behind call End other = tt
+
+    clean_way : (call : Errand) (read : ReadText) → RefusedUsual read → (of : Way) → Exits (runs_way (λ inner at. mean_of statement_limit inner at) call read of)
+    clean_way call read usual (way.LooksUp name) = clean_execs call (finds_named call name (object_in read)) (clean_named call name (object_in read))
+    clean_way call read usual (way.RunsRead own) = clean_sql call read usual
+    clean_way call read usual way.RunsBatch = clean_then error (LeavesOther error) (LeavesOther error) (runs_text read) (behind_batch call) (clean_text read usual) (clean_behind call)
+    clean_way call read usual way.Tells = clean_unless call read usual
+    clean_way call read usual way.Unmatched = clean_fails_call mismatch (usual_other error (pos 49012) refl)
+    clean_way call read usual (way.Unknown handle) = clean_execs call (fails_naming {A = Call} no_statement handle) (clean_naming error Call Anything no_statement handle refl)
+
+    clean_rpc : (call : Errand) (read : ReadText) → RefusedUsual read → Exits (runs_rpc (λ inner at. mean_of statement_limit inner at) call read)
     unfolding runs_rpc
     clean_rpc call read usual = clean_if error (LeavesOther error) (is_too_many call) (fails_call (plain outside_limits)) _ (clean_fails_call (plain outside_limits) (usual_other error (pos 49007) refl))
-        (clean_if error (LeavesOther error) (skips_place call) (fails_call mismatch) _ (clean_fails_call mismatch (usual_other error (pos 49012) refl))
-        (clean_if error (LeavesOther error) (is_sql call.target) (runs_sql (λ inner at. mean_of statement_limit inner at) call read) (execs (λ inner at. mean_of statement_limit inner at) call (finds_named call (object_in read)))
-        (clean_sql call read usual) (clean_execs call (finds_named call (object_in read)) (clean_named call (object_in read)))))
+        (clean_if error (LeavesOther error) (skips_place call) (fails_call mismatch) _ (clean_fails_call mismatch (usual_other error (pos 49012) refl)) (clean_way call read usual call.way))
 
 -- what is read for a call is refused by a usual error, too
 pub called_usual : (units : Option (List ℕ)) (read : ReadText) → ReadsFor units read → RefusedUsual read
@@ -582,14 +607,14 @@ module _ (watch : Watch) where
   pub clean_body_of : (read : ReadText) → RefusedUsual read → Exits (at_left statement_limit) (runs_text read)
   clean_body_of read usual = clean_text (at_left statement_limit) (clean_mean statement_limit) read usual
 
-  pub clean_call_of : (call : RpcCall) (read : ReadText) → RefusedUsual read → Exits (at_left statement_limit) (runs_rpc (λ inner at. mean_of statement_limit inner at) call read)
+  pub clean_call_of : (call : Errand) (read : ReadText) → RefusedUsual read → Exits (at_left statement_limit) (runs_rpc (λ inner at. mean_of statement_limit inner at) call read)
   clean_call_of call read usual = clean_rpc (at_left statement_limit) (clean_mean statement_limit) call read usual
 
   -- with their end
   pub clean_batch : ((failed : Bool) → TellsBy watch (batch_done failed)) → (read : ReadText) → RefusedUsual read → Plainly (at_left statement_limit) (runs_text read then ends)
   clean_batch last read usual = clean_then (at_left statement_limit) (LeavesBy watch) Anything (runs_text read) ends (clean_body_of read usual) (λ exit other. clean_end (at_left statement_limit) last exit)
 
-  pub clean_whole_call : ((failed : Bool) → TellsBy watch (rpc_done failed)) → (call : RpcCall) (read : ReadText) → RefusedUsual read → Plainly (at_left statement_limit) (runs_rpc (λ inner at. mean_of statement_limit inner at) call read then ends_rpc)
+  pub clean_whole_call : ((failed : Bool) → TellsBy watch (rpc_done failed)) → (call : Errand) (read : ReadText) → RefusedUsual read → Plainly (at_left statement_limit) (runs_rpc (λ inner at. mean_of statement_limit inner at) call read then ends_rpc)
   clean_whole_call last call read usual = clean_then (at_left statement_limit) (LeavesBy watch) Anything (runs_rpc (λ inner at. mean_of statement_limit inner at) call read) ends_rpc (clean_call_of call read usual)
       (λ exit other. clean_rpc_end (at_left statement_limit) last exit)
 
@@ -612,5 +637,5 @@ pub call_causes : CallCauses
 unfolding rpc Held
 call_causes error call read old new exchanges reads_so none held =
     let come = held_clean (lock_watch error) {A = Unit {0}} Anything statement_limit (runs_rpc (λ inner at. mean_of statement_limit inner at) call read then ends_rpc) (made counts (made (begins (rpc_vars call)) old)) new exchanges tt (λ enough. tt) (λ few q. tt)
-    (clean_whole_call (lock_watch error) (λ failed. tt) call read (called_usual (rpc_text call) read reads_so)) none held in
+    (clean_whole_call (lock_watch error) (λ failed. tt) call read (called_usual call.text read reads_so)) none held in
     subst (law.TellsNone error) (sym come.1.1) (told_none error come.1.0 come.1.2)

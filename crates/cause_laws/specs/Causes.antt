@@ -9,8 +9,8 @@ use Rattle.step_model.specs.Exchange.{Exchange}
 use Rattle.step_model.specs.Ranges.{deadlock, lock_timeout}
 use Rattle.tds_tokens.specs.declared.token.Token.{Token}
 use Rattle.tds_tokens.specs.declared.token.Token.TheVariants.{Error}
-use Rattle.rpc_requests.specs.declared.call.RpcCall.{RpcCall}
-use Rattle.batch_meaning.specs.Rpc.{ReadsCallAs, rpc}
+use Rattle.batch_meaning.specs.Rpc.{ReadsFor, rpc}
+use Rattle.batch_meaning.specs.declared.errand.Errand.{Errand}
 use Rattle.batch_meaning.specs.declared.exit.Exit.{Exit}
 use Rattle.batch_meaning.specs.declared.exit.Exit.TheVariants.{Raise, RaiseUp}
 use Rattle.batch_meaning.specs.declared.form.ReadText.{ReadText}
@@ -86,5 +86,5 @@ BatchCauses = (error : LockError) (text : List ℕ) (read : ReadText) (old new :
 
 -- A call by RPC, as its text is read, to which the engine has never replied so sends no token that tells it.
 abbrev pub CallCauses : Type 0
-CallCauses = (error : LockError) (call : RpcCall) (read : ReadText) (old new : SessionProgress) (exchanges : List Exchange)
-    → ReadsCallAs call read → NeverAnswered error exchanges → Held (rpc call read) old exchanges tt new → TellsNone error new.tokens
+CallCauses = (error : LockError) (call : Errand) (read : ReadText) (old new : SessionProgress) (exchanges : List Exchange)
+    → ReadsFor call.text read → NeverAnswered error exchanges → Held (rpc call read) old exchanges tt new → TellsNone error new.tokens

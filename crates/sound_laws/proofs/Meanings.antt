@@ -3,7 +3,6 @@ use Rattle.std.proofs.Common.{◌≡◌, ℕ, zero, suc, ℤ, ◌==◌, not, Boo
 use Rattle.std.specs.Prelude.{◌&&◌, nat_le, nat_lt, pos}
 use Rattle.std.specs.List.{AllByRecursion}
 use Rattle.std.specs.Option.{ForSome}
-use Rattle.rpc_requests.specs.declared.call.RpcCall.{RpcCall}
 use Rattle.tsql_tree.specs.declared.definition.Definition.{Definition}
 use Rattle.tsql_tree.specs.declared.definition.Definition.TheVariants.{Table, Procedure, Trigger}
 use Rattle.tsql_tree.specs.declared.definition.ProcedureTree.{ProcedureTree}
@@ -26,6 +25,9 @@ use Rattle.txn_rules.specs.declared.state.BackKind.TheVariants.{Mark, Whole}
 use Rattle.txn_rules.specs.State.{commit_answer, count_limit, is_closed, rollback_answer, save_refusal}
 use Rattle.tds_tokens.specs.Numbers.{command_none}
 use Rattle.tds_tokens.specs.declared.token.Token.{Token}
+use Rattle.batch_meaning.specs.declared.errand.Errand.{Errand}
+use Rattle.batch_meaning.specs.declared.errand.Way.{Way}
+use Rattle.batch_meaning.specs.declared.errand.Way.TheVariants as way
 use Rattle.batch_meaning.specs.declared.exit.Exit.{Exit}
 use Rattle.batch_meaning.specs.declared.exit.Exit.TheVariants.{On, Leave, Again, Return, Raise, RaiseUp, End}
 use Rattle.batch_meaning.specs.declared.failure.Failure.{Failure}
@@ -44,7 +46,7 @@ use Rattle.batch_meaning.specs.Doing.{Doing, asks, makes, over, reads, room, ◌
 use Rattle.batch_meaning.specs.Failures.{naming, plain}
 use Rattle.batch_meaning.specs.Firing.{closes_own, has_mark, in_trigger, leaves_fired, relaxes_then, settles, trigger_end, undone_to}
 use Rattle.batch_meaning.specs.Meaning.{Meaning, batch, branch, calls, caught_as, concluded, concludes, counted, decides, defined, defines_object, does, doomed_write, each_of, effect_of, ended_by, ends, ends_call, ends_doomed, ends_even, ends_uneven, ends_uneven_as, fails_for, fires, gives_back, goes_on, handled, is_refused_doomed, leaves_rows, mean_by, mean_form, mean_of, raises, raises_again, raises_at, raises_or_tells, returns_from, rolls_back_open, rolls_back_told, runs_body, runs_call, runs_fired, runs_text, runs_trigger, runs_triggers, sends_some, set_by, sets_option, spends, strikes, succeeds, tells, tells_behind, told_as, told_unless_own, tries, turned, turns, turns_again, uneven_end, uneven_tokens, unless_stopped, where_it_fits, writes, writes_in, written, written_in, written_with}
-use Rattle.batch_meaning.specs.Rpc.{binds_call, ending, ends_exec, ends_rpc, ends_rpc_doomed, error_or_full, execs, fails_call, finds_named, finds_read as finds_defined, gives_call_back, goes_on_with, is_sql, is_too_many, leaves_body, mismatch, name_of, object_in, returned, returns_uneven, rpc, rpc_arguments, rpc_statement, runs_exec, runs_rpc, runs_sql, skips_place, tells_returned}
+use Rattle.batch_meaning.specs.Rpc.{behind_batch, binds_call, ending, ends_exec, ends_rpc, ends_rpc_doomed, error_or_full, execs, fails_call, finds_named, finds_read as finds_defined, gives_call_back, goes_on_with, is_too_many, leaves_body, mismatch, no_statement, object_in, returned, returns_uneven, rpc, rpc_arguments, rpc_statement, runs_exec, runs_rpc, runs_sql, runs_way, skips_place, tells_returned, tells_unless, tells_well}
 use Rattle.batch_meaning.specs.Progress as step
 use Rattle.batch_meaning.specs.Progress.{SessionProgress, size_of, statement_limit}
 use Rattle.batch_meaning.specs.Raised.{Around, Fired, action_in, around_batch, in_body, in_catch, in_try, is_caught_in, raised_at}
@@ -59,7 +61,7 @@ use Rattle.batch_meaning.specs.Writes.{Written, change_bound, creates_definition
 use Rattle.statement_paths.proofs.Looking.{finds_read}
 use Rattle.statement_paths.proofs.Only.{AnyStep, only_bind, only_comes, only_if, only_naming, only_room, only_then}
 use Rattle.sound_laws.specs.Laws.{BatchSound, CallSound, RollbackSound, StatementSound}
-use Rattle.sound_laws.specs.Runs.{Task, TaskReadsBack, tree_of}
+use Rattle.sound_laws.specs.Runs.{ErrandReadsBack, Task, TaskReadsBack, tree_of}
 use Rattle.sound_laws.specs.Runs.Task.{Runs, Calls}
 use Rattle.sound_laws.specs.Stands.{Carries, Stands}
 use Rattle.text_laws.specs.Laws.{BodyReadsBack, CallReadsBack, EachIn, Everywhere, ReadsBack, ReadsBackAs, TextReadsBack, Within}
@@ -582,7 +584,7 @@ returned_still : (number : ℤ) (tokens : List Token) (next : Doing Exit) → Wr
 returned_still number tokens next still = λ p. only_if AnyStep IsStill (nat_lt p.bytes_left (size_of tokens)) (fails_call (plain result_full)) (makes (step.tells_rows 0) (makes (step.tells_error number) (makes (step.sends tokens) next)))
     (fails_call_still (plain result_full)) (tt, (tt, (tt, still)))
 
-exec_ends_still : (call : RpcCall) (count : ℕ) (status : ℤ) → WritesNothing (ends_exec call count status)
+exec_ends_still : (call : Errand) (count : ℕ) (status : ℤ) → WritesNothing (ends_exec call count status)
 unfolding ends_exec
 exec_ends_still call count status = λ p q. only_if AnyStep IsStill (q.txn.count == count) (tells_returned (pos 0) (returned call p.vars status) (over On)) (returns_uneven (returned call p.vars status) raised (action_in around_batch q.settings.xact_abort raised))
     (returned_still (pos 0) (returned call p.vars status) (over On) tt) (returned_still raised.number _ (ended_by (action_in around_batch q.settings.xact_abort raised)) (ended_by_still (action_in around_batch q.settings.xact_abort raised)))
@@ -590,7 +592,7 @@ exec_ends_still call count status = λ p q. only_if AnyStep IsStill (q.txn.count
     raised : Raised
     raised = raised_at (pos 1) (plain uneven)
 
-gives_call_still : (call : RpcCall) (of : Call) (count : ℕ) (inner : List Variable) (status : ℤ) → WritesNothing (gives_call_back call of count inner status)
+gives_call_still : (call : Errand) (of : Call) (count : ℕ) (inner : List Variable) (status : ℤ) → WritesNothing (gives_call_back call of count inner status)
 unfolding gives_call_back
 gives_call_still call of count inner status = only_then AnyStep IsStill (reads λ p. comes_to (given_back p.vars None (rpc_arguments call) of status inner)) _ (λ p. only_comes AnyStep IsStill (given_back p.vars None (rpc_arguments call) of status inner)) by_came
   where
@@ -598,7 +600,7 @@ gives_call_still call of count inner status = only_then AnyStep IsStill (reads �
     by_came (Ok sets) = only_assigns IsStill sets (ends_exec call count status) (exec_ends_still call count status)
     by_came (Err failure) = fails_call_still failure
 
-leaves_still_call : (call : RpcCall) (of : Call) (count : ℕ) (inner : List Variable) (exit : Exit) → WritesNothing (leaves_body call of count inner exit)
+leaves_still_call : (call : Errand) (of : Call) (count : ℕ) (inner : List Variable) (exit : Exit) → WritesNothing (leaves_body call of count inner exit)
 leaves_still_call call of count inner (Raise raised) = (tt, tt)
 leaves_still_call call of count inner (RaiseUp raised) = (tt, tt)
 leaves_still_call call of count inner End = (tt, tt)
@@ -607,7 +609,7 @@ leaves_still_call call of count inner On = gives_call_still call of count inner 
 leaves_still_call call of count inner Leave = gives_call_still call of count inner (pos 0)
 leaves_still_call call of count inner Again = gives_call_still call of count inner (pos 0)
 
-module _ (call : RpcCall) where
+module _ (call : Errand) where
   exec_carry : (of : Call) → CallBack of → Carries (runs_exec (λ inner at. mean_of statement_limit inner at) call of)
   unfolding runs_exec
   exec_carry of back = carries_reads _ (λ p. carries_then (runs_body (λ inner at. mean_of statement_limit inner at) (call_vars of) (λ settings. settings) of.procedure.body (in_body of.procedure.name None around_batch)) _
@@ -621,15 +623,18 @@ module _ (call : RpcCall) where
       by_came (Ok of) back = exec_carry of back
       by_came (Err failure) back = carries_still (fails_call failure) (fails_call_still failure)
 
-  named_carry : (name : Option (List ℕ)) → Carries (execs (λ inner at. mean_of statement_limit inner at) call (finds_named call name))
-  named_carry None = execs_carry (finds_named call None) (carries_still (fails_naming {A = Call} no_procedure (name_of call.target)) (only_naming AnyStep IsStill Call no_procedure (name_of call.target))) by_room
+  naming_carry : (number : ℕ) (name : List ℕ) → Carries (execs (λ inner at. mean_of statement_limit inner at) call (fails_naming number name))
+  naming_carry number name = execs_carry (fails_naming number name) (carries_still (fails_naming {A = Call} number name) (only_naming AnyStep IsStill Call number name)) by_room
     where
-      by_room : (enough : Bool) → Yields (Well CallBack) (if enough then over (Err (naming no_procedure (name_of call.target))) else fails no_memory)
+      by_room : (enough : Bool) → Yields (Well CallBack) (if enough then over (Err (naming number name)) else fails no_memory)
       by_room true = tt
       by_room false = tt
-  named_carry (Some name) = execs_carry (finds_named call (Some name))
-      (carries_still (finds_call around_batch (rpc_statement name (rpc_arguments call)) None name (rpc_arguments call)) (finds_call_still around_batch (rpc_statement name (rpc_arguments call)) None name (rpc_arguments call)))
-      (call_yields around_batch (rpc_statement name (rpc_arguments call)) None name (rpc_arguments call))
+
+  named_carry : (name : List ℕ) (object : Option (List ℕ)) → Carries (execs (λ inner at. mean_of statement_limit inner at) call (finds_named call name object))
+  named_carry name None = naming_carry no_procedure name
+  named_carry name (Some object) = execs_carry (finds_named call name (Some object))
+      (carries_still (finds_call around_batch (rpc_statement object (rpc_arguments call)) None object (rpc_arguments call)) (finds_call_still around_batch (rpc_statement object (rpc_arguments call)) None object (rpc_arguments call)))
+      (call_yields around_batch (rpc_statement object (rpc_arguments call)) None object (rpc_arguments call))
 
   binds_still : (procedure : ProcedureTree) → WritesNothing (finds_defined call (Some procedure))
   unfolding binds_call
@@ -660,18 +665,44 @@ module _ (call : RpcCall) where
   read_carry (text.Defines line (Trigger trigger) kept) back = unread_carry
   read_carry (text.Refused line code near) back = carries_still (runs_text (text.Refused line code near)) (tt, tt)
 
+  -- ---- where no procedure is run
+
+  well_still : WritesNothing (tells_well call)
+  well_still = λ p. returned_still (pos 0) (returned call p.vars (pos 0)) (over On) tt
+
+  unless_still : (read : ReadText) → WritesNothing (tells_unless call read)
+  unless_still (text.Statements statements) = well_still
+  unless_still (text.Defines line of kept) = well_still
+  unless_still (text.Refused line code near) = (tt, tt)
+
+  behind_still : (exit : Exit) → WritesNothing (behind_batch call exit)
+  behind_still On = well_still
+  behind_still Leave = tt
+  behind_still Again = tt
+  behind_still (Return status) = tt
+  behind_still (Raise raised) = tt
+  behind_still (RaiseUp raised) = tt
+  behind_still End = tt
+
+  way_carry : (read : ReadText) (of : Way) → ErrandReadsBack of read → Carries (runs_way (λ inner at. mean_of statement_limit inner at) call read of)
+  way_carry read (way.LooksUp name) back = named_carry name (object_in read)
+  way_carry read (way.RunsRead many) back = read_carry read back
+  way_carry read way.RunsBatch back = carries_then (runs_text read) (behind_batch call) (text_carry read back) (λ exit. carries_still (behind_batch call exit) (behind_still exit))
+  way_carry read way.Tells back = carries_still (tells_unless call read) (unless_still read)
+  way_carry read way.Unmatched back = carries_still (fails_call mismatch) (fails_call_still mismatch)
+  way_carry read (way.Unknown handle) back = naming_carry no_statement handle
+
 rpc_ends_still : (exit : Exit) → WritesNothing (ends_rpc exit)
 unfolding ends_rpc ends_rpc_doomed
 rpc_ends_still exit = λ p. only_if AnyStep IsStill p.txn.doomed ends_rpc_doomed (makes (step.sends _) (over tt))
     (tt, only_then AnyStep IsStill rolls_back_told (λ done. makes (step.sends _) (over tt)) told_still (λ done. (tt, tt))) (tt, tt)
 
 -- what a call asks keeps what stands
-pub call_carry : (call : RpcCall) (read : ReadText) → CallReadsBack read → Carries (rpc call read)
+pub call_carry : (call : Errand) (read : ReadText) → ErrandReadsBack call.way read → Carries (rpc call read)
 unfolding rpc runs_rpc
 call_carry call read back = carries_makes (step.begins _) _ (carries_makes step.counts _ (carries_then (runs_rpc (λ inner at. mean_of statement_limit inner at) call read) ends_rpc
     (carries_if (is_too_many call) (fails_call (plain outside_limits)) _ (carries_still (fails_call (plain outside_limits)) (fails_call_still (plain outside_limits)))
-    (carries_if (skips_place call) (fails_call mismatch) _ (carries_still (fails_call mismatch) (fails_call_still mismatch))
-    (carries_if (is_sql call.target) (runs_sql (λ inner at. mean_of statement_limit inner at) call read) (execs (λ inner at. mean_of statement_limit inner at) call (finds_named call (object_in read))) (read_carry call read back) (named_carry call (object_in read)))))
+    (carries_if (skips_place call) (fails_call mismatch) _ (carries_still (fails_call mismatch) (fails_call_still mismatch)) (way_carry call read call.way back)))
     (λ exit. carries_still (ends_rpc exit) (rpc_ends_still exit))))
 
 pub task_carry : (one : Task) → TaskReadsBack one → Carries (tree_of one)

@@ -9,7 +9,7 @@ use Rattle.step_model.specs.Exchange.{Exchange}
 use Rattle.step_model.specs.Fits.{committed_by}
 use Rattle.step_model.specs.Log.{Commit as Logged, State}
 use Rattle.step_model.specs.Own.{progress_of}
-use Rattle.rpc_requests.specs.declared.call.RpcCall.{RpcCall}
+use Rattle.batch_meaning.specs.declared.errand.Errand.{Errand}
 use Rattle.batch_meaning.specs.declared.form.ReadText.{ReadText}
 use Rattle.batch_meaning.specs.Meaning.{batch, mean_of, rolls_back_open}
 use Rattle.batch_meaning.specs.Doing.{Held, Left}
@@ -18,9 +18,9 @@ use Rattle.batch_meaning.specs.Raised.{Around}
 use Rattle.batch_meaning.specs.Rpc.{rpc}
 pub use Rattle.write_laws.specs.Indexed.{Sound}
 use Rattle.sound_laws.specs.Stands.{Carries, Intact, Stands}
-use Rattle.text_laws.specs.Laws.{CallReadsBack, Everywhere, ReadsBack, TextReadsBack}
+use Rattle.text_laws.specs.Laws.{Everywhere, ReadsBack, TextReadsBack}
 use Rattle.sound_laws.specs.Tied.{Tied}
-use Rattle.sound_laws.specs.Runs.{IsServed, Task, tree_of}
+use Rattle.sound_laws.specs.Runs.{ErrandReadsBack, IsServed, Task, tree_of}
 
 -- ---- databases
 
@@ -44,7 +44,7 @@ BatchSound = (read : ReadText) → TextReadsBack read → Carries (batch read)
 
 -- and what a call by RPC asks
 abbrev pub CallSound : Type 0
-CallSound = (call : RpcCall) (read : ReadText) → CallReadsBack read → Carries (rpc call read)
+CallSound = (call : Errand) (read : ReadText) → ErrandReadsBack call.way read → Carries (rpc call read)
 
 -- behind either session and port agree on whether a transaction is open, if they did before it
 abbrev pub TaskAgrees : Type 0

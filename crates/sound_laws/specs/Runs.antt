@@ -9,7 +9,9 @@ use Rattle.step_model.specs.Fits.{without_waits}
 use Rattle.step_model.specs.Log.{State}
 use Rattle.step_model.specs.Runs.{Asked, Run, mine_of, opening}
 use Rattle.step_model.specs.State.{Engine}
-use Rattle.rpc_requests.specs.declared.call.RpcCall.{RpcCall}
+use Rattle.batch_meaning.specs.declared.errand.Errand.{Errand}
+use Rattle.batch_meaning.specs.declared.errand.Way.{Way}
+use Rattle.batch_meaning.specs.declared.errand.Way.TheVariants as way
 use Rattle.batch_meaning.specs.declared.form.ReadText.{ReadText}
 use Rattle.batch_meaning.specs.Doing.{Doing, Held, Left}
 use Rattle.batch_meaning.specs.Meaning.{batch, rolls_back_open}
@@ -23,17 +25,22 @@ use Rattle.text_laws.specs.Laws.{CallReadsBack, TextReadsBack}
 -- a batch, or a call by RPC, with what its text is read as
 pub data Task : Type 0 where
   Runs : ReadText → Task
-  Calls : RpcCall → ReadText → Task
+  Calls : Errand → ReadText → Task
 
 -- what it does
 abbrev pub tree_of : Task → Doing (Unit {0})
 tree_of (Runs read) = batch read
 tree_of (Calls call read) = rpc call read
 
+-- of what is read for a call the text of each CREATE TABLE reads as its table: of a batch, or of the body of a procedure
+abbrev pub ErrandReadsBack : Way → ReadText → Type 0
+ErrandReadsBack way.RunsBatch read = TextReadsBack read
+ErrandReadsBack other read = CallReadsBack read
+
 -- the text of each CREATE TABLE that it runs reads as its table
 abbrev pub TaskReadsBack : Task → Type 0
 TaskReadsBack (Runs read) = TextReadsBack read
-TaskReadsBack (Calls call read) = CallReadsBack read
+TaskReadsBack (Calls call read) = ErrandReadsBack call.way read
 
 -- ---- a connection
 

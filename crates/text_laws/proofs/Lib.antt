@@ -18,3 +18,4 @@ pub mod Bodies  -- the bodies of procedures and triggers
 pub mod Stating  -- what statements stand for, but for places
 pub mod Alone  -- a procedure or trigger alone
 pub mod Served  -- the statements that a text is read as
+pub mod Declared  -- what declarations are read as is not much longer
