@@ -9,7 +9,6 @@ use Rattle.value_types.specs.declared.sql_type.SqlType.TheVariants.{TinyInt, Sma
 use Rattle.value_types.specs.declared.value.Value.{Value}
 use Rattle.value_types.specs.declared.value.Value.TheVariants.{Null, Whole, Bit, Text}
 use Rattle.value_types.specs.Types.{IsOf}
-use Rattle.rpc_requests.specs.declared.call.RpcCall.{RpcCall}
 use Rattle.rpc_requests.specs.declared.call.RpcParameter.{RpcParameter}
 use Rattle.rpc_requests.specs.Fit.{IsKind, IsParameter, IsOf as IsSent}
 use Rattle.session_vars.specs.declared.Variable.{Variable}
@@ -22,8 +21,11 @@ use Rattle.tds_tokens.specs.declared.token.Token.TheVariants.{ReturnValue}
 use Rattle.tds_tokens.specs.Fit.{FitTokens}
 use Rattle.session_state.specs.Sendable.{IsFit}
 use Rattle.statement_exec.proofs.Results.{kind_fits, value_fits}
-use Rattle.batch_meaning.specs.Rpc.{Placed, is_given, is_output, is_sql, is_too_many, name_given, own_parameters, placed_in, return_value, rpc_argument, rpc_arguments, rpc_var, skips, variable_at}
-use Rattle.batch_exec.specs.Running.{arguments_from, arguments_of_placed, values_told}
+use Rattle.batch_meaning.specs.declared.errand.Errand.{Errand}
+use Rattle.batch_meaning.specs.declared.errand.Way.{Way}
+use Rattle.batch_meaning.specs.declared.errand.Way.TheVariants as way
+use Rattle.batch_meaning.specs.Rpc.{Placed, is_given, is_output, is_too_many, name_given, passed_by, return_value, rpc_argument, rpc_arguments, rpc_var, skips, variable_at}
+use Rattle.batch_exec.specs.Running.{arguments_from, arguments_of_placed, own_in, values_told}
 use Rattle.batch_exec.proofs.Called.{declared_is}
 
 -- ---- what is made of each
@@ -100,37 +102,43 @@ arguments_more all now new parameters first at parameter within is added goes =
 pub arguments_all : (all now : List Argument) (parameters : List RpcParameter) (first at : ℕ) → length parameters ≤ at → now ++ arguments_from (first + at) (drop at parameters) ≡ all → now ≡ all
 arguments_all all now parameters first at past goes = none_more arguments_from (λ place p. arguments_of_placed ((place, p) ∷ [])) all now parameters (first + at) at goes refl past
 
--- those behind the first two have the places behind these
-behind_two : (parameters : List RpcParameter) → arguments_from 2 (drop 2 parameters) ≡ arguments_of_placed (drop 2 (enumerate_from 0 parameters))
-behind_two [] = refl
-behind_two (one ∷ []) = refl
-behind_two (one ∷ two ∷ others) = refl
+-- those behind some have the places behind these
+numbered_behind : (own at place : ℕ) → place ≡ at + own → (parameters : List RpcParameter) → enumerate_from place (drop own parameters) ≡ drop own (enumerate_from at parameters)
+numbered_behind zero at place is parameters = let same : place ≡ at = omega (arith, is) in ap (λ (n : ℕ). enumerate_from n parameters) same
+numbered_behind (suc own) at place is [] = refl
+numbered_behind (suc own) at place is (parameter ∷ others) = numbered_behind own (at + 1) place (omega (arith, is)) others
 
--- those of a call of sp_executesql, and of one of a name
-pub arguments_sql : (call : RpcCall) (parameters behind : List RpcParameter) → is_sql call.target ≡ true → parameters ≡ call.parameters → behind ≡ drop 2 parameters → arguments_from 2 behind ≡ rpc_arguments call
-arguments_sql call parameters behind sql same is =
-    ap (arguments_from 2) (is ∙ ap (λ (ps : List RpcParameter). drop 2 ps) same) ∙ behind_two call.parameters
-    ∙ ap (λ (b : Bool). arguments_of_placed (if b then drop 2 (placed_in call) else placed_in call)) (sym sql)
+arguments_passed : (of : Way) (parameters : List RpcParameter) → arguments_from (own_in of) (passed_by of parameters) ≡ arguments_of_placed (passed_by of (enumerate_from 0 parameters))
+arguments_passed (way.LooksUp name) parameters = refl
+arguments_passed (way.RunsRead own) parameters = ap arguments_of_placed (numbered_behind own 0 own (omega arith) parameters)
+arguments_passed way.RunsBatch parameters = refl
+arguments_passed way.Tells parameters = refl
+arguments_passed way.Unmatched parameters = refl
+arguments_passed (way.Unknown handle) parameters = refl
 
-pub arguments_named : (call : RpcCall) (parameters : List RpcParameter) → is_sql call.target ≡ false → parameters ≡ call.parameters → arguments_from 0 parameters ≡ rpc_arguments call
-arguments_named call parameters named same =
-    ap (arguments_from 0) same ∙ ap (λ (b : Bool). arguments_of_placed (if b then drop 2 (placed_in call) else placed_in call)) (sym named)
+-- those of a call
+pub arguments_are : (call : Errand) (first : ℕ) (parameters passed : List RpcParameter) → first ≡ own_in call.way → parameters ≡ call.parameters → passed ≡ passed_by call.way parameters → arguments_from first passed ≡ rpc_arguments call
+arguments_are call first parameters passed many same is =
+    ap (λ (n : ℕ). arguments_from n passed) many ∙ ap (arguments_from (own_in call.way)) (is ∙ ap (λ (ps : List RpcParameter). passed_by call.way ps) same) ∙ arguments_passed call.way call.parameters
 
 -- there are no more of them than places
-pub few_behind : (call : RpcCall) (parameters behind : List RpcParameter) → is_too_many call ≡ false → parameters ≡ call.parameters → behind ≡ drop 2 parameters → 2 + length behind < 65536
-few_behind call parameters behind few same is =
+fewer_passed : (of : Way) (parameters : List RpcParameter) → length (passed_by of parameters) ≤ length parameters
+fewer_passed (way.LooksUp name) parameters = omega arith
+fewer_passed (way.RunsRead own) parameters = let many : length (drop own parameters) ≡ length parameters - own = length-drop own parameters in omega (arith, many)
+fewer_passed way.RunsBatch parameters = omega arith
+fewer_passed way.Tells parameters = omega arith
+fewer_passed way.Unmatched parameters = omega arith
+fewer_passed (way.Unknown handle) parameters = omega arith
+
+pub few_passed : (call : Errand) (first : ℕ) (parameters passed : List RpcParameter) → is_too_many call ≡ false → first < 256 → parameters ≡ call.parameters → passed ≡ passed_by call.way parameters → first + length passed < 65536
+few_passed call first parameters passed few small same is =
     let most : length call.parameters ≤ 10000 = few_of call.parameters few in
-    let many : length behind ≡ length call.parameters - 2 = ap length (is ∙ ap (λ (ps : List RpcParameter). drop 2 ps) same) ∙ length-drop 2 call.parameters in
-    omega (arith, most, many)
+    let all : length parameters ≡ length call.parameters = ap length same in
+    let many : length passed ≡ length (passed_by call.way parameters) = ap length is in
+    let fewer : length (passed_by call.way parameters) ≤ length parameters = fewer_passed call.way parameters in
+    omega (arith, most, all, many, fewer, small)
 
 -- ---- places
-
--- the parameters of its procedure
-pub own_sql : (call : RpcCall) (parameters behind : List RpcParameter) → true ≡ is_sql call.target → parameters ≡ call.parameters → behind ≡ drop 2 parameters → behind ≡ own_parameters call
-own_sql call parameters behind sql same is = is ∙ ap (λ (ps : List RpcParameter). drop 2 ps) same ∙ ap (λ (b : Bool). if b then drop 2 call.parameters else call.parameters) sql
-
-pub own_named : (call : RpcCall) (parameters : List RpcParameter) → false ≡ is_sql call.target → parameters ≡ call.parameters → parameters ≡ own_parameters call
-own_named call parameters named same = same ∙ ap (λ (b : Bool). if b then drop 2 call.parameters else call.parameters) named
 
 -- one that stands by its place behind one that is not given, or the rest by whether this one is
 displaced : (behind missing unnamed : Bool) (rest : Bool → Bool) → (behind && (not missing && unnamed)) ≡ true → true ≡ (if missing then rest true else if behind && unnamed then true else rest behind)

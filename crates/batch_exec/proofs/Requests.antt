@@ -8,12 +8,14 @@ use Rattle.tsql_tree.specs.declared.definition.ProcedureTree.{ProcedureTree}
 use Rattle.tsql_tree.specs.declared.statement.Argument.{Argument}
 use Rattle.tsql_tree.specs.declared.statement.Form.{Form-F, out-Form, out-roll-Form, roll-Form}
 use Rattle.tsql_tree.specs.declared.statement.Statement.{Statement, out-roll-Statement}
-use Rattle.rpc_requests.specs.declared.call.RpcCall.{RpcCall}
 use Rattle.session_vars.specs.declared.Variable.{Variable}
 use Rattle.tds_tokens.specs.declared.token.Token.{Token}
 use Rattle.step_model.specs.Port.{PortPast}
+use Rattle.batch_meaning.specs.declared.errand.Errand.{Errand}
+use Rattle.batch_meaning.specs.declared.errand.Way.{Way}
 use Rattle.batch_meaning.specs.declared.exit.Exit.{Exit}
 use Rattle.batch_meaning.specs.declared.exit.Exit.TheVariants.{On, Leave, Again, Return, Raise, RaiseUp, End}
+use Rattle.batch_meaning.specs.declared.form.ReadText.{ReadText}
 use Rattle.batch_meaning.specs.declared.form.ReadText.TheVariants as text
 use Rattle.batch_meaning.specs.declared.raised.Raised.{Raised}
 use Rattle.batch_meaning.specs.Failures.{plain}
@@ -23,7 +25,7 @@ use Rattle.batch_meaning.specs.Progress.{SessionProgress, made, size_of, tells_r
 use Rattle.batch_meaning.specs.Doing.{Did, makes, over, ◌then◌}
 use Rattle.batch_meaning.specs.Calls.{Call}
 use Rattle.batch_meaning.specs.Meaning.{Meaning}
-use Rattle.batch_meaning.specs.Rpc.{binds_call, defined_in, error_or_full, execs, fails_call, finds_read, gives_call_back, leaves_body, rpc_arguments, rpc_statement, runs_sql}
+use Rattle.batch_meaning.specs.Rpc.{behind_batch, binds_call, defined_in, error_or_full, execs, fails_call, finds_read, gives_call_back, leaves_body, rpc_arguments, rpc_statement, runs_sql, runs_way}
 use Rattle.batch_meaning.specs.Values.{outside_limits}
 use Rattle.batch_meaning.specs.Writes.{is_odd_procedure}
 use Rattle.batch_meaning.proofs.Composed.{does_makes, does_over, does_then}
@@ -31,7 +33,7 @@ use Rattle.batch_exec.specs.Running.{arguments_in, arguments_of, procedure_in, s
 
 -- ---- how its body was left
 
-module _ (call : RpcCall) (of : Call) (count : ℕ) (inner : List Variable) where
+module _ (call : Errand) (of : Call) (count : ℕ) (inner : List Variable) where
   pub leaves_returned : {before after : PortPast} (exit : Exit) (number : ℤ) {p new : SessionProgress} {result : Result Exit Memory} → Some number ≡ status_of exit
       → Did before after (gives_call_back call of count inner number) p result new → Did before after (leaves_body call of count inner exit) p result new
   leaves_returned {before = before} {after = after} exit number {p = p} {new = new} {result = result} is did = by_exit exit is
@@ -63,6 +65,18 @@ module _ (call : RpcCall) (of : Call) (count : ℕ) (inner : List Variable) wher
       by_exit (RaiseUp raised) so = left
       by_exit End so = left
 
+-- ---- how a batch was left
+
+-- one that has not come to its end
+pub batch_left : {now : PortPast} (call : Errand) (exit : Exit) {p : SessionProgress} → (exit ≡ On → ⊥) → Did now now (behind_batch call exit) p (Ok exit) p
+batch_left call On not = absurd (not refl)
+batch_left call Leave not = does_over refl
+batch_left call Again not = does_over refl
+batch_left call (Return status) not = does_over refl
+batch_left call (Raise raised) not = does_over refl
+batch_left call (RaiseUp raised) not = does_over refl
+batch_left call End not = does_over refl
+
 -- ---- its errors
 
 -- one that fits is told, and of one that doesn't fit that it doesn't
@@ -92,9 +106,13 @@ defines_in line (Table table) units = refl
 defines_in line (Procedure procedure) units = refl
 defines_in line (Trigger trigger) units = refl
 
-module _ (one : Statement → Meaning) (call : RpcCall) {before after : PortPast} {p new : SessionProgress} {result : Result Exit Memory} where
+module _ (one : Statement → Meaning) (call : Errand) {before after : PortPast} {p new : SessionProgress} {result : Result Exit Memory} where
   pub does_defined_sql : (line : ℤ) (of : Definition) (units : List ℕ) → Did before after (execs one call (finds_read call (procedure_in (Some of)))) p result new → Did before after (runs_sql one call (text.Defines line of units)) p result new
   does_defined_sql line of units did = subst (λ (found : Option ProcedureTree). Did before after (execs one call (finds_read call found)) p result new) (sym (defines_in line of units)) did
+
+  -- by how its procedure is found
+  pub does_way : (read : ReadText) (of : Way) → call.way ≡ of → Did before after (runs_way one call read of) p result new → Did before after (runs_way one call read call.way) p result new
+  does_way read of is did = subst (λ (w : Way). Did before after (runs_way one call read w) p result new) (sym is) did
 
   -- there is none
   pub does_unmatched : Did before after (fails_call (plain 49012)) p result new → Did before after (execs one call (finds_read call None)) p result new

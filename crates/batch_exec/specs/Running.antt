@@ -19,6 +19,8 @@ use Rattle.error_table.specs.declared.action.Action.{Action}
 use Rattle.binder.specs.Names.{Layer, form_of}
 use Rattle.step_model.specs.Port.{PortPast}
 use Rattle.step_model.specs.Ranges.{no_memory}
+use Rattle.batch_meaning.specs.declared.errand.Way.{Way}
+use Rattle.batch_meaning.specs.declared.errand.Way.TheVariants as way
 use Rattle.batch_meaning.specs.declared.exit.Exit.{Exit}
 use Rattle.batch_meaning.specs.declared.exit.Exit.TheVariants.{End, Raise, RaiseUp, Return}
 use Rattle.batch_meaning.specs.declared.failure.Failure.{Failure}
@@ -162,6 +164,11 @@ arguments_of form = []
 
 abbrev pub arguments_in : Statement → List Argument
 arguments_in statement = arguments_of (form_of statement)
+
+-- how many parameters stand in front of those of what is run
+abbrev pub own_in : Way → ℕ
+own_in (way.RunsRead own) = own
+own_in other = 0
 
 -- of parameters beside their places
 abbrev pub arguments_of_placed : List Placed → List Argument

@@ -44,7 +44,7 @@ pub fn run_batch<P: Port>(
 }
 
 /// Runs what a text is read as; one that is refused has begun nothing.
-fn run_text<P: Port>(
+pub(crate) fn run_text<P: Port>(
     alloc: Global,
     session: &mut SessionState,
     port: &mut P,

@@ -1,28 +1,30 @@
 //! A call by RPC, from its beginning to its end.
 
-ghost use Rattle.std.specs.Prelude.{◌≡◌, ◌+◌, ◌<◌, ◌≤◌, ◌++◌, ◌∷◌, ◌==◌, ◌&&◌, ℕ, List, [], All, IfOk, IsTrue, None, Some, drop, false, get_or, length, map, not};
+ghost use Rattle.std.specs.Prelude.{◌≡◌, ◌+◌, ◌<◌, ◌≤◌, ◌++◌, ◌∷◌, ◌==◌, ◌&&◌, List, [], All, IfOk, IsTrue, None, Some, drop, false, get_or, length, map, not};
 ghost use Rattle.std.specs.List.{enumerate_from};
 ghost use Rattle.std.specs.Option.{option_and_then};
 ghost use Rattle.value_types.specs.declared.value.Value.{Value as Of};
 ghost use Rattle.value_types.specs.declared.value.Value.TheVariants.{Null};
 ghost use Rattle.value_types.specs.Types.{IsOf};
 ghost use Rattle.session_state.specs.Sendable.{IsFit};
-ghost use Rattle.batch_meaning.specs.Doing.{Did};
-ghost use Rattle.batch_meaning.specs.Meaning.{ended_by, mean_of, uneven_with};
+ghost use Rattle.batch_meaning.specs.Failures.{plain};
+ghost use Rattle.batch_meaning.specs.Doing.{Did, ◌then◌};
+ghost use Rattle.batch_meaning.specs.Meaning.{ended_by, mean_of, runs_text, uneven_with};
 ghost use Rattle.batch_meaning.specs.Progress.{Ready, statement_limit, values_of};
-ghost use Rattle.batch_meaning.specs.Rpc.{bare_name, binds_call, ending, ends_exec, error_or_full, execs, fails_call, finds_named, finds_read, gives_call_back, goes_on_with, is_sql, is_too_many, leaves_body, name_given, name_of, object_in, return_value, return_values, rpc, rpc_argument, rpc_arguments, rpc_statement, rpc_var, rpc_vars, runs_exec, runs_rpc, runs_sql, skips, skips_place, tells_returned};
+ghost use Rattle.batch_meaning.specs.Asking.{fails_naming};
+ghost use Rattle.batch_meaning.specs.Rpc.{bare_name, behind_batch, binds_call, ending, ends_exec, error_or_full, execs, fails_call, finds_named, finds_read, gives_call_back, goes_on_with, is_too_many, leaves_body, name_given, object_in, passed_by, return_value, return_values, rpc, rpc_argument, rpc_arguments, rpc_statement, rpc_var, rpc_vars, runs_exec, runs_rpc, runs_sql, runs_way, skips, skips_place, tells_returned, tells_unless, tells_well};
+ghost use Rattle.batch_meaning.specs.declared.errand.Errand.{Errand as AnyErrand};
 ghost use Rattle.rpc_requests.specs.Fit.{IsParameter};
-ghost use Rattle.batch_exec.specs.Running.{AreTyped, arguments_from, arguments_in, arguments_of_placed, procedure_in, status_of, values_told};
+ghost use Rattle.batch_exec.specs.Running.{AreTyped, arguments_from, arguments_in, arguments_of_placed, own_in, procedure_in, status_of, values_told};
 
-use crate::batch::{end, refusal, refuse};
+use crate::batch::{end, refusal, refuse, run_text};
 use crate::calls::{Call, call_over, call_vars, find_call, procedure_in};
 use crate::errors::end_by;
 use crate::returning::{CallEnd, given_back, is_even};
 use crate::running::run_body;
-use batch_forms::is_sql;
-use batch_meaning::{Exit, Failure, Raised, ReadText};
+use batch_meaning::{Errand, Exit, Failure, Raised, ReadText, Way};
 use error_table::Action;
-use rpc_requests::{RpcCall, RpcParameter, RpcTarget};
+use rpc_requests::RpcParameter;
 use session_state::{
     Around, NO_PROCEDURE, OUTSIDE_LIMITS, RESULT_FULL, SessionState, TokenList, UNEVEN,
     error_in_front, error_tokens, naming, raised_at, returned_tokens,
@@ -34,13 +36,16 @@ use std::alloc::Global;
 use step_model::Port;
 use tds_tokens::{DoneKind, Token};
 use tsql_tree::{Argument, ArgumentValue, Definition, Form, ProcedureTree, Statement};
-use value_types::{Memory, SqlType, Units, Value};
+use value_types::{Memory, SqlType, Units, Value, letting_go};
 
 /// How many parameters a call may have: as many as a batch may name variables.
 const MAX_PARAMETERS: usize = 10_000;
 
 /// The number of the error where the arguments are not those of the procedure.
 const NO_MATCH: u16 = 49012;
+
+/// The number of the error where nothing is kept under a handle.
+const NO_STATEMENT: u16 = 8179;
 
 /// Runs a call for which this was read, over a session's port: asks what it means, and goes on by the replies. The
 /// session has then what the call sends ([`SessionState::tokens`]). Where memory is wanting for that, the rest is
@@ -49,7 +54,7 @@ pub fn run_call<P: Port>(
     alloc: Global,
     session: &mut SessionState,
     port: &mut P,
-    call: &RpcCall,
+    call: &Errand,
     read: ReadText,
 ) -> Result<(), Memory>
     requires ready { Ready session.old (P.past port.old) }
@@ -67,14 +72,14 @@ pub fn run_call<P: Port>(
 // ---- its variables and its arguments
 
 /// Whether it has more parameters than a batch may name variables.
-fn is_too_many(call: &RpcCall) -> bool
+fn is_too_many(call: &Errand) -> bool
     ensures { result ≡ is_too_many call.now }
 {
     MAX_PARAMETERS < call.parameters.as_slice().len()
 }
 
 /// A variable for each parameter, of its type and with its value.
-fn rpc_vars(alloc: Global, call: &RpcCall) -> Result<Vars, Memory>
+fn rpc_vars(alloc: Global, call: &Errand) -> Result<Vars, Memory>
     requires fits { All IsParameter call.now.parameters }
     ensures { IfOk result (λ vars. vars ≡ rpc_vars call.now) }
 {
@@ -122,43 +127,57 @@ fn variable_at(alloc: Global, place: u16) -> Result<Units, Memory>
     Ok(Units::from(vec![in alloc; place]?))
 }
 
-/// The arguments of the procedure: the variables of the parameters that are given; of `sp_executesql` those behind its own
-/// two.
-fn rpc_arguments(alloc: Global, call: &RpcCall) -> Result<Items<Argument>, Memory>
+/// The arguments of what is run: the variables of its parameters that are given.
+fn rpc_arguments(alloc: Global, call: &Errand) -> Result<Items<Argument>, Memory>
     requires few { is_too_many call.now ≡ false }
     ensures { IfOk result (λ arguments. arguments ≡ rpc_arguments call.now) }
 {
-    let parameters = call.parameters.as_slice();
-    if is_sql(&call.target) {
-        arguments_from(alloc, 2, behind_two(parameters))
-    } else {
-        arguments_from(alloc, 0, parameters)
+    let first = own_in(&call.way);
+    let passed = passed_by(&call.way, call.parameters.as_slice());
+    arguments_from(alloc, first, passed)
+}
+
+/// How many parameters stand in front of those of what is run.
+fn own_in(way: &Way) -> usize
+    ensures count { result ≡ own_in way.now }
+    ensures small { result < 256 }
+{
+    match way {
+        Way::RunsRead(own) => usize::from(*own),
+        _ => 0,
     }
 }
 
-/// All behind the first two.
-fn behind_two(parameters: &[RpcParameter]) -> &[RpcParameter]
-    ensures { result.now ≡ drop 2 parameters.now }
+/// The parameters of what is run.
+fn passed_by<'a>(way: &Way, parameters: &'a [RpcParameter]) -> &'a [RpcParameter]
+    ensures { result.now ≡ passed_by way.now parameters.now }
 {
-    match parameters {
-        [_, _, others @ ..] => others,
+    match way {
+        Way::LooksUp(_) => parameters,
+        Way::RunsRead(own) => all_behind(usize::from(*own), parameters),
         _ => &[],
     }
 }
 
-/// Whether a parameter without a name is given behind one that is not: no EXEC has it at its place.
-fn skips_place(call: &RpcCall) -> bool
-    ensures { result ≡ skips_place call.now }
+/// All behind so many.
+fn all_behind(own: usize, parameters: &[RpcParameter]) -> &[RpcParameter]
+    ensures { result.now ≡ drop own parameters.now }
 {
-    let parameters = call.parameters.as_slice();
-    if is_sql(&call.target) {
-        skips(behind_two(parameters))
-    } else {
-        skips(parameters)
+    if parameters.len() <= own {
+        return &[];
     }
+    let (_front, others) = parameters.split_at(own);
+    others
 }
 
-/// The same of the procedure's own parameters.
+/// Whether a parameter without a name is given behind one that is not: no EXEC has it at its place.
+fn skips_place(call: &Errand) -> bool
+    ensures { result ≡ skips_place call.now }
+{
+    skips(passed_by(&call.way, call.parameters.as_slice()))
+}
+
+/// The same of the parameters of what is run.
 fn skips(parameters: &[RpcParameter]) -> bool
     ensures { result ≡ skips false parameters.now }
 {
@@ -233,7 +252,7 @@ fn name_given(alloc: Global, name: &Units) -> Result<Option<Units>, Memory>
 }
 
 /// The EXEC of a procedure with the arguments of a call, at line 1.
-fn rpc_statement(alloc: Global, name: &Units, call: &RpcCall) -> Result<Statement, Memory>
+fn rpc_statement(alloc: Global, name: &Units, call: &Errand) -> Result<Statement, Memory>
     requires few { is_too_many call.now ≡ false }
     ensures { IfOk result (λ statement. statement ≡ rpc_statement name.now (rpc_arguments call.now)) }
 {
@@ -253,12 +272,12 @@ fn arguments_in(statement: &Statement) -> &[Argument]
 
 // ---- the call
 
-/// The EXEC of a call, whose procedure is looked up or was read.
+/// The EXEC of a call.
 fn run_rpc<P: Port>(
     alloc: Global,
     session: &mut SessionState,
     port: &mut P,
-    call: &RpcCall,
+    call: &Errand,
     read: ReadText,
 ) -> Result<Exit, Memory>
     requires ready { Ready session.old (P.past port.old) }
@@ -268,26 +287,115 @@ fn run_rpc<P: Port>(
     ensures ready { Ready session.new (P.past port.new) }
 {
     if is_too_many(call) {
-        let failure = Failure::plain(OUTSIDE_LIMITS);
-        return fail_call(alloc, session, port, &failure);
+        return fail_unread(alloc, session, port, OUTSIDE_LIMITS, read);
     }
     if skips_place(call) {
-        let failure = Failure::plain(NO_MATCH);
-        return fail_call(alloc, session, port, &failure);
+        return fail_unread(alloc, session, port, NO_MATCH, read);
     }
-    if is_sql(&call.target) {
-        run_sql(alloc, session, port, call, read)
-    } else {
-        run_named(alloc, session, port, call, read)
+    run_way(alloc, session, port, call, read)
+}
+
+/// By how its procedure is found.
+fn run_way<P: Port>(
+    alloc: Global,
+    session: &mut SessionState,
+    port: &mut P,
+    call: &Errand,
+    read: ReadText,
+) -> Result<Exit, Memory>
+    requires ready { Ready session.old (P.past port.old) }
+    requires left { session.old.statements_left ≤ statement_limit }
+    requires fits { All IsParameter call.now.parameters }
+    requires few { is_too_many call.now ≡ false }
+    ensures does { Did (P.past port.old) (P.past port.new) (runs_way (λ inner at. mean_of statement_limit inner at) call.now read call.now.way) session.old result session.new }
+    ensures ready { Ready session.new (P.past port.new) }
+{
+    match &call.way {
+        Way::LooksUp(name) => run_named(alloc, session, port, call, name, read),
+        Way::RunsRead(_) => run_sql(alloc, session, port, call, read),
+        Way::RunsBatch => {
+            let came = run_batch_of(alloc, session, port, call, &read);
+            letting_go(read, came)
+        }
+        Way::Tells => {
+            let came = tell_unless(alloc, session, port, call, &read);
+            letting_go(read, came)
+        }
+        Way::Unmatched => fail_unread(alloc, session, port, NO_MATCH, read),
+        Way::Unknown(handle) => {
+            let came = fail_naming(alloc, session, port, NO_STATEMENT, handle);
+            letting_go(read, came)
+        }
     }
 }
 
-/// That of `sp_executesql`, which was read; a text that is refused is so as that of a batch.
+/// What was read runs as a batch.
+fn run_batch_of<P: Port>(
+    alloc: Global,
+    session: &mut SessionState,
+    port: &mut P,
+    call: &Errand,
+    read: &ReadText,
+) -> Result<Exit, Memory>
+    requires ready { Ready session.old (P.past port.old) }
+    requires left { session.old.statements_left ≤ statement_limit }
+    requires fits { All IsParameter call.now.parameters }
+    requires few { is_too_many call.now ≡ false }
+    ensures does { Did (P.past port.old) (P.past port.new) (runs_text read.now then behind_batch call.now) session.old result session.new }
+    ensures ready { Ready session.new (P.past port.new) }
+{
+    match run_text(alloc, session, port, read)? {
+        Exit::On => tell_well(alloc, session, port, call),
+        exit => Ok(exit),
+    }
+}
+
+/// That the text reads is all.
+fn tell_unless<P: Port>(
+    alloc: Global,
+    session: &mut SessionState,
+    port: &mut P,
+    call: &Errand,
+    read: &ReadText,
+) -> Result<Exit, Memory>
+    requires ready { Ready session.old (P.past port.old) }
+    requires left { session.old.statements_left ≤ statement_limit }
+    requires fits { All IsParameter call.now.parameters }
+    requires few { is_too_many call.now ≡ false }
+    ensures does { Did (P.past port.old) (P.past port.new) (tells_unless call.now read.now) session.old result session.new }
+    ensures ready { Ready session.new (P.past port.new) }
+{
+    match read {
+        ReadText::Refused { .. } => run_text(alloc, session, port, read),
+        ReadText::Statements(_) => tell_well(alloc, session, port, call),
+        ReadText::Defines(_, _, _) => tell_well(alloc, session, port, call),
+    }
+}
+
+/// It is told that all went well.
+fn tell_well<P: Port>(
+    alloc: Global,
+    session: &mut SessionState,
+    port: &mut P,
+    call: &Errand,
+) -> Result<Exit, Memory>
+    requires ready { Ready session.old (P.past port.old) }
+    requires fits { All IsParameter call.now.parameters }
+    requires few { is_too_many call.now ≡ false }
+    ensures does { Did (P.past port.old) (P.past port.new) (tells_well call.now) session.old result session.new }
+    ensures ready { Ready session.new (P.past port.new) }
+{
+    let values = return_values(alloc, session.vars(), call)?;
+    let tokens = returned_tokens(alloc, 0, values)?;
+    tell_returned(alloc, session, port, 0, tokens, Action::Statement)
+}
+
+/// The procedure that was read; a text that is refused is so as that of a batch.
 fn run_sql<P: Port>(
     alloc: Global,
     session: &mut SessionState,
     port: &mut P,
-    call: &RpcCall,
+    call: &Errand,
     read: ReadText,
 ) -> Result<Exit, Memory>
     requires ready { Ready session.old (P.past port.old) }
@@ -312,7 +420,7 @@ fn run_defined<P: Port>(
     alloc: Global,
     session: &mut SessionState,
     port: &mut P,
-    call: &RpcCall,
+    call: &Errand,
     of: Definition,
 ) -> Result<Exit, Memory>
     requires ready { Ready session.old (P.past port.old) }
@@ -333,7 +441,7 @@ fn run_read<P: Port>(
     alloc: Global,
     session: &mut SessionState,
     port: &mut P,
-    call: &RpcCall,
+    call: &Errand,
     procedure: ProcedureTree,
 ) -> Result<Exit, Memory>
     requires ready { Ready session.old (P.past port.old) }
@@ -355,7 +463,7 @@ fn run_within<P: Port>(
     alloc: Global,
     session: &mut SessionState,
     port: &mut P,
-    call: &RpcCall,
+    call: &Errand,
     procedure: ProcedureTree,
 ) -> Result<Exit, Memory>
     requires ready { Ready session.old (P.past port.old) }
@@ -376,31 +484,30 @@ fn run_within<P: Port>(
     run_exec(alloc, session, port, call, arguments, bound)
 }
 
-/// That of a name, which is looked up.
+/// That of a name, which is looked up where it is an object's.
 fn run_named<P: Port>(
     alloc: Global,
     session: &mut SessionState,
     port: &mut P,
-    call: &RpcCall,
+    call: &Errand,
+    name: &Units,
     read: ReadText,
 ) -> Result<Exit, Memory>
     requires ready { Ready session.old (P.past port.old) }
     requires left { session.old.statements_left ≤ statement_limit }
     requires fits { All IsParameter call.now.parameters }
     requires few { is_too_many call.now ≡ false }
-    requires named { is_sql call.now.target ≡ false }
-    ensures does { Did (P.past port.old) (P.past port.new) (execs (λ inner at. mean_of statement_limit inner at) call.now (finds_named call.now (object_in read))) session.old result session.new }
+    ensures does { Did (P.past port.old) (P.past port.new) (execs (λ inner at. mean_of statement_limit inner at) call.now (finds_named call.now name.now (object_in read))) session.old result session.new }
     ensures ready { Ready session.new (P.past port.new) }
 {
-    let Some(name) = object_in(read) else {
-        let failure = naming(alloc, NO_PROCEDURE, name_of(&call.target));
-        return fail_call(alloc, session, port, &failure);
+    let Some(object) = object_in(read) else {
+        return fail_naming(alloc, session, port, NO_PROCEDURE, name);
     };
-    let statement = rpc_statement(alloc, &name, call)?;
+    let statement = rpc_statement(alloc, &object, call)?;
     let arguments = arguments_in(&statement);
     let around = Around::batch();
     let found = find_call(
-        alloc, session, port, &statement, None, &name, arguments, &around,
+        alloc, session, port, &statement, None, &object, arguments, &around,
     );
     run_exec(alloc, session, port, call, arguments, found)
 }
@@ -441,23 +548,12 @@ fn bare_name(procedure: ProcedureTree) -> Option<Units>
     }
 }
 
-/// The name of a target.
-fn name_of(target: &RpcTarget) -> &Units
-    requires { is_sql target.now ≡ false }
-    ensures { result.now ≡ name_of target.now }
-{
-    match target {
-        RpcTarget::Named(name) => name,
-        RpcTarget::ExecuteSql => unreachable!(),
-    }
-}
-
 /// The procedure that was found for a call, or why there is none.
 fn run_exec<P: Port>(
     alloc: Global,
     session: &mut SessionState,
     port: &mut P,
-    call: &RpcCall,
+    call: &Errand,
     arguments: &[Argument],
     found: Result<Call, Failure>,
 ) -> Result<Exit, Memory>
@@ -481,7 +577,7 @@ fn run_found<P: Port>(
     alloc: Global,
     session: &mut SessionState,
     port: &mut P,
-    call: &RpcCall,
+    call: &Errand,
     arguments: &[Argument],
     of: Call,
 ) -> Result<Exit, Memory>
@@ -518,7 +614,7 @@ fn leave_body<P: Port>(
     alloc: Global,
     session: &mut SessionState,
     port: &mut P,
-    call: &RpcCall,
+    call: &Errand,
     exit: &Exit,
     end: &CallEnd<'_>,
 ) -> Result<Exit, Memory>
@@ -556,7 +652,7 @@ fn give_call_back<P: Port>(
     alloc: Global,
     session: &mut SessionState,
     port: &mut P,
-    call: &RpcCall,
+    call: &Errand,
     status: i32,
     end: &CallEnd<'_>,
 ) -> Result<Exit, Memory>
@@ -581,7 +677,7 @@ fn end_exec<P: Port>(
     alloc: Global,
     session: &mut SessionState,
     port: &mut P,
-    call: &RpcCall,
+    call: &Errand,
     count: u32,
     status: i32,
 ) -> Result<Exit, Memory>
@@ -642,7 +738,7 @@ fn tell_returned<P: Port>(
 }
 
 /// RETURNVALUE of each OUTPUT parameter.
-fn return_values(alloc: Global, vars: &Vars, call: &RpcCall) -> Result<Vec<Token>, Memory>
+fn return_values(alloc: Global, vars: &Vars, call: &Errand) -> Result<Vec<Token>, Memory>
     requires fits { All IsParameter call.now.parameters }
     requires few { is_too_many call.now ≡ false }
     ensures told { IfOk result (λ tokens. tokens.items ≡ return_values call.now vars.now) }
@@ -734,6 +830,38 @@ fn is_same(kind: SqlType, other: SqlType) -> bool
 }
 
 // ---- its errors
+
+/// An error of this number, whatever was read for the call.
+fn fail_unread<P: Port>(
+    alloc: Global,
+    session: &mut SessionState,
+    port: &mut P,
+    number: u16,
+    read: ReadText,
+) -> Result<Exit, Memory>
+    requires ready { Ready session.old (P.past port.old) }
+    ensures does { Did (P.past port.old) (P.past port.new) (fails_call (plain number)) session.old result session.new }
+    ensures ready { Ready session.new (P.past port.new) }
+{
+    let came = fail_call(alloc, session, port, &Failure::plain(number));
+    letting_go(read, came)
+}
+
+/// There is no procedure, by an error that names this.
+fn fail_naming<P: Port>(
+    alloc: Global,
+    session: &mut SessionState,
+    port: &mut P,
+    number: u16,
+    name: &Units,
+) -> Result<Exit, Memory>
+    requires ready { Ready session.old (P.past port.old) }
+    ensures does { (call : AnyErrand) → Did (P.past port.old) (P.past port.new) (execs (λ inner at. mean_of statement_limit inner at) call (fails_naming number name.now)) session.old result session.new }
+    ensures ready { Ready session.new (P.past port.new) }
+{
+    let failure = naming(alloc, number, name);
+    fail_call(alloc, session, port, &failure)
+}
 
 /// An error of the EXEC, which ends the call.
 fn fail_call<P: Port>(

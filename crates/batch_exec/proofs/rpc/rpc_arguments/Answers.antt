@@ -1,12 +1,8 @@
-use Rattle.std.proofs.Common.{sym}
-use Rattle.batch_exec.proofs.Parameters.{arguments_named, arguments_sql, few_behind, made_is}
+use Rattle.batch_exec.proofs.Parameters.{arguments_are, few_passed, made_is}
 use Rattle.batch_exec.proofs.rpc.rpc_arguments.Goals as goal
 
 pub arguments_from-requires : goal.arguments_from-requires
-arguments_from-requires c = record { few = few_behind c.args.call.now _ _ c.requires.few c.as_slice-parameters.ensures c.behind_two.ensures }
+arguments_from-requires c = record { few = few_passed c.args.call.now _ _ _ c.requires.few c.own_in-first.ensures.small c.as_slice.ensures c.passed_by-passed.ensures }
 
-pub returns-then-is_sql : goal.returns-then-is_sql
-returns-then-is_sql c = made_is _ _ _ (arguments_sql c.args.call.now _ _ (sym c.if-is_sql.ensures) c.as_slice-parameters.ensures c.behind_two.ensures) c.arguments_from.ensures
-
-pub returns-else-is_sql : goal.returns-else-is_sql
-returns-else-is_sql c = made_is _ _ _ (arguments_named c.args.call.now _ (sym c.if-is_sql.ensures) c.as_slice-parameters.ensures) c.arguments_from-else-is_sql.ensures
+pub returns : goal.returns
+returns c = made_is _ _ _ (arguments_are c.args.call.now _ _ _ c.own_in-first.ensures.count c.as_slice.ensures c.passed_by-passed.ensures) c.arguments_from.ensures

@@ -1,12 +1,11 @@
 use Rattle.std.proofs.Common.{◌≡◌, refl, sym, ◌∙◌}
 use Rattle.batch_meaning.specs.Rpc.{rpc_arguments}
 use Rattle.batch_meaning.proofs.Composed.{does_out, does_then}
-use Rattle.statement_exec.proofs.Parts.{does_naming}
 use Rattle.batch_exec.proofs.Requests.{called_with}
 use Rattle.batch_exec.proofs.rpc.run_named.Goals as goal
 
 pub returns-in_default-clause-does : goal.returns-in_default-clause-does
-returns-in_default-clause-does g c = rw (sym c.object_in.ensures ∙ c.in_default.is) (does_then _ _ (does_naming _ _ _ (rw c.name_of.ensures at c.naming-failure.ensures)) c.fail_call.ensures.does)
+returns-in_default-clause-does g c = rw (sym c.object_in.ensures ∙ c.in_default.is) (c.fail_naming.ensures.does _)
 
 pub returns-in_err-statement-clause-does : goal.returns-in_err-statement-clause-does
 returns-in_err-statement-clause-does g c = does_out _ c.from_residual.ensures.0 refl

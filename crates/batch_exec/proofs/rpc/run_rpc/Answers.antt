@@ -5,16 +5,12 @@ use Rattle.batch_exec.proofs.rpc.run_rpc.Goals as goal
 
 pub returns-then-is_too_many-clause-does : goal.returns-then-is_too_many-clause-does
 unfolding runs_rpc
-returns-then-is_too_many-clause-does g c = does_yes _ _ _ (sym c.if-is_too_many.ensures) (rw c.plain-failure.ensures at c.fail_call.ensures.does)
+returns-then-is_too_many-clause-does g c = does_yes _ _ _ (sym c.if-is_too_many.ensures) c.fail_unread.ensures.does
 
 pub returns-then-skips_place-clause-does : goal.returns-then-skips_place-clause-does
 unfolding runs_rpc
-returns-then-skips_place-clause-does g c = does_no _ _ _ (sym c.if-is_too_many.ensures) (does_yes _ _ _ (sym c.if-skips_place.ensures) (rw c.plain-failure-then-skips_place.ensures at c.fail_call-then-skips_place.ensures.does))
+returns-then-skips_place-clause-does g c = does_no _ _ _ (sym c.if-is_too_many.ensures) (does_yes _ _ _ (sym c.if-skips_place.ensures) c.fail_unread-then-skips_place.ensures.does)
 
-pub returns-then-is_sql-clause-does : goal.returns-then-is_sql-clause-does
+pub returns-clause-does : goal.returns-clause-does
 unfolding runs_rpc
-returns-then-is_sql-clause-does g c = does_no _ _ _ (sym c.if-is_too_many.ensures) (does_no _ _ _ (sym c.if-skips_place.ensures) (does_yes _ _ _ (sym c.if-is_sql.ensures) c.run_sql.ensures.does))
-
-pub returns-else-is_sql-clause-does : goal.returns-else-is_sql-clause-does
-unfolding runs_rpc
-returns-else-is_sql-clause-does g c = does_no _ _ _ (sym c.if-is_too_many.ensures) (does_no _ _ _ (sym c.if-skips_place.ensures) (does_no _ _ _ (sym c.if-is_sql.ensures) c.run_named.ensures.does))
+returns-clause-does g c = does_no _ _ _ (sym c.if-is_too_many.ensures) (does_no _ _ _ (sym c.if-skips_place.ensures) c.run_way.ensures.does)
