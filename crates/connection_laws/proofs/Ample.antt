@@ -47,7 +47,7 @@ all_end = record {
   grants = λ size. whole_behind _ _ tt (whole_behind _ _ tt (whole_behind _ _ tt (whole_behind _ _ tt (whole_last _ none_follows))));
   refuses = λ number usual. whole_behind _ _ tt (whole_last _ none_follows);
   attends = λ size. whole_last _ none_follows;
-  unserved_call = λ size at. whole_behind _ _ tt (whole_last _ none_follows);
+  unserved_call = λ size number at usual. whole_behind _ _ tt (whole_last _ none_follows);
   unserved_request = λ size at. whole_behind _ _ tt (whole_last _ none_follows);
 }
 
@@ -89,7 +89,7 @@ all_refuse_none = record {
   grants = λ size. (tt, (tt, (tt, (tt, (tt, tt)))));
   refuses = λ number usual. (usual_none number usual, (tt, tt));
   attends = λ size. (tt, tt);
-  unserved_call = λ size at. (usual_none (pos 8016) refl, (tt, tt));
+  unserved_call = λ size number at usual. (usual_none (pos number) usual, (tt, tt));
   unserved_request = λ size at. (usual_none (pos 49014) refl, (tt, tt));
 }
 

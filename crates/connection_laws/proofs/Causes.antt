@@ -30,7 +30,7 @@ module _ (error : LockError) where
     grants = λ size. (tt, (tt, (tt, (tt, (tt, tt)))));
     refuses = λ number usual. (lock_usual error number usual, (tt, tt));
     attends = λ size. (tt, tt);
-    unserved_call = λ size at. (lock_usual error (pos 8016) refl, (tt, tt));
+    unserved_call = λ size number at usual. (lock_usual error (pos number) usual, (tt, tt));
     unserved_request = λ size at. (lock_usual error (pos 49014) refl, (tt, tt));
   }
 

@@ -1,5 +1,6 @@
 -- Read in this order; the comment behind a name says what the file is for.
 pub mod Sizes  -- a call has no text that is longer than its payload
+pub mod Taken  -- nor is what a call of a driver is run as long, or what is kept behind it
 pub mod Short  -- texts of messages are short, so what they keep reads back
 pub mod Talks  -- what a talk has asked, request by request
 pub mod Shut  -- what a batch or a call that was left has open is rolled back

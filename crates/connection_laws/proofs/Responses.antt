@@ -15,16 +15,20 @@ use Rattle.tds_login.specs.Prelogin.{prelogin_of}
 use Rattle.tds_login.specs.Login.{login_of}
 use Rattle.tds_login.specs.Verdict.{has_credentials, is_known, judge_login, login_failed, login_reply, size_for, unknown_database}
 use Rattle.step_model.specs.Exchange.{Exchange}
+use Rattle.rpc_requests.specs.declared.call.DriverCall.{DriverCall}
 use Rattle.rpc_requests.specs.declared.call.RpcCall.{RpcCall}
 use Rattle.rpc_requests.specs.declared.fault.RpcFault.{RpcFault}
 use Rattle.rpc_requests.specs.declared.fault.RpcFault.TheVariants as rpc_fault
 use Rattle.rpc_requests.specs.declared.fault.RpcKind.{RpcKind}
+use Rattle.rpc_requests.specs.declared.fault.RpcKind.TheVariants as rpc_kind
+use Rattle.rpc_requests.specs.Drivers.{driver_call_of}
 use Rattle.rpc_requests.specs.Reading.{rpc_of}
 use Rattle.transaction_requests.specs.declared.fault.TransactionFault.{TransactionFault}
 use Rattle.transaction_requests.specs.declared.fault.TransactionFault.TheVariants as transaction_fault
 use Rattle.transaction_requests.specs.declared.fault.TransactionKind.{TransactionKind}
 use Rattle.transaction_requests.specs.Text.{managed}
 use Rattle.batch_meaning.specs.declared.form.ReadText.{ReadText}
+use Rattle.batch_meaning.specs.Drivers.{KeptStatements}
 use Rattle.batch_meaning.specs.Doing.{Doing, over, ◌then◌, Held}
 use Rattle.batch_meaning.specs.Meaning.{rolls_back_open}
 use Rattle.batch_meaning.specs.Progress.{SessionProgress, first_progress}
@@ -38,8 +42,8 @@ use Rattle.session_server.specs.declared.end.BatchFault.{BatchFault}
 use Rattle.session_server.specs.declared.end.End.{End}
 use Rattle.session_server.specs.Conversation.{Abandons, IsAsked, closed}
 use Rattle.session_server.specs.Ends.{Cause, no_message, by_message, unsent, unmade}
-use Rattle.session_server.specs.Response.{Response, attention_tokens, call_unserved, options, refusal_tokens, request_unserved, tabular, unserved}
-use Rattle.session_server.specs.Talk.{AreRequests, Handling, IsReadAs, IsRequest, Request, Walk, batch_fault, calls, connected_with, ends, first_walk, handle, handle_batch, handle_logged, handle_login, handle_prelogin, handle_request, handle_rpc, handle_verdict, handling_in, is_unserved_call, is_unserved_request, refuse_call, refuse_request, refuses, responds, response_to, runs, talk_of, walk_by, walk_of, walk_on, with_handling, with_message, with_request}
+use Rattle.session_server.specs.Response.{Response, attention_tokens, options, refusal_tokens, request_unserved, tabular, unserved}
+use Rattle.session_server.specs.Talk.{AreRequests, Handling, IsReadAs, IsRequest, Request, Walk, batch_fault, calls, connected_with, ends, first_walk, handle, handle_batch, handle_call, handle_driver_call, handle_logged, handle_login, handle_prelogin, handle_request, handle_rpc, handle_verdict, handling_in, is_unserved_call, is_unserved_request, keeping, refuse_call, refuse_request, refuses, responds, response_to, runs, talk_of, unserved_by, walk_by, walk_of, walk_on, with_handling, with_message, with_request}
 use Rattle.sound_laws.proofs.Looked.{all_left}
 use Rattle.connection_laws.proofs.Short.{GoesBy, IsLimited, IsReached, first_reached, handled_goes}
 
@@ -56,8 +60,18 @@ pub record AllFine (Fine : Response → Type 0) : Type 0 where
   pub grants : (size : ℕ) → Fine (tabular default_size (login_reply size))
   pub refuses : (number : ℤ) → IsUsual number → Fine (tabular default_size (refusal_tokens number))
   pub attends : (size : ℕ) → Fine (tabular size attention_tokens)
-  pub unserved_call : (size at : ℕ) → Fine (tabular size (unserved call_unserved at (rpc_done true)))
+  pub unserved_call : (size number at : ℕ) → IsUsual (pos number) → Fine (tabular size (unserved number at (rpc_done true)))
   pub unserved_request : (size at : ℕ) → Fine (tabular size (unserved request_unserved at (batch_done true)))
+
+-- the number by which what is not served of a call is refused
+unserved_usual : (kind : RpcKind) → IsUsual (pos (unserved_by kind))
+unserved_usual rpc_kind.Headers = refl
+unserved_usual rpc_kind.Cut = refl
+unserved_usual rpc_kind.Procedure = refl
+unserved_usual rpc_kind.Kind = refl
+unserved_usual rpc_kind.Value = refl
+unserved_usual rpc_kind.Trailing = refl
+unserved_usual rpc_kind.Long = refl
 
 module _ (Fine : Response → Type 0) (all_fine : AllFine Fine) where
   -- so it is of a response that is none of a batch or a call
@@ -89,31 +103,39 @@ module _ (Fine : Response → Type 0) (all_fine : AllFine Fine) where
   login_fine config (Err fault) = all_fine.refuses (pos 49010) refl
 
   -- on a connection that is logged in
-  module _ (config : Config) (size : ℕ) where
-    batch_fine : (payload : List ℕ) (fault : Option BatchFault) → HandlesFine (handle_batch (connected_with config size) payload fault)
+  module _ (config : Config) (size : ℕ) (kept : KeptStatements) where
+    batch_fine : (payload : List ℕ) (fault : Option BatchFault) → HandlesFine (handle_batch (keeping (connected_with config size) kept) payload fault)
     batch_fine payload None = tt
     batch_fine payload (Some fault) = tt
 
-    call_refused : (at : ℕ) (kind : RpcKind) → HandlesFine (refuse_call (connected_with config size) at kind)
-    call_refused at kind = fine_if (is_unserved_call kind) _ _ (all_fine.unserved_call size at) tt
-
-    rpc_fine : (read : Result RpcCall RpcFault) → HandlesFine (handle_rpc (connected_with config size) read)
+    rpc_fine : (read : Result RpcCall RpcFault) → HandlesFine (handle_rpc (keeping (connected_with config size) kept) read)
     rpc_fine (Ok call) = tt
-    rpc_fine (Err (rpc_fault.Bad at kind)) = fine_if config.drivers _ _ (call_refused at kind) tt
+    rpc_fine (Err (rpc_fault.Bad at _)) = tt
     rpc_fine (Err rpc_fault.Memory) = tt
 
-    request_refused : (at : ℕ) (kind : TransactionKind) → HandlesFine (refuse_request (connected_with config size) at kind)
+    call_refused : (at : ℕ) (kind : RpcKind) → HandlesFine (refuse_call (keeping (connected_with config size) kept) at kind)
+    call_refused at kind = fine_if (is_unserved_call kind) _ _ (all_fine.unserved_call size (unserved_by kind) at (unserved_usual kind)) tt
+
+    driver_fine : (read : Result DriverCall RpcFault) → HandlesFine (handle_driver_call (keeping (connected_with config size) kept) read)
+    driver_fine (Ok call) = tt
+    driver_fine (Err (rpc_fault.Bad at kind)) = call_refused at kind
+    driver_fine (Err rpc_fault.Memory) = tt
+
+    call_fine : (payload : List ℕ) → HandlesFine (handle_call (keeping (connected_with config size) kept) payload)
+    call_fine payload = fine_if config.drivers _ _ (driver_fine (driver_call_of payload)) (rpc_fine (rpc_of payload))
+
+    request_refused : (at : ℕ) (kind : TransactionKind) → HandlesFine (refuse_request (keeping (connected_with config size) kept) at kind)
     request_refused at kind = fine_if (is_unserved_request kind) _ _ (all_fine.unserved_request size at) tt
 
-    request_fine : (read : Result (List ℕ) TransactionFault) → HandlesFine (handle_request (connected_with config size) read)
+    request_fine : (read : Result (List ℕ) TransactionFault) → HandlesFine (handle_request (keeping (connected_with config size) kept) read)
     request_fine (Ok text) = tt
     request_fine (Err (transaction_fault.Bad at kind)) = request_refused at kind
     request_fine (Err transaction_fault.Memory) = tt
 
-    logged_fine : (message : Message) → HandlesFine (handle_logged (connected_with config size) message)
+    logged_fine : (message : Message) → HandlesFine (handle_logged (keeping (connected_with config size) kept) message)
     logged_fine message =
         fine_if (message.kind == sql_batch) _ _ (batch_fine message.payload (batch_fault message.payload))
-        (fine_if (message.kind == rpc_request) _ _ (rpc_fine (rpc_of message.payload))
+        (fine_if (message.kind == rpc_request) _ _ (call_fine message.payload)
         (fine_if (message.kind == attention) _ _ (all_fine.attends size)
         (fine_if (message.kind == transaction_manager && config.drivers) _ _ (request_fine (managed message.payload)) tt)))
 
@@ -126,7 +148,7 @@ module _ (Fine : Response → Type 0) (all_fine : AllFine Fine) where
   handled_fine config walk message (inl first) = subst (FineBy (λ state. handle config state message)) (sym first)
       (fine_if (message.kind == prelogin) _ _ (prelogin_fine (prelogin_of message.payload)) (fine_if (message.kind == login7) _ _ (login_fine config (login_of message.payload)) tt))
   handled_fine config walk message (inr (inl (read, ready))) = subst (FineBy (λ state. handle config state message)) (sym ready) (fine_if (message.kind == login7) _ _ (login_fine config (login_of message.payload)) tt)
-  handled_fine config walk message (inr (inr (inl (size, logged)))) = subst (FineBy (λ state. handle config state message)) (sym logged) (logged_fine config size message)
+  handled_fine config walk message (inr (inr (inl so))) = subst (FineBy (λ state. handle config state message)) (sym so.at) (logged_fine config so.size so.kept message)
   handled_fine config walk message (inr (inr (inr (end, ended)))) = subst (FineBy (λ state. handle config state message)) (sym ended) tt
 
   -- ---- all messages

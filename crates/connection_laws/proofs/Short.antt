@@ -1,4 +1,5 @@
--- The payload of a message has a limit, so the text of a batch is short, and what its CREATE TABLEs keep reads back.
+-- The payload of a message has a limit, so the text of a batch is short, and so is that of a call, and of each statement that is kept for later
+-- calls; and what its CREATE TABLEs keep reads back.
 use Rattle.std.proofs.Common.{◌≡◌, ◌⊎◌, inl, inr, ℕ, ◌+◌, ◌≤◌, ◌==◌, ◌&&◌, Bool, true, false, if◌then◌else◌, List, [], ◌∷◌, ◌++◌, fold, map, length, drop, Option, None, Some, Result, Ok, Err, refl, sym, ap, subst, arith, length-drop}
 use Rattle.std.specs.Prelude.{ℤ}
 use Rattle.std.specs.List.{All, AllByRecursion}
@@ -19,25 +20,31 @@ use Rattle.tds_login.specs.declared.prelogin.PreloginFault.{PreloginFault}
 use Rattle.tds_login.specs.Prelogin.{prelogin_of}
 use Rattle.tds_login.specs.Login.{login_of}
 use Rattle.tds_login.specs.Verdict.{judge_login}
+use Rattle.rpc_requests.specs.declared.call.DriverCall.{DriverCall}
 use Rattle.rpc_requests.specs.declared.call.RpcCall.{RpcCall}
 use Rattle.rpc_requests.specs.declared.fault.RpcFault.{RpcFault}
 use Rattle.rpc_requests.specs.declared.fault.RpcFault.TheVariants as rpc_fault
 use Rattle.rpc_requests.specs.declared.fault.RpcKind.{RpcKind}
+use Rattle.rpc_requests.specs.Drivers.{driver_call_of}
 use Rattle.rpc_requests.specs.Reading.{rpc_of}
 use Rattle.transaction_requests.specs.declared.fault.TransactionFault.{TransactionFault}
 use Rattle.transaction_requests.specs.declared.fault.TransactionFault.TheVariants as transaction_fault
 use Rattle.transaction_requests.specs.declared.fault.TransactionKind.{TransactionKind}
 use Rattle.transaction_requests.specs.Text.{managed}
 use Rattle.transaction_requests.proofs.Sizes.{managed_few}
-use Rattle.batch_meaning.specs.Rpc.{ReadsFor, rpc_text}
+use Rattle.batch_meaning.specs.Drivers.{KeptStatements, none_kept, taken}
+use Rattle.batch_meaning.specs.Rpc.{ReadsFor}
+use Rattle.batch_meaning.specs.declared.errand.Way.{Way}
+use Rattle.batch_meaning.specs.declared.errand.Way.TheVariants as way
 use Rattle.batch_meaning.specs.declared.form.ReadText.{ReadText}
 use Rattle.session_server.specs.declared.end.BatchFault.{BatchFault}
 use Rattle.session_server.specs.declared.end.End.{End}
-use Rattle.session_server.specs.Talk.{Handling, responds, runs, calls, refuses, ends, connected_with, first_in, next_of, handle_prelogin, handle_verdict, handle_login, refuse_call, handle_rpc, refuse_request, handle_request, headers_length, is_unserved_call, is_unserved_request, batch_fault, text_of, handle_batch, handle_logged, handle, Walk, with_handling, walk_on, walk_by, with_message, first_walk, walk_of, Request, IsReadAs, IsRequest, handling_in, AreRequests}
-use Rattle.sound_laws.specs.Runs.{Task, TaskReadsBack}
+use Rattle.session_server.specs.Talk.{Handling, responds, runs, calls, refuses, ends, connected_with, keeping, first_in, next_of, handle_prelogin, handle_verdict, handle_login, handle_rpc, refuse_call, handle_driver_call, handle_call, refuse_request, handle_request, headers_length, is_unserved_call, is_unserved_request, batch_fault, text_of, handle_batch, handle_logged, handle, Walk, with_handling, walk_on, walk_by, with_message, first_walk, walk_of, Request, IsReadAs, IsRequest, handling_in, AreRequests}
+use Rattle.sound_laws.specs.Runs.{ErrandReadsBack, Task, TaskReadsBack}
 use Rattle.text_laws.specs.Laws.{CallReadsBack, TextReadsBack}
 use Rattle.text_laws.proofs.Served.{served_call, served_text}
 use Rattle.connection_laws.proofs.Sizes.{IsShortText, call_short}
+use Rattle.connection_laws.proofs.Taken.{AreShortKept, taken_short}
 use Rattle.connection_laws.specs.Tasks.{tasks_of, with_task}
 
 -- ---- one message
@@ -57,16 +64,23 @@ request_short payload text limit is = omega (arith, managed_few payload text is)
 -- the text of a batch that is run is short, or that of a call
 abbrev pub IsShort : Handling → Type 0
 IsShort (runs connected text) = length text ≤ longest_text
-IsShort (calls connected call) = IsShortText (rpc_text call)
+IsShort (calls connected call) = IsShortText call.text
 IsShort handling = Unit {0}
 
--- The connection stands where it begins before a login, behind a PRELOGIN, or logged in; or it has ended. The type of its
--- states is the code's own, so each is told here by what leads to it.
+-- The connection is logged in with packets of a size, and each statement that it keeps is short. The type of its states is the code's
+-- own, so each is told here by what leads to it.
+pub record IsLoggedIn (config : Config) (walk : Walk) : Type 0 where
+  pub size : ℕ
+  pub kept : KeptStatements
+  pub at : walk.stands ≡ next_of (runs (keeping (connected_with config size) kept) [])
+  pub short : AreShortKept kept
+
+-- The connection stands where it begins before a login, behind a PRELOGIN, or logged in; or it has ended.
 abbrev pub IsReached : Config → Walk → Type 0
 IsReached config walk =
     (walk.stands ≡ Ok (first_in config AsksLogin))
     ⊎ (((read : Prelogin) × (walk.stands ≡ next_of (handle_prelogin (Ok read))))
-    ⊎ (((size : ℕ) × (walk.stands ≡ next_of (runs (connected_with config size) [])))
+    ⊎ (IsLoggedIn config walk
     ⊎ ((end : End) × (walk.stands ≡ Err end))))
 
 module _ (config : Config) (walk : Walk) where
@@ -86,45 +100,59 @@ module _ (config : Config) (walk : Walk) where
   prelogin_goes (Err fault) = (tt, inr (inr (inr (_, refl))))
 
   verdict_goes : (verdict : Result ℕ ℤ) → Goes (handle_verdict config verdict)
-  verdict_goes (Ok size) = (tt, inr (inr (inl (size, refl))))
+  verdict_goes (Ok size) = (tt, inr (inr (inl (record { size = size; kept = none_kept; at = refl; short = tt }))))
   verdict_goes (Err number) = (tt, inr (inr (inr (_, refl))))
 
   login_goes : (read : Result Login LoginFault) → Goes (handle_login config read)
   login_goes (Ok login) = verdict_goes (judge_login login config)
   login_goes (Err fault) = (tt, inr (inr (inr (_, refl))))
 
-  module _ (size : ℕ) where
-    batch_goes : (payload : List ℕ) → length payload ≤ payload_limit → (fault : Option BatchFault) → Goes (handle_batch (connected_with config size) payload fault)
-    batch_goes payload limit None = (text_short payload limit, inr (inr (inl (size, refl))))
+  module _ (size : ℕ) (kept : KeptStatements) (short : AreShortKept kept) where
+    batch_goes : (payload : List ℕ) → length payload ≤ payload_limit → (fault : Option BatchFault) → Goes (handle_batch (keeping (connected_with config size) kept) payload fault)
+    batch_goes payload limit None = (text_short payload limit, inr (inr (inl (record { size = size; kept = kept; at = refl; short = short }))))
     batch_goes payload limit (Some fault) = ends_goes _
 
-    call_refused : (at : ℕ) (kind : RpcKind) → Goes (refuse_call (connected_with config size) at kind)
-    call_refused at kind = goes_if (is_unserved_call kind) _ _ (tt, inr (inr (inl (size, refl)))) (ends_goes _)
-
-    rpc_goes : (payload : List ℕ) → length payload ≤ payload_limit → Goes (handle_rpc (connected_with config size) (rpc_of payload))
+    rpc_goes : (payload : List ℕ) → length payload ≤ payload_limit → Goes (handle_rpc (keeping (connected_with config size) kept) (rpc_of payload))
     rpc_goes payload limit = by_read (rpc_of payload) refl
       where
-        by_read : (read : Result RpcCall RpcFault) → rpc_of payload ≡ read → Goes (handle_rpc (connected_with config size) read)
-        by_read (Ok call) is = (call_short payload call limit is, inr (inr (inl (size, refl))))
-        by_read (Err (rpc_fault.Bad at kind)) is = goes_if config.drivers _ _ (call_refused at kind) (ends_goes _)
+        by_read : (read : Result RpcCall RpcFault) → rpc_of payload ≡ read → Goes (handle_rpc (keeping (connected_with config size) kept) read)
+        by_read (Ok call) is = (call_short payload call limit is, inr (inr (inl (record { size = size; kept = kept; at = refl; short = short }))))
+        by_read (Err (rpc_fault.Bad at _)) is = ends_goes _
         by_read (Err rpc_fault.Memory) is = ends_goes _
 
-    request_refused : (at : ℕ) (kind : TransactionKind) → Goes (refuse_request (connected_with config size) at kind)
-    request_refused at kind = goes_if (is_unserved_request kind) _ _ (tt, inr (inr (inl (size, refl)))) (ends_goes _)
+    call_refused : (at : ℕ) (kind : RpcKind) → Goes (refuse_call (keeping (connected_with config size) kept) at kind)
+    call_refused at kind = goes_if (is_unserved_call kind) _ _ (tt, inr (inr (inl (record { size = size; kept = kept; at = refl; short = short })))) (ends_goes _)
 
-    request_goes : (payload : List ℕ) → length payload ≤ payload_limit → Goes (handle_request (connected_with config size) (managed payload))
+    -- what is kept behind a call of a driver is short, too
+    driver_goes : (payload : List ℕ) → length payload ≤ payload_limit → Goes (handle_driver_call (keeping (connected_with config size) kept) (driver_call_of payload))
+    driver_goes payload limit = by_read (driver_call_of payload) refl
+      where
+        by_read : (read : Result DriverCall RpcFault) → driver_call_of payload ≡ read → Goes (handle_driver_call (keeping (connected_with config size) kept) read)
+        by_read (Ok call) is =
+            let so = taken_short payload call kept limit is short in
+            (so.0, inr (inr (inl (record { size = size; kept = (taken kept call).1; at = refl; short = so.1 }))))
+        by_read (Err (rpc_fault.Bad at kind)) is = call_refused at kind
+        by_read (Err rpc_fault.Memory) is = ends_goes _
+
+    call_goes : (payload : List ℕ) → length payload ≤ payload_limit → Goes (handle_call (keeping (connected_with config size) kept) payload)
+    call_goes payload limit = goes_if config.drivers _ _ (driver_goes payload limit) (rpc_goes payload limit)
+
+    request_refused : (at : ℕ) (kind : TransactionKind) → Goes (refuse_request (keeping (connected_with config size) kept) at kind)
+    request_refused at kind = goes_if (is_unserved_request kind) _ _ (tt, inr (inr (inl (record { size = size; kept = kept; at = refl; short = short })))) (ends_goes _)
+
+    request_goes : (payload : List ℕ) → length payload ≤ payload_limit → Goes (handle_request (keeping (connected_with config size) kept) (managed payload))
     request_goes payload limit = by_read (managed payload) refl
       where
-        by_read : (read : Result (List ℕ) TransactionFault) → managed payload ≡ read → Goes (handle_request (connected_with config size) read)
-        by_read (Ok text) is = (request_short payload text limit is, inr (inr (inl (size, refl))))
+        by_read : (read : Result (List ℕ) TransactionFault) → managed payload ≡ read → Goes (handle_request (keeping (connected_with config size) kept) read)
+        by_read (Ok text) is = (request_short payload text limit is, inr (inr (inl (record { size = size; kept = kept; at = refl; short = short }))))
         by_read (Err (transaction_fault.Bad at kind)) is = request_refused at kind
         by_read (Err transaction_fault.Memory) is = ends_goes _
 
-    logged_goes : (message : Message) → length message.payload ≤ payload_limit → Goes (handle_logged (connected_with config size) message)
+    logged_goes : (message : Message) → length message.payload ≤ payload_limit → Goes (handle_logged (keeping (connected_with config size) kept) message)
     logged_goes message limit =
         goes_if (message.kind == sql_batch) _ _ (batch_goes message.payload limit (batch_fault message.payload))
-        (goes_if (message.kind == rpc_request) _ _ (rpc_goes message.payload limit)
-        (goes_if (message.kind == attention) _ _ (tt, inr (inr (inl (size, refl))))
+        (goes_if (message.kind == rpc_request) _ _ (call_goes message.payload limit)
+        (goes_if (message.kind == attention) _ _ (tt, inr (inr (inl (record { size = size; kept = kept; at = refl; short = short }))))
         (goes_if (message.kind == transaction_manager && config.drivers) _ _ (request_goes message.payload limit) (ends_goes _))))
 
 -- the payload of a message is within its limit
@@ -142,7 +170,7 @@ handled_goes config walk message limit (inl first) = subst (GoesBy config walk (
     (goes_if config walk (message.kind == prelogin) _ _ (prelogin_goes config walk (prelogin_of message.payload)) (goes_if config walk (message.kind == login7) _ _ (login_goes config walk (login_of message.payload)) (ends_goes config walk _)))
 handled_goes config walk message limit (inr (inl (read, ready))) = subst (GoesBy config walk (λ state. handle config state message)) (sym ready)
     (goes_if config walk (message.kind == login7) _ _ (login_goes config walk (login_of message.payload)) (ends_goes config walk _))
-handled_goes config walk message limit (inr (inr (inl (size, logged)))) = subst (GoesBy config walk (λ state. handle config state message)) (sym logged) (logged_goes config walk size message limit)
+handled_goes config walk message limit (inr (inr (inl so))) = subst (GoesBy config walk (λ state. handle config state message)) (sym so.at) (logged_goes config walk so.size so.kept so.short message limit)
 handled_goes config walk message limit (inr (inr (inr (end, ended)))) = subst (GoesBy config walk (λ state. handle config state message)) (sym ended) tt
 
 -- where it goes on from a state, the text is short
@@ -189,7 +217,7 @@ module _ (config : Config) where
 
   pub first_reached : (entry : Entry) → config.entry ≡ entry → IsReached config (first_walk config)
   first_reached AsksLogin is = inl (ap (λ entry. Ok (first_in config entry)) is)
-  first_reached Bare is = inr (inr (inl (default_size, ap (λ entry. Ok (first_in config entry)) is)))
+  first_reached Bare is = inr (inr (inl (record { size = default_size; kept = none_kept; at = ap (λ entry. Ok (first_in config entry)) is; short = tt })))
 
   pub walk_short : (messages : List Message) → AllByRecursion IsLimited messages → IsShortWalk (walk_of config messages)
   unfolding walk_of
@@ -200,16 +228,28 @@ module _ (config : Config) where
 -- what is run reads back
 abbrev pub HandledBack : Handling → ReadText → Type 0
 HandledBack (runs connected text) read_as = TextReadsBack read_as
-HandledBack (calls connected call) read_as = CallReadsBack read_as
+HandledBack (calls connected call) read_as = ErrandReadsBack call.way read_as
 HandledBack handling read_as = Unit {0}
+
+ran_back : (text : Option (List ℕ)) (read_as : ReadText) → IsShortText text → ReadsFor text read_as → TextReadsBack read_as
+ran_back None read_as short none = subst TextReadsBack (sym none) tt
+ran_back (Some text) read_as short reads = served_text text read_as reads short
 
 called_back : (text : Option (List ℕ)) (read_as : ReadText) → IsShortText text → ReadsFor text read_as → CallReadsBack read_as
 called_back None read_as short none = subst CallReadsBack (sym none) tt
 called_back (Some text) read_as short reads = served_call text read_as reads short
 
+errand_back : (of : Way) (text : Option (List ℕ)) (read_as : ReadText) → IsShortText text → ReadsFor text read_as → ErrandReadsBack of read_as
+errand_back way.RunsBatch text read_as short reads = ran_back text read_as short reads
+errand_back (way.LooksUp name) text read_as short reads = called_back text read_as short reads
+errand_back (way.RunsRead own) text read_as short reads = called_back text read_as short reads
+errand_back way.Tells text read_as short reads = called_back text read_as short reads
+errand_back way.Unmatched text read_as short reads = called_back text read_as short reads
+errand_back (way.Unknown handle) text read_as short reads = called_back text read_as short reads
+
 pub text_back : (handling : Handling) (read_as : ReadText) → IsShort handling → IsReadAs handling read_as → HandledBack handling read_as
 text_back (runs connected text) read_as short reads = served_text text read_as reads short
-text_back (calls connected call) read_as short reads = called_back (rpc_text call) read_as short reads
+text_back (calls connected call) read_as short reads = errand_back call.way call.text read_as short reads
 text_back (responds response next) read_as short none = tt
 text_back (refuses response number) read_as short none = tt
 text_back (ends end) read_as short none = tt

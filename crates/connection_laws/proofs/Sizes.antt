@@ -1,5 +1,5 @@
 -- What is read for a call is short, since no text of a call is longer than its payload.
-use Rattle.std.proofs.Common.{◌≡◌, ℕ, ◌+◌, ◌≤◌, Bool, true, false, List, [], ◌∷◌, ◌++◌, length, length-append, Option, None, Some, Ok, arith}
+use Rattle.std.proofs.Common.{◌≡◌, ℕ, ◌+◌, ◌*◌, ◌≤◌, Bool, true, false, List, [], ◌∷◌, ◌++◌, length, length-append, Option, None, Some, Ok, arith}
 use Rattle.std.specs.Prelude.{codes, if◌then◌else◌}
 use Rattle.std.specs.List.{AllByRecursion}
 use Rattle.std.specs.Option.{option_and_then, option_map}
@@ -15,6 +15,13 @@ use Rattle.rpc_requests.specs.Reading.{rpc_of}
 use Rattle.rpc_requests.proofs.Sizes.{HasShort, HasSmall, IsSmall, IsSmallCall, rpc_small}
 use Rattle.batch_meaning.specs.Rpc.{is_sql, name_of, rpc_text, sql_in, text_in, text_value}
 
+-- what is no longer than a payload is no longer than any may be; declarations are read as nine times as many units at most
+pub within : (n : ℕ) → n ≤ payload_limit → (m : ℕ) → m ≤ n → m ≤ payload_limit
+within n limit m few = omega (arith, few, limit)
+
+wider : (n : ℕ) → n ≤ payload_limit → (m : ℕ) → m ≤ n → m ≤ 9 * payload_limit
+wider n limit m few = omega (arith, few, limit)
+
 -- ---- the text that is read for a call
 
 -- it is short, if there is one
@@ -23,11 +30,11 @@ IsShortText None = Unit {0}
 IsShortText (Some text) = length text ≤ longest_text
 
 -- of at most so many units, if there is one
-abbrev AtMostIf : ℕ → Option (List ℕ) → Type 0
+abbrev pub AtMostIf : ℕ → Option (List ℕ) → Type 0
 AtMostIf n None = Unit {0}
 AtMostIf n (Some text) = length text ≤ n
 
-value_few : (n : ℕ) (missing : Bool) (value : Value) → IsSmall n value → AtMostIf n (if missing then None else text_value value)
+pub value_few : (n : ℕ) (missing : Bool) (value : Value) → IsSmall n value → AtMostIf n (if missing then None else text_value value)
 value_few n true value small = tt
 value_few n false (Text units) small = small
 value_few n false Null small = tt
@@ -35,8 +42,8 @@ value_few n false (Whole number) small = tt
 value_few n false (Bit bit) small = tt
 
 -- around at most a hundred units of its own
-put_short : (front middle : List ℕ) (n : ℕ) (declared body : List ℕ) → n ≤ payload_limit → length front + length middle ≤ 100 → length declared ≤ n → length body ≤ n → length (front ++ declared ++ middle ++ body) ≤ longest_text
-put_short front middle n declared body limit own one two =
+pub put_short : (front middle declared body : List ℕ) → length front + length middle ≤ 100 → length declared ≤ 9 * payload_limit → length body ≤ payload_limit → length (front ++ declared ++ middle ++ body) ≤ longest_text
+put_short front middle declared body own one two =
     omega (arith, length-append (front ++ declared ++ middle) body, length-append (front ++ declared) middle, length-append front declared)
 
 sql_short : (n : ℕ) → n ≤ payload_limit → (parameters : List RpcParameter) → AllByRecursion (HasSmall n) parameters → IsShortText (sql_in parameters)
@@ -45,17 +52,20 @@ sql_short n limit (statement ∷ []) small = by_body (text_in statement) (value_
   where
     by_body : (body : Option (List ℕ)) → AtMostIf n body → IsShortText (option_map (λ text. codes "CREATE PROCEDURE [sp_executesql] " ++ [] ++ codes " AS " ++ text) body)
     by_body None few = tt
-    by_body (Some body) few = put_short (codes "CREATE PROCEDURE [sp_executesql] ") (codes " AS ") n [] body limit (omega arith) (omega arith) few
+    by_body (Some body) few = put_short (codes "CREATE PROCEDURE [sp_executesql] ") (codes " AS ") [] body (omega arith) (omega arith) (within n limit (length body) few)
 sql_short n limit (statement ∷ declarations ∷ others) small = by_declared (text_in declarations) (text_in statement) (value_few n declarations.missing declarations.value small.1.0) (value_few n statement.missing statement.value small.0)
   where
     by_declared : (declared body : Option (List ℕ)) → AtMostIf n declared → AtMostIf n body
         → IsShortText (option_and_then (λ text. option_map (λ other. codes "CREATE PROCEDURE [sp_executesql] " ++ text ++ codes " AS " ++ other) body) declared)
     by_declared None body one two = tt
     by_declared (Some declared) None one two = tt
-    by_declared (Some declared) (Some body) one two = put_short (codes "CREATE PROCEDURE [sp_executesql] ") (codes " AS ") n declared body limit (omega arith) one two
+    by_declared (Some declared) (Some body) one two = put_short (codes "CREATE PROCEDURE [sp_executesql] ") (codes " AS ") declared body (omega arith) (wider n limit (length declared) one) (within n limit (length body) two)
+
+pub name_short : (n : ℕ) → n ≤ payload_limit → (name : List ℕ) → length name ≤ n → length (codes "CREATE PROCEDURE " ++ name ++ codes "\nAS") ≤ longest_text
+name_short n limit name short = omega (arith, length-append (codes "CREATE PROCEDURE " ++ name) (codes "\nAS"), length-append (codes "CREATE PROCEDURE ") name)
 
 naming_short : (n : ℕ) → n ≤ payload_limit → (target : RpcTarget) → HasShort n target → length (codes "CREATE PROCEDURE " ++ name_of target ++ codes "\nAS") ≤ longest_text
-naming_short n limit (Named name) short = omega (arith, length-append (codes "CREATE PROCEDURE " ++ name) (codes "\nAS"), length-append (codes "CREATE PROCEDURE ") name)
+naming_short n limit (Named name) short = name_short n limit name short
 naming_short n limit ExecuteSql short = omega arith
 
 text_short : (n : ℕ) → n ≤ payload_limit → (sql : Bool) (call : RpcCall) → IsSmallCall n call → IsShortText (if sql then sql_in call.parameters else Some (codes "CREATE PROCEDURE " ++ name_of call.target ++ codes "\nAS"))

@@ -13,7 +13,7 @@ use Rattle.session_server.specs.declared.prepared.PreparedResponse.{PreparedResp
 use Rattle.session_server.specs.declared.prepared.Channel.{Channel}
 use Rattle.batch_meaning.specs.Progress.{SessionProgress}
 use Rattle.session_server.specs.Parts.{Bears, Answers, HasResponse, MayWant, Says, IsHandled, IsUnasked}
-use Rattle.session_server.specs.Response.{Response, call_unserved, tabular, unserved}
+use Rattle.session_server.specs.Response.{Response, tabular, unserved}
 use Rattle.std.specs.Result.{IsErr}
 use Rattle.tds_login.specs.declared.config.Config.{Config}
 use Rattle.tds_login.specs.Prelogin.{prelogin_of}
@@ -27,12 +27,15 @@ use Rattle.batch_meaning.specs.declared.form.ReadText.{ReadText}
 use Rattle.batch_meaning.specs.declared.form.ReadText.TheVariants.{Statements}
 use Rattle.batch_meaning.specs.Doing.{Did}
 use Rattle.batch_meaning.specs.Tokens.{rpc_done}
-use Rattle.session_server.specs.Talk.{Handling, responds, runs, calls, refuses, ends, IsReadAs, handle, handle_logged, handle_prelogin, handle_login, handle_rpc, handle_attention, handle_request, is_unserved_call, refuse_call, response_to, tells}
+use Rattle.session_server.specs.Talk.{Handling, responds, runs, calls, refuses, ends, IsReadAs, call_taken, handle, handle_attention, handle_driver_call, handle_logged, handle_login, handle_prelogin, handle_request, handle_rpc, is_unserved_call, keeping, refuse_call, response_to, tells, unserved_by}
+use Rattle.batch_meaning.specs.Drivers.{KeptStatements, Taken, taken}
+use Rattle.batch_meaning.specs.declared.errand.Errand.{Errand}
+use Rattle.rpc_requests.specs.declared.call.DriverCall.{DriverCall}
 use Rattle.rpc_requests.specs.declared.call.RpcCall.{RpcCall}
 use Rattle.rpc_requests.specs.declared.fault.RpcFault.{RpcFault}
-use Rattle.rpc_requests.specs.declared.fault.RpcFault.TheVariants.{Bad}
 use Rattle.rpc_requests.specs.declared.fault.RpcKind.{RpcKind}
 use Rattle.transaction_requests.specs.declared.fault.TransactionFault.{TransactionFault}
+use Rattle.rpc_requests.specs.Drivers.{driver_call_of, whole_driver_call}
 use Rattle.rpc_requests.specs.Reading.{placed, rpc_of, whole_call}
 use Rattle.batch_meaning.proofs.Composed.{does_over}
 
@@ -59,24 +62,30 @@ wants (refuses response number) has = tt
 wants (ends end) has = absurd has
 
 -- a message for which nothing is asked
-pub answered_handled : (spid : ℕ) (past : PortPast) (handling : Handling) (p : SessionProgress) (result : Result MadeHandling Memory) → IsUnasked spid handling result → IsHandled spid past past handling p result p
-answered_handled spid past handling p (Ok (Responds prepared next)) answered = (answered.0, says_answers past handling p answered.0 answered.1, answered.2, answered.3, answered.4)
-answered_handled spid past handling p (Ok (Ends end)) answered = (answered, goes_nowhere past, refl)
-answered_handled spid past handling p (Err memory) answered = (wants handling answered, record { exchanges = []; past = goes_nowhere past; left = inl (refl, refl) })
+pub answered_handled : (spid : ℕ) (past : PortPast) (handling : Handling) (p : SessionProgress) (result : Result MadeHandling Memory) (state : ServerState) → IsUnasked spid handling result state → IsHandled spid past past handling p result p state
+answered_handled spid past handling p (Ok (Responds prepared next)) state answered = (answered.0, says_answers past handling p answered.0 answered.1, answered.2, answered.3)
+answered_handled spid past handling p (Ok (Ends end)) state answered = (answered, goes_nowhere past, refl)
+answered_handled spid past handling p (Err memory) state answered = (wants handling answered, record { exchanges = []; past = goes_nowhere past; left = inl (refl, refl) })
 
 -- by the kind of message that it is
-pub answered_as : (spid : ℕ) (past : PortPast) (placed handling : Handling) (p : SessionProgress) (result : Result MadeHandling Memory) → placed ≡ handling → IsUnasked spid handling result → IsHandled spid past past placed p result p
-answered_as spid past placed handling p result is answered = rw is (answered_handled spid past handling p result answered)
+pub answered_as : (spid : ℕ) (past : PortPast) (placed handling : Handling) (p : SessionProgress) (result : Result MadeHandling Memory) (state : ServerState) → placed ≡ handling → IsUnasked spid handling result state → IsHandled spid past past placed p result p state
+answered_as spid past placed handling p result state is answered = rw is (answered_handled spid past handling p result state answered)
 
-module _ (config : Config) (state : ServerState) (message : Message) (payload : List ℕ) (is_payload : payload ≡ message.payload) where
-  pub at_prelogin : state ≡ Initial → message.kind ≡ 18 → handle config state message ≡ handle_prelogin (prelogin_of payload)
-  at_prelogin at is = rw at (rw is_payload (rw is refl))
+pub unasked_as : (spid : ℕ) (placed handling : Handling) (result : Result MadeHandling Memory) (state : ServerState) → placed ≡ handling → IsUnasked spid handling result state → IsUnasked spid placed result state
+unasked_as spid placed handling result state is answered = rw is answered
 
-  pub at_login : state ≡ Initial → message.kind ≡ 16 → handle config state message ≡ handle_login config (login_of payload)
-  at_login at is = rw at (rw is_payload (rw is refl))
+pub handled_as : (spid : ℕ) (before after : PortPast) (placed handling : Handling) (p q : SessionProgress) (result : Result MadeHandling Memory) (state : ServerState) → placed ≡ handling → IsHandled spid before after handling p result q state → IsHandled spid before after placed p result q state
+handled_as spid before after placed handling p q result state is handled = rw is handled
 
-  pub at_ready_login : state ≡ LoginReady → message.kind ≡ 16 → handle config state message ≡ handle_login config (login_of payload)
-  at_ready_login at is = rw at (rw is_payload (rw is refl))
+module _ (config : Config) (message : Message) (payload : List ℕ) (is_payload : payload ≡ message.payload) where
+  pub at_prelogin : message.kind ≡ 18 → handle config Initial message ≡ handle_prelogin (prelogin_of payload)
+  at_prelogin is = rw is_payload (rw is refl)
+
+  pub at_login : message.kind ≡ 16 → handle config Initial message ≡ handle_login config (login_of payload)
+  at_login is = rw is_payload (rw is refl)
+
+  pub at_ready_login : message.kind ≡ 16 → handle config LoginReady message ≡ handle_login config (login_of payload)
+  at_ready_login is = rw is_payload (rw is refl)
 
 pub at_attention : (connected : Connected) (message : Message) → message.kind ≡ 6 → handle_logged connected message ≡ handle_attention connected
 at_attention connected message is = rw is refl
@@ -84,37 +93,44 @@ at_attention connected message is = rw is refl
 -- ---- a batch, and a call
 
 -- memory was wanting, before its text was read
-pub unread_handled : (past : PortPast) (spid : ℕ) (handling : Handling) → MayWant handling → (p : SessionProgress) (result : Result MadeHandling Memory) → IsErr result → IsHandled spid past past handling p result p
-unread_handled past spid handling may p (Ok made) err = absurd (let no : false ≡ true = err in cc)
-unread_handled past spid handling may p (Err wanting) err = (may, record { exchanges = []; past = goes_nowhere past; left = inl (refl, refl) })
+pub unread_handled : (past : PortPast) (spid : ℕ) (handling : Handling) → MayWant handling → (p : SessionProgress) (result : Result MadeHandling Memory) (state : ServerState) → IsErr result → IsHandled spid past past handling p result p state
+unread_handled past spid handling may p (Ok made) state err = absurd (let no : false ≡ true = err in cc)
+unread_handled past spid handling may p (Err wanting) state err = (may, record { exchanges = []; past = goes_nowhere past; left = inl (refl, refl) })
 
 -- or behind that
-pub left_handled : {before after : PortPast} (spid : ℕ) (handling : Handling) → MayWant handling → (read_as : ReadText) {p q : SessionProgress} {memory : Memory} (result : Result MadeHandling Memory) → IsErr result → IsReadAs handling read_as
-    → Did before after (response_to handling read_as) p (Err memory) q → IsHandled spid before after handling p result q
-left_handled spid handling may read_as (Ok made) err read does = absurd (let no : false ≡ true = err in cc)
-left_handled spid handling may read_as (Err wanting) err read does = (may, record { exchanges = does.exchanges; past = does.past; left = inr (read_as, read, does.came) })
+pub left_handled : {before after : PortPast} (spid : ℕ) (handling : Handling) → MayWant handling → (read_as : ReadText) {p q : SessionProgress} {memory : Memory} (result : Result MadeHandling Memory) (state : ServerState) → IsErr result → IsReadAs handling read_as
+    → Did before after (response_to handling read_as) p (Err memory) q → IsHandled spid before after handling p result q state
+left_handled spid handling may read_as (Ok made) state err read does = absurd (let no : false ≡ true = err in cc)
+left_handled spid handling may read_as (Err wanting) state err read does = (may, record { exchanges = does.exchanges; past = does.past; left = inr (read_as, read, does.came) })
 
 -- A call is read, or refused, whatever a refusal is: that type is the reader's own.
-by_read : {R : Type 0} (told : Result RpcCall R → Result RpcCall RpcFault) (P : Result RpcCall RpcFault → Type 0) → ((call : RpcCall) → P (told (Ok call))) → ((refusal : R) → P (told (Err refusal))) → (read : Result RpcCall R) → P (told read)
+by_read : {C R : Type 0} (told : Result C R → Result C RpcFault) (P : Result C RpcFault → Type 0) → ((call : C) → P (told (Ok call))) → ((refusal : R) → P (told (Err refusal))) → (read : Result C R) → P (told read)
 by_read told P called refused (Ok call) = called call
 by_read told P called refused (Err refusal) = refused refusal
-
--- a call of which a field is refused is answered, or ends the connection
-may_want_bad : (connected : Connected) (at : ℕ) (kind : RpcKind) → MayWant (handle_rpc connected (Err (Bad at kind)))
-may_want_bad connected at kind = by_drivers connected.drivers kind
-  where
-    by_kind : (unserved_one : Bool) (why : RpcKind) → MayWant (if unserved_one then tells connected (unserved call_unserved at (rpc_done true)) else ends (BadRpc at why))
-    by_kind true why = tt
-    by_kind false why = tt
-
-    by_drivers : (drivers : Bool) (why : RpcKind) → MayWant (if drivers then refuse_call connected at why else ends (BadRpc at why))
-    by_drivers false why = tt
-    by_drivers true why = by_kind (is_unserved_call why) why
 
 -- while a call is read, memory may be wanting whatever it is
 pub may_want_rpc : (connected : Connected) (payload : List ℕ) → MayWant (handle_rpc connected (rpc_of payload))
 unfolding rpc_of
-may_want_rpc connected payload = by_read (placed (length payload)) (λ (read : Result RpcCall RpcFault). MayWant (handle_rpc connected read)) (λ call. tt) (λ refusal. may_want_bad connected _ _) (whole_call payload)
+may_want_rpc connected payload = by_read (placed (length payload)) (λ (read : Result RpcCall RpcFault). MayWant (handle_rpc connected read)) (λ call. tt) (λ refusal. tt) (whole_call payload)
+
+-- a call of which a field is refused is answered, or ends the connection
+may_want_bad : (connected : Connected) (at : ℕ) (kind : RpcKind) → MayWant (refuse_call connected at kind)
+may_want_bad connected at kind = by_kind (is_unserved_call kind)
+  where
+    by_kind : (unserved_one : Bool) → MayWant (if unserved_one then tells connected (unserved (unserved_by kind) at (rpc_done true)) else ends (BadRpc at kind))
+    by_kind true = tt
+    by_kind false = tt
+
+-- the same as a driver spells it
+pub may_want_driver_call : (connected : Connected) (payload : List ℕ) → MayWant (handle_driver_call connected (driver_call_of payload))
+unfolding driver_call_of
+may_want_driver_call connected payload =
+    by_read (placed (length payload)) (λ (read : Result DriverCall RpcFault). MayWant (handle_driver_call connected read)) (λ call. tt) (λ refusal. may_want_bad connected _ _) (whole_driver_call payload)
+
+-- what a call asks for that was read, and what is kept behind it
+pub is_taken : (connected : Connected) (read : Result DriverCall RpcFault) (call : DriverCall) (errand : Errand) (kept : KeptStatements) → read ≡ Ok call → ◌≡◌ {A = Taken} (errand, kept) (taken connected.prepared call)
+    → handle_driver_call connected read ≡ calls (keeping connected kept) errand
+is_taken connected read call errand kept is takes = ap (handle_driver_call connected) is ∙ ap (call_taken connected) (sym takes)
 
 -- while a request is put into a text, memory is wanting only for one that has a text
 pub may_want_request : (connected : Connected) (read : Result (List ℕ) TransactionFault) → is_ok read ≡ true → MayWant (handle_request connected read)

@@ -1,5 +1,5 @@
 -- Own: what the private parts of a connection give. No public clause cites this file.
-use Rattle.std.specs.Prelude.{◌≡◌, ◌⊎◌, ℕ, ◌+◌, IfOk, List, [], ◌∷◌, ◌++◌, length, Option, Result, Ok, Err}
+use Rattle.std.specs.Prelude.{◌≡◌, ◌⊎◌, ℕ, ◌+◌, List, [], ◌∷◌, ◌++◌, length, Option, Result, Ok, Err}
 use Rattle.value_types.specs.declared.memory.Memory.{Memory}
 use Rattle.tds_packets.specs.Header.{tabular_result}
 use Rattle.tds_packets.specs.Packets.{Packets, IsPacketSize, IsPartSent}
@@ -49,6 +49,11 @@ abbrev pub HasResponse : Handling → Type 0
 HasResponse (ends end) = ⊥
 HasResponse handling = Unit {0}
 
+-- behind a response the connection goes on in this state, or has its end
+abbrev pub GoesOnIn : Handling → Result (Unit {0}) End → ServerState → Type 0
+GoesOnIn handling (Ok on) state = (Ok state ≡ next_of handling) × IsSized state
+GoesOnIn handling (Err end) state = Err end ≡ next_of handling
+
 -- memory may be wanting: for a response, or while a call is read, also one that can't be
 abbrev pub MayWant : Handling → Type 0
 MayWant (ends (BadRpc _ _)) = Unit {0}
@@ -67,12 +72,12 @@ pub record Leaves (before after : PortPast) (handling : Handling) (old new : Ses
   pub past : GoesOn before after exchanges
   pub left : IsAbandoned handling old exchanges new
 
--- the message was handled so, and the session has come so far; or memory was wanting
-abbrev pub IsHandled : ℕ → PortPast → PortPast → Handling → SessionProgress → Result MadeHandling Memory → SessionProgress → Type 0
-IsHandled spid before after handling old (Ok (Responds prepared next)) new =
-    (response : Response) × Answers before after handling old response new × Bears spid response prepared × (next ≡ next_of handling) × IfOk next IsSized
-IsHandled spid before after handling old (Ok (Ends end)) new = (handling ≡ ends end) × GoesOn before after [] × (new ≡ old)
-IsHandled spid before after handling old (Err memory) new = MayWant handling × Leaves before after handling old new
+-- the message was handled so, the session has come so far, and the connection stands in this state; or memory was wanting
+abbrev pub IsHandled : ℕ → PortPast → PortPast → Handling → SessionProgress → Result MadeHandling Memory → SessionProgress → ServerState → Type 0
+IsHandled spid before after handling old (Ok (Responds prepared next)) new state =
+    (response : Response) × Answers before after handling old response new × Bears spid response prepared × GoesOnIn handling next state
+IsHandled spid before after handling old (Ok (Ends end)) new state = (handling ≡ ends end) × GoesOn before after [] × (new ≡ old)
+IsHandled spid before after handling old (Err memory) new state = MayWant handling × Leaves before after handling old new
 
 -- nothing is asked for this response
 abbrev pub Says : Handling → Response → Type 0
@@ -81,10 +86,11 @@ Says (refuses own number) response = own ≡ response
 Says handling response = ⊥
 
 -- a message for which nothing is asked was handled so
-abbrev pub IsUnasked : ℕ → Handling → Result MadeHandling Memory → Type 0
-IsUnasked spid handling (Ok (Responds prepared next)) = (response : Response) × (Says handling response) × Bears spid response prepared × (next ≡ next_of handling) × IfOk next IsSized
-IsUnasked spid handling (Ok (Ends end)) = handling ≡ ends end
-IsUnasked spid handling (Err memory) = HasResponse handling
+abbrev pub IsUnasked : ℕ → Handling → Result MadeHandling Memory → ServerState → Type 0
+IsUnasked spid handling (Ok (Responds prepared next)) state =
+    (response : Response) × (Says handling response) × Bears spid response prepared × GoesOnIn handling next state
+IsUnasked spid handling (Ok (Ends end)) state = handling ≡ ends end
+IsUnasked spid handling (Err memory) state = HasResponse handling
 
 -- how a message that is handled so ends the connection: by itself, or behind a response
 abbrev pub EndsBy : ℕ → PortPast → PortPast → Option (List ℕ) → Option (List ℕ) → SessionProgress → SessionProgress → Handling → End → Type 0

@@ -23,6 +23,10 @@ refusal_tokens number = error_token (raised_at (pos 1) (record { number = number
 abbrev pub call_unserved : ℕ
 call_unserved = 8016
 
+-- that where a text of a call is too long
+abbrev pub text_too_long : ℕ
+text_too_long = 49006
+
 -- that of a transaction manager request
 abbrev pub request_unserved : ℕ
 request_unserved = 49014

@@ -8,11 +8,13 @@ use Rattle.std.specs.List.{flat_map}
 use Rattle.byteorder.specs.Endian.{little_number}
 use Rattle.value_types.specs.Units.{units_of}
 use Rattle.tds_packets.specs.declared.message.Message.{Message}
+use Rattle.rpc_requests.specs.declared.call.DriverCall.{DriverCall}
 use Rattle.rpc_requests.specs.declared.call.RpcCall.{RpcCall}
 use Rattle.rpc_requests.specs.declared.fault.RpcFault.{RpcFault}
 use Rattle.rpc_requests.specs.declared.fault.RpcFault.TheVariants as rpc_fault
 use Rattle.rpc_requests.specs.declared.fault.RpcKind.{RpcKind}
 use Rattle.rpc_requests.specs.declared.fault.RpcKind.TheVariants as rpc_kind
+use Rattle.rpc_requests.specs.Drivers.{driver_call_of}
 use Rattle.rpc_requests.specs.Reading.{rpc_of}
 use Rattle.transaction_requests.specs.declared.fault.TransactionFault.{TransactionFault}
 use Rattle.transaction_requests.specs.declared.fault.TransactionFault.TheVariants as transaction_fault
@@ -40,20 +42,26 @@ use Rattle.session_server.specs.declared.end.End.TheVariants.{OutOfPlace, BadPre
 use Rattle.session_server.specs.declared.message.Connected.{Connected}
 use Rattle.session_server.specs.declared.message.ServerState.{ServerState}
 use Rattle.session_server.specs.declared.message.ServerState.TheVariants.{Initial, LoginReady, LoggedIn}
+use Rattle.batch_meaning.specs.declared.errand.Errand.{Errand}
 use Rattle.batch_meaning.specs.declared.form.ReadText.{ReadText}
 use Rattle.batch_meaning.specs.declared.form.ReadText.TheVariants.{Statements}
 use Rattle.batch_meaning.specs.Statements.{ReadsAs}
 use Rattle.batch_meaning.specs.Doing.{Doing, over, reads, never, ◌then◌}
+use Rattle.batch_meaning.specs.Drivers.{KeptStatements, Taken, none_kept, taken}
 use Rattle.batch_meaning.specs.Meaning.{batch}
 use Rattle.batch_meaning.specs.Tokens.{batch_done, rpc_done}
-use Rattle.batch_meaning.specs.Rpc.{ReadsCallAs, rpc}
-use Rattle.session_server.specs.Response.{Response, options, tabular, attention_tokens, refusal_tokens, call_unserved, request_unserved, unserved, ended_once}
+use Rattle.batch_meaning.specs.Rpc.{ReadsFor, plain_errand, rpc}
+use Rattle.session_server.specs.Response.{Response, options, tabular, attention_tokens, refusal_tokens, call_unserved, text_too_long, request_unserved, unserved, ended_once}
 
 -- ---- one message
 
--- what a connection is, once it is logged in with packets of a size
+-- what a connection is, once it is logged in with packets of a size: no statement is prepared
 abbrev pub connected_with : Config → ℕ → Connected
-connected_with config size = record { packet_size = size; drivers = config.drivers }
+connected_with config size = record { packet_size = size; drivers = config.drivers; prepared = none_kept }
+
+-- what it is where these statements are prepared
+abbrev pub keeping : Connected → KeptStatements → Connected
+keeping connected kept = record connected { prepared = kept }
 
 -- where a connection begins: before a login, or logged in
 abbrev pub first_in : Config → Entry → ServerState
@@ -64,12 +72,12 @@ abbrev pub first_state : Config → ServerState
 first_state config = first_in config config.entry
 
 -- How a message is handled: by a response, behind which the connection goes on in a state; by running the
--- batch of a text, or a call, on a connection that is logged in so; by a response that refuses the login with an error's
--- number, and ends the connection; or by its end alone.
+-- batch of a text, or a call, behind which a connection that is logged in is so; by a response that refuses the login with
+-- an error's number, and ends the connection; or by its end alone.
 pub data Handling : Type 0 where
   responds : Response → ServerState → Handling
   runs : Connected → List ℕ → Handling
-  calls : Connected → RpcCall → Handling
+  calls : Connected → Errand → Handling
   refuses : Response → ℤ → Handling
   ends : End → Handling
 
@@ -131,21 +139,41 @@ abbrev pub handle_batch : Connected → List ℕ → Option BatchFault → Handl
 handle_batch connected payload None = runs connected (text_of payload)
 handle_batch connected payload (Some fault) = ends (BadBatch fault)
 
--- it is a call, of which something is not served
+-- a call is run; the first field that is refused ends the connection
+abbrev pub handle_rpc : Connected → Result RpcCall RpcFault → Handling
+handle_rpc connected (Ok call) = calls connected (plain_errand call)
+handle_rpc connected (Err (rpc_fault.Bad at kind)) = ends (BadRpc at kind)
+handle_rpc connected (Err rpc_fault.Memory) = ends Memory
+
+-- where drivers are served (own), it is a call, of which something is not served
 abbrev pub is_unserved_call : RpcKind → Bool
 is_unserved_call rpc_kind.Headers = false
 is_unserved_call rpc_kind.Cut = false
 is_unserved_call other = true
 
--- where drivers are served (own): what is no call at all ends the connection, and what is not served of one is refused
-abbrev pub refuse_call : Connected → ℕ → RpcKind → Handling
-refuse_call connected at kind = if is_unserved_call kind then tells connected (unserved call_unserved at (rpc_done true)) else ends (BadRpc at kind)
+-- the number of the error for that
+abbrev pub unserved_by : RpcKind → ℕ
+unserved_by rpc_kind.Long = text_too_long
+unserved_by other = call_unserved
 
--- a call is run; elsewhere the first field that is refused ends the connection
-abbrev pub handle_rpc : Connected → Result RpcCall RpcFault → Handling
-handle_rpc connected (Ok call) = calls connected call
-handle_rpc connected (Err (rpc_fault.Bad at kind)) = if connected.drivers then refuse_call connected at kind else ends (BadRpc at kind)
-handle_rpc connected (Err rpc_fault.Memory) = ends Memory
+-- what is no call at all ends the connection, and what is not served of one is refused
+abbrev pub refuse_call : Connected → ℕ → RpcKind → Handling
+refuse_call connected at kind =
+    if is_unserved_call kind then tells connected (unserved (unserved_by kind) at (rpc_done true)) else ends (BadRpc at kind)
+
+-- the errand of a call is run, and what is prepared behind it the connection keeps
+abbrev pub call_taken : Connected → Taken → Handling
+call_taken connected of = calls (keeping connected of.1) of.0
+
+abbrev pub handle_driver_call : Connected → Result DriverCall RpcFault → Handling
+handle_driver_call connected (Ok call) = call_taken connected (taken connected.prepared call)
+handle_driver_call connected (Err (rpc_fault.Bad at kind)) = refuse_call connected at kind
+handle_driver_call connected (Err rpc_fault.Memory) = ends Memory
+
+-- where drivers are served, a call is read as they spell it
+abbrev pub handle_call : Connected → List ℕ → Handling
+handle_call connected payload =
+    if connected.drivers then handle_driver_call connected (driver_call_of payload) else handle_rpc connected (rpc_of payload)
 
 -- an attention is acknowledged
 abbrev pub handle_attention : Connected → Handling
@@ -174,7 +202,7 @@ handle_request connected (Err transaction_fault.Memory) = ends Memory
 abbrev pub handle_logged : Connected → Message → Handling
 handle_logged connected message =
     if message.kind == sql_batch then handle_batch connected message.payload (batch_fault message.payload)
-    else if message.kind == rpc_request then handle_rpc connected (rpc_of message.payload)
+    else if message.kind == rpc_request then handle_call connected message.payload
     else if message.kind == attention then handle_attention connected
     else if message.kind == transaction_manager && connected.drivers then handle_request connected (managed message.payload)
     else ends (OutOfPlace message.at message.kind)
@@ -233,7 +261,7 @@ pub record Request : Type 0 where
 -- where there is no text it is a batch of no statements
 abbrev pub IsReadAs : Handling → ReadText → Type 0
 IsReadAs (runs connected text) read_as = ReadsAs text read_as
-IsReadAs (calls connected call) read_as = ReadsCallAs call read_as
+IsReadAs (calls connected call) read_as = ReadsFor call.text read_as
 IsReadAs handling read_as = read_as ≡ Statements []
 
 abbrev pub IsRequest : Request → Type 0
@@ -256,7 +284,7 @@ unfoldable pub batch_response : Connected → ReadText → Doing Response
 batch_response connected read_as = batch read_as then λ _. reads λ p. over (tabular connected.packet_size (batch_tokens connected p.tokens))
 
 -- so that of a call
-unfoldable pub rpc_response : Connected → RpcCall → ReadText → Doing Response
+unfoldable pub rpc_response : Connected → Errand → ReadText → Doing Response
 rpc_response connected call read_as = rpc call read_as then λ _. reads λ p. over (tabular connected.packet_size p.tokens)
 
 -- the response to a message that is handled so, and whose text is read so

@@ -4,13 +4,14 @@ ghost use Rattle.std.specs.Prelude.{◌≡◌, ◌%◌, [], length, drop, None, 
 ghost use Rattle.session_server.specs.Parts.{IsHandled};
 ghost use Rattle.batch_meaning.specs.Progress.{Ready};
 ghost use Rattle.session_server.specs.Talk.{runs, handle_batch, batch_fault, batch_tokens, headers_length};
+ghost use Rattle.session_server.specs.declared.message.ServerState.TheVariants.{LoggedIn};
 ghost use Rattle.tds_packets.specs.Packets.{IsPacketSize};
 ghost use Rattle.tds_tokens.specs.Fit.{FitTokens};
 ghost use Rattle.tds_tokens.specs.Spelling.{TokenBytes};
 ghost use Rattle.value_types.specs.Units.{units_of};
 
 use crate::end::{BatchFault, End};
-use crate::message::{Connected, Handling, ServerState};
+use crate::message::{Connected, Handling};
 use crate::prepared::PreparedResponse;
 use batch_exec::run_batch;
 use batch_forms::read_text;
@@ -30,12 +31,12 @@ pub(crate) fn handle_batch<P: Port>(
     spid: u16,
     session: &mut SessionState,
     port: &mut P,
-    connected: Connected,
+    connected: &Connected,
     payload: &[u8],
 ) -> Result<Handling, Memory>
     requires ready { Ready session.old (P.past port.old) }
-    requires sized { IsPacketSize connected.packet_size }
-    ensures handled { IsHandled spid (P.past port.old) (P.past port.new) (handle_batch connected payload.now (batch_fault payload.now)) session.old result session.new }
+    requires sized { IsPacketSize connected.now.packet_size }
+    ensures handled { IsHandled spid (P.past port.old) (P.past port.new) (handle_batch connected.now payload.now (batch_fault payload.now)) session.old result session.new (LoggedIn connected.now) }
     ensures ready { Ready session.new (P.past port.new) }
 {
     match batch_text(payload) {
@@ -52,13 +53,13 @@ fn respond_to_batch<P: Port>(
     spid: u16,
     session: &mut SessionState,
     port: &mut P,
-    connected: Connected,
+    connected: &Connected,
     text: &[u8],
 ) -> Result<Handling, Memory>
     requires ready { Ready session.old (P.past port.old) }
-    requires sized { IsPacketSize connected.packet_size }
+    requires sized { IsPacketSize connected.now.packet_size }
     requires whole { length text.now % 2 ≡ 0 }
-    ensures handled { IsHandled spid (P.past port.old) (P.past port.new) (runs connected (units_of text.now)) session.old result session.new }
+    ensures handled { IsHandled spid (P.past port.old) (P.past port.new) (runs connected.now (units_of text.now)) session.old result session.new (LoggedIn connected.now) }
     ensures ready { Ready session.new (P.past port.new) }
 {
     let units = units_in(alloc, text)?;
@@ -71,12 +72,12 @@ pub(crate) fn respond_to_text<P: Port>(
     spid: u16,
     session: &mut SessionState,
     port: &mut P,
-    connected: Connected,
+    connected: &Connected,
     text: &Units,
 ) -> Result<Handling, Memory>
     requires ready { Ready session.old (P.past port.old) }
-    requires sized { IsPacketSize connected.packet_size }
-    ensures handled { IsHandled spid (P.past port.old) (P.past port.new) (runs connected text.now) session.old result session.new }
+    requires sized { IsPacketSize connected.now.packet_size }
+    ensures handled { IsHandled spid (P.past port.old) (P.past port.new) (runs connected.now text.now) session.old result session.new (LoggedIn connected.now) }
     ensures ready { Ready session.new (P.past port.new) }
 {
     let (read, vars) = read_text(alloc, text)?;
@@ -84,7 +85,7 @@ pub(crate) fn respond_to_text<P: Port>(
     let response = prepare_batch(alloc, spid, connected, session.tokens())?;
     Ok(Handling::Responds {
         response,
-        next: Ok(ServerState::LoggedIn(connected)),
+        next: Ok(()),
     })
 }
 
@@ -92,12 +93,12 @@ pub(crate) fn respond_to_text<P: Port>(
 fn prepare_batch(
     alloc: Global,
     spid: u16,
-    connected: Connected,
+    connected: &Connected,
     tokens: &[Token],
 ) -> Result<PreparedResponse, Memory>
     requires fit { FitTokens [] tokens.now }
-    ensures channel { IfOk result (λ prepared. prepared.channel ≡ record { spid = spid; packet_size = connected.packet_size }) }
-    ensures payload { IfOk result (λ prepared. prepared.payload.items ≡ TokenBytes (batch_tokens connected tokens.now)) }
+    ensures channel { IfOk result (λ prepared. prepared.channel ≡ record { spid = spid; packet_size = connected.now.packet_size }) }
+    ensures payload { IfOk result (λ prepared. prepared.payload.items ≡ TokenBytes (batch_tokens connected.now tokens.now)) }
 {
     let channel = connected.channel(spid);
     if connected.drivers {

@@ -1,21 +1,23 @@
 //! How a call by RPC is handled.
 
-ghost use Rattle.std.specs.Prelude.{◌≡◌, ◌<◌, ◌^◌, All, length, Err};
+ghost use Rattle.std.specs.Prelude.{◌≡◌, ◌<◌, ◌^◌, All, length};
 ghost use Rattle.session_server.specs.Parts.{IsHandled, IsUnasked};
 ghost use Rattle.batch_meaning.specs.Progress.{Ready};
-ghost use Rattle.session_server.specs.Talk.{is_unserved_call, calls, handle_rpc};
+ghost use Rattle.session_server.specs.Talk.{calls, handle_call, handle_driver_call, handle_rpc, is_unserved_call, refuse_call, unserved_by};
+ghost use Rattle.session_server.specs.declared.message.ServerState.TheVariants.{LoggedIn};
+ghost use Rattle.rpc_requests.specs.Drivers.{driver_call_of};
 ghost use Rattle.rpc_requests.specs.Fit.{IsParameter};
 ghost use Rattle.rpc_requests.specs.Reading.{rpc_of};
-ghost use Rattle.rpc_requests.specs.declared.fault.RpcFault.TheVariants.{Bad};
 ghost use Rattle.tds_packets.specs.Packets.{IsPacketSize};
 
 use crate::end::End;
-use crate::message::{Connected, Handling, ServerState, tell};
+use crate::message::{Connected, Handling, tell};
 use crate::prepared::PreparedResponse;
 use crate::response::unserved_tokens;
 use batch_exec::run_call;
-use batch_forms::read_call;
-use rpc_requests::{RpcCall, RpcFault, RpcKind, read_rpc};
+use batch_forms::{plain_errand, read_call, take_call};
+use batch_meaning::Errand;
+use rpc_requests::{RpcFault, RpcKind, read_driver_call, read_rpc};
 use session_state::SessionState;
 use std::alloc::Global;
 use step_model::Port;
@@ -25,23 +27,78 @@ use value_types::Memory;
 /// The number of the error where a call is not served.
 const CALL_UNSERVED: u16 = 8016;
 
-/// Handles a call with this payload.
-pub(crate) fn handle_rpc<P: Port>(
+/// That where a text of a call is too long.
+const TEXT_TOO_LONG: u16 = 49006;
+
+/// Handles a call with this payload. Where drivers are served it is read as they spell it.
+pub(crate) fn handle_call<P: Port>(
     alloc: Global,
     spid: u16,
     session: &mut SessionState,
     port: &mut P,
-    connected: Connected,
+    connected: &mut Connected,
     payload: &[u8],
 ) -> Result<Handling, Memory>
     requires ready { Ready session.old (P.past port.old) }
-    requires sized { IsPacketSize connected.packet_size }
+    requires sized { IsPacketSize connected.old.packet_size }
     requires short { length payload.now < 2 ^ 32 }
-    ensures handled { IsHandled spid (P.past port.old) (P.past port.new) (handle_rpc connected (rpc_of payload.now)) session.old result session.new }
+    ensures handled { IsHandled spid (P.past port.old) (P.past port.new) (handle_call connected.old payload.now) session.old result session.new (LoggedIn connected.new) }
+    ensures ready { Ready session.new (P.past port.new) }
+{
+    if connected.drivers {
+        handle_driver_call(alloc, spid, session, port, connected, payload)
+    } else {
+        handle_rpc(alloc, spid, session, port, connected, payload)
+    }
+}
+
+/// Handles a call of `sp_executesql`, or of a procedure that was created.
+fn handle_rpc<P: Port>(
+    alloc: Global,
+    spid: u16,
+    session: &mut SessionState,
+    port: &mut P,
+    connected: &Connected,
+    payload: &[u8],
+) -> Result<Handling, Memory>
+    requires ready { Ready session.old (P.past port.old) }
+    requires sized { IsPacketSize connected.now.packet_size }
+    requires short { length payload.now < 2 ^ 32 }
+    ensures handled { IsHandled spid (P.past port.old) (P.past port.new) (handle_rpc connected.now (rpc_of payload.now)) session.old result session.new (LoggedIn connected.now) }
     ensures ready { Ready session.new (P.past port.new) }
 {
     match read_rpc(alloc, payload) {
-        Ok(call) => respond_to_call(alloc, spid, session, port, connected, &call),
+        Ok(call) => {
+            let call = plain_errand(alloc, call)?;
+            respond_to_call(alloc, spid, session, port, connected, &call)
+        }
+        Err(RpcFault::Bad { at, kind }) => Ok(Handling::Ends {
+            end: End::BadRpc { at, kind },
+        }),
+        Err(RpcFault::Memory) => Err(Memory),
+    }
+}
+
+/// Handles a call as a driver spells it, and keeps the statements that are prepared behind it.
+fn handle_driver_call<P: Port>(
+    alloc: Global,
+    spid: u16,
+    session: &mut SessionState,
+    port: &mut P,
+    connected: &mut Connected,
+    payload: &[u8],
+) -> Result<Handling, Memory>
+    requires ready { Ready session.old (P.past port.old) }
+    requires sized { IsPacketSize connected.old.packet_size }
+    requires short { length payload.now < 2 ^ 32 }
+    ensures handled { IsHandled spid (P.past port.old) (P.past port.new) (handle_driver_call connected.old (driver_call_of payload.now)) session.old result session.new (LoggedIn connected.new) }
+    ensures ready { Ready session.new (P.past port.new) }
+{
+    match read_driver_call(alloc, payload) {
+        Ok(call) => {
+            let call = take_call(alloc, &mut connected.prepared, call)?;
+            respond_to_call(alloc, spid, session, port, connected, &call)
+        }
         Err(RpcFault::Bad { at, kind }) => refuse_call(alloc, spid, connected, at, kind),
         Err(RpcFault::Memory) => Err(Memory),
     }
@@ -53,13 +110,13 @@ fn respond_to_call<P: Port>(
     spid: u16,
     session: &mut SessionState,
     port: &mut P,
-    connected: Connected,
-    call: &RpcCall,
+    connected: &Connected,
+    call: &Errand,
 ) -> Result<Handling, Memory>
     requires ready { Ready session.old (P.past port.old) }
-    requires sized { IsPacketSize connected.packet_size }
+    requires sized { IsPacketSize connected.now.packet_size }
     requires fits { All IsParameter call.now.parameters }
-    ensures handled { IsHandled spid (P.past port.old) (P.past port.new) (calls connected call.now) session.old result session.new }
+    ensures handled { IsHandled spid (P.past port.old) (P.past port.new) (calls connected.now call.now) session.old result session.new (LoggedIn connected.now) }
     ensures ready { Ready session.new (P.past port.new) }
 {
     let read = read_call(alloc, call)?;
@@ -67,23 +124,23 @@ fn respond_to_call<P: Port>(
     let response = PreparedResponse::of_tokens(alloc, connected.channel(spid), session.tokens())?;
     Ok(Handling::Responds {
         response,
-        next: Ok(ServerState::LoggedIn(connected)),
+        next: Ok(()),
     })
 }
 
-/// Handles a call of which the field at this offset is refused.
+/// Handles a call as a driver spells it of which the field at this offset is refused.
 fn refuse_call(
     alloc: Global,
     spid: u16,
-    connected: Connected,
+    connected: &Connected,
     at: u32,
     kind: RpcKind,
 ) -> Result<Handling, Memory>
-    requires sized { IsPacketSize connected.packet_size }
-    ensures answered { IsUnasked spid (handle_rpc connected (Err (Bad at kind))) result }
+    requires sized { IsPacketSize connected.now.packet_size }
+    ensures answered { IsUnasked spid (refuse_call connected.now at kind) result (LoggedIn connected.now) }
 {
-    if connected.drivers && is_unserved_call(kind) {
-        let tokens = unserved_tokens(alloc, CALL_UNSERVED, at, DoneKind::Proc)?;
+    if is_unserved_call(kind) {
+        let tokens = unserved_tokens(alloc, unserved_by(kind), at, DoneKind::Proc)?;
         tell(alloc, spid, connected, &tokens)
     } else {
         Ok(Handling::Ends {
@@ -97,4 +154,14 @@ fn is_unserved_call(kind: RpcKind) -> bool
     ensures { result ≡ is_unserved_call kind }
 {
     !matches!(kind, RpcKind::Headers | RpcKind::Cut)
+}
+
+/// The number of the error for that.
+fn unserved_by(kind: RpcKind) -> u16
+    ensures { result ≡ unserved_by kind }
+{
+    match kind {
+        RpcKind::Long => TEXT_TOO_LONG,
+        _ => CALL_UNSERVED,
+    }
 }

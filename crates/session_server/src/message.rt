@@ -4,17 +4,20 @@ ghost use Rattle.std.specs.Prelude.{◌≡◌, ◌<◌, ◌^◌, ℕ, [], length
 ghost use Rattle.session_server.specs.Parts.{IsHandled, IsUnasked, IsSized};
 ghost use Rattle.batch_meaning.specs.Progress.{Ready};
 ghost use Rattle.session_server.specs.Talk.{connected_with, first_state, tells, handle, handle_logged, handle_prelogin, handle_login, handle_verdict, handle_attention, refuse};
+ghost use Rattle.session_server.specs.declared.message.ServerState.{ServerState};
+ghost use Rattle.session_server.specs.declared.message.ServerState.TheVariants.{Initial, LoginReady, LoggedIn};
 ghost use Rattle.tds_login.specs.Login.{login_of};
 ghost use Rattle.tds_login.specs.Prelogin.{prelogin_of};
 ghost use Rattle.tds_packets.specs.Packets.{IsPacketSize, default_size};
 ghost use Rattle.tds_tokens.specs.Fit.{FitTokens};
 
 use crate::batches::handle_batch;
-use crate::calls::handle_rpc;
+use crate::calls::handle_call;
 use crate::end::End;
 use crate::prepared::{Channel, PreparedResponse};
 use crate::requests::handle_request;
 use crate::response::{attention_done, refusal_tokens};
+use batch_meaning::PreparedStatements;
 use session_state::SessionState;
 use std::alloc::Global;
 use step_model::Port;
@@ -34,28 +37,31 @@ const PRELOGIN_SPID: u16 = 51;
 const UNREADABLE_LOGIN: i32 = 49010;
 
 /// A connection that is logged in.
-#[derive(Clone, Copy)]
+#[derive(Drop)]
 pub(crate) struct Connected {
     /// The size of the packets that are sent, in bytes.
     pub(crate) packet_size: u16,
     /// Whether what drivers send is served.
     pub(crate) drivers: bool,
+    /// The statements that are prepared.
+    pub(crate) prepared: PreparedStatements,
 }
 
 impl Connected {
-    /// With packets of this many bytes.
-    fn with(config: &Config, packet_size: u16) -> Connected
+    /// With packets of this many bytes, and no statement prepared.
+    fn with(alloc: Global, config: &Config, packet_size: u16) -> Connected
         ensures { result ≡ connected_with config.now packet_size }
     {
         Connected {
             packet_size,
             drivers: config.drivers,
+            prepared: PreparedStatements::new(alloc),
         }
     }
 
     /// How packets are sent there to a session of this SPID.
-    pub(crate) fn channel(self, spid: u16) -> Channel
-        ensures { result ≡ record { spid = spid; packet_size = self.packet_size } }
+    pub(crate) fn channel(&self, spid: u16) -> Channel
+        ensures { result ≡ record { spid = spid; packet_size = self.now.packet_size } }
     {
         Channel {
             spid,
@@ -65,7 +71,7 @@ impl Connected {
 }
 
 /// Where a connection stands, by the server's states in [MS-TDS] 3.3.5.
-#[derive(Clone, Copy)]
+#[derive(Drop)]
 pub(crate) enum ServerState {
     /// Before its first message, a PRELOGIN or a LOGIN7.
     Initial,
@@ -77,12 +83,12 @@ pub(crate) enum ServerState {
 
 impl ServerState {
     /// Where a connection begins.
-    pub(crate) fn first(config: &Config) -> ServerState
+    pub(crate) fn first(alloc: Global, config: &Config) -> ServerState
         ensures { result ≡ first_state config.now }
     {
         match config.entry {
             Entry::Login => ServerState::Initial,
-            Entry::Bare => ServerState::LoggedIn(Connected::with(config, DEFAULT_SIZE)),
+            Entry::Bare => ServerState::LoggedIn(Connected::with(alloc, config, DEFAULT_SIZE)),
         }
     }
 }
@@ -94,8 +100,8 @@ pub(crate) enum Handling {
     Responds {
         /// The response.
         response: PreparedResponse,
-        /// Where the connection stands behind it, or its end, where it refuses the login.
-        next: Result<ServerState, End>,
+        /// The connection goes on behind it, or its end, where it refuses the login.
+        next: Result<(), End>,
     },
     /// By the connection's end alone.
     Ends {
@@ -104,36 +110,64 @@ pub(crate) enum Handling {
     },
 }
 
-/// Handles a message of a session whose packets have this SPID.
+/// Handles a message of a session whose packets have this SPID. Where the connection goes on, the state becomes that behind
+/// the message.
 pub(crate) fn handle<P: Port>(
     alloc: Global,
     config: &Config,
     spid: u16,
     session: &mut SessionState,
     port: &mut P,
-    state: ServerState,
+    state: &mut ServerState,
     message: &Message,
 ) -> Result<Handling, Memory>
     requires ready { Ready session.old (P.past port.old) }
-    requires sized { IsSized state }
+    requires sized { IsSized state.old }
     requires short { length message.now.payload < 2 ^ 32 }
-    ensures handled { IsHandled spid (P.past port.old) (P.past port.new) (handle config.now state message.now) session.old result session.new }
+    ensures handled { IsHandled spid (P.past port.old) (P.past port.new) (handle config.now state.old message.now) session.old result session.new state.new }
     ensures ready { Ready session.new (P.past port.new) }
 {
-    let payload = message.payload.as_slice();
-    match (state, message.kind) {
-        (ServerState::Initial, PRELOGIN) => handle_prelogin(alloc, payload),
-        (ServerState::Initial, LOGIN7) => handle_login(alloc, config, spid, payload),
-        (ServerState::LoginReady, LOGIN7) => handle_login(alloc, config, spid, payload),
-        (ServerState::LoggedIn(connected), _) => {
+    match state {
+        ServerState::Initial => handle_first(alloc, config, spid, state, message),
+        ServerState::LoginReady => handle_second(alloc, config, spid, state, message),
+        ServerState::LoggedIn(connected) => {
             handle_logged(alloc, spid, session, port, connected, message)
         }
-        (_, kind) => Ok(Handling::Ends {
-            end: End::OutOfPlace {
-                at: message.at,
-                kind,
-            },
-        }),
+    }
+}
+
+/// Handles the first message of a connection, a PRELOGIN or a LOGIN7.
+fn handle_first(
+    alloc: Global,
+    config: &Config,
+    spid: u16,
+    state: &mut ServerState,
+    message: &Message,
+) -> Result<Handling, Memory>
+    ensures { IsUnasked spid (handle config.now Initial message.now) result state.new }
+{
+    let payload = message.payload.as_slice();
+    match message.kind {
+        PRELOGIN => handle_prelogin(alloc, state, payload),
+        LOGIN7 => handle_login(alloc, config, spid, state, payload),
+        _ => Ok(out_of_place(message)),
+    }
+}
+
+/// Handles the message behind a PRELOGIN, a LOGIN7.
+fn handle_second(
+    alloc: Global,
+    config: &Config,
+    spid: u16,
+    state: &mut ServerState,
+    message: &Message,
+) -> Result<Handling, Memory>
+    ensures { IsUnasked spid (handle config.now LoginReady message.now) result state.new }
+{
+    let payload = message.payload.as_slice();
+    match message.kind {
+        LOGIN7 => handle_login(alloc, config, spid, state, payload),
+        _ => Ok(out_of_place(message)),
     }
 }
 
@@ -143,37 +177,48 @@ fn handle_logged<P: Port>(
     spid: u16,
     session: &mut SessionState,
     port: &mut P,
-    connected: Connected,
+    connected: &mut Connected,
     message: &Message,
 ) -> Result<Handling, Memory>
     requires ready { Ready session.old (P.past port.old) }
-    requires sized { IsPacketSize connected.packet_size }
+    requires sized { IsPacketSize connected.old.packet_size }
     requires short { length message.now.payload < 2 ^ 32 }
-    ensures handled { IsHandled spid (P.past port.old) (P.past port.new) (handle_logged connected message.now) session.old result session.new }
+    ensures handled { IsHandled spid (P.past port.old) (P.past port.new) (handle_logged connected.old message.now) session.old result session.new (LoggedIn connected.new) }
     ensures ready { Ready session.new (P.past port.new) }
 {
     let payload = message.payload.as_slice();
     match message.kind {
         SQL_BATCH => handle_batch(alloc, spid, session, port, connected, payload),
-        RPC => handle_rpc(alloc, spid, session, port, connected, payload),
+        RPC => handle_call(alloc, spid, session, port, connected, payload),
         ATTENTION => handle_attention(alloc, spid, connected),
         TRANSACTION_MANAGER if connected.drivers => {
             handle_request(alloc, spid, session, port, connected, payload)
         }
-        kind => Ok(Handling::Ends {
-            end: End::OutOfPlace {
-                at: message.at,
-                kind,
-            },
-        }),
+        _ => Ok(out_of_place(message)),
+    }
+}
+
+/// The end of a connection by a message that has no place there.
+fn out_of_place(message: &Message) -> Handling
+    ensures { result ≡ Handling.Ends (End.OutOfPlace message.now.at message.now.kind) }
+{
+    Handling::Ends {
+        end: End::OutOfPlace {
+            at: message.at,
+            kind: message.kind,
+        },
     }
 }
 
 // ---- PRELOGIN and LOGIN7
 
 /// Handles a PRELOGIN with this payload.
-fn handle_prelogin(alloc: Global, payload: &[u8]) -> Result<Handling, Memory>
-    ensures answered { (spid : ℕ) → IsUnasked spid (handle_prelogin (prelogin_of payload.now)) result }
+fn handle_prelogin(
+    alloc: Global,
+    state: &mut ServerState,
+    payload: &[u8],
+) -> Result<Handling, Memory>
+    ensures answered { (spid : ℕ) → IsUnasked spid (handle_prelogin (prelogin_of payload.now)) result state.new }
 {
     match read_prelogin(payload) {
         Ok(_) => {
@@ -181,12 +226,11 @@ fn handle_prelogin(alloc: Global, payload: &[u8]) -> Result<Handling, Memory>
                 spid: PRELOGIN_SPID,
                 packet_size: DEFAULT_SIZE,
             };
+            let payload = prelogin_reply(alloc)?;
+            *state = ServerState::LoginReady;
             Ok(Handling::Responds {
-                response: PreparedResponse {
-                    channel,
-                    payload: prelogin_reply(alloc)?,
-                },
-                next: Ok(ServerState::LoginReady),
+                response: PreparedResponse { channel, payload },
+                next: Ok(()),
             })
         }
         Err(fault) => Ok(Handling::Ends {
@@ -200,13 +244,14 @@ fn handle_login(
     alloc: Global,
     config: &Config,
     spid: u16,
+    state: &mut ServerState,
     payload: &[u8],
 ) -> Result<Handling, Memory>
-    ensures answered { IsUnasked spid (handle_login config.now (login_of payload.now)) result }
+    ensures answered { IsUnasked spid (handle_login config.now (login_of payload.now)) result state.new }
 {
     match read_login(alloc, payload) {
         Ok(login) => match judge_login(&login, config) {
-            Ok(size) => grant(alloc, config, spid, size),
+            Ok(size) => grant(alloc, config, spid, state, size),
             Err(number) => refuse(alloc, spid, number),
         },
         Err(LoginFault::Memory) => Err(Memory),
@@ -215,21 +260,28 @@ fn handle_login(
 }
 
 /// Grants a login, with packets of this many bytes from the next message on.
-fn grant(alloc: Global, config: &Config, spid: u16, size: u16) -> Result<Handling, Memory>
+fn grant(
+    alloc: Global,
+    config: &Config,
+    spid: u16,
+    state: &mut ServerState,
+    size: u16,
+) -> Result<Handling, Memory>
     requires { IsPacketSize size }
-    ensures answered { IsUnasked spid (handle_verdict config.now (Ok size)) result }
+    ensures answered { IsUnasked spid (handle_verdict config.now (Ok size)) result state.new }
 {
     let tokens = login_reply(alloc, size)?;
     let response = PreparedResponse::of_tokens(alloc, first_channel(spid), &tokens)?;
+    *state = ServerState::LoggedIn(Connected::with(alloc, config, size));
     Ok(Handling::Responds {
         response,
-        next: Ok(ServerState::LoggedIn(Connected::with(config, size))),
+        next: Ok(()),
     })
 }
 
 /// Refuses a login by the error of this number.
 fn refuse(alloc: Global, spid: u16, number: i32) -> Result<Handling, Memory>
-    ensures answered { IsUnasked spid (refuse number) result }
+    ensures answered { (state : ServerState) → IsUnasked spid (refuse number) result state }
 {
     let tokens = refusal_tokens(alloc, number)?;
     let response = PreparedResponse::of_tokens(alloc, first_channel(spid), &tokens)?;
@@ -252,9 +304,9 @@ fn first_channel(spid: u16) -> Channel
 // ---- attentions
 
 /// Acknowledges an attention.
-fn handle_attention(alloc: Global, spid: u16, connected: Connected) -> Result<Handling, Memory>
-    requires { IsPacketSize connected.packet_size }
-    ensures answered { IsUnasked spid (handle_attention connected) result }
+fn handle_attention(alloc: Global, spid: u16, connected: &Connected) -> Result<Handling, Memory>
+    requires { IsPacketSize connected.now.packet_size }
+    ensures answered { IsUnasked spid (handle_attention connected.now) result (LoggedIn connected.now) }
 {
     tell(alloc, spid, connected, &[attention_done()])
 }
@@ -263,16 +315,16 @@ fn handle_attention(alloc: Global, spid: u16, connected: Connected) -> Result<Ha
 pub(crate) fn tell(
     alloc: Global,
     spid: u16,
-    connected: Connected,
+    connected: &Connected,
     tokens: &[Token],
 ) -> Result<Handling, Memory>
-    requires sized { IsPacketSize connected.packet_size }
+    requires sized { IsPacketSize connected.now.packet_size }
     requires fit { FitTokens [] tokens.now }
-    ensures answered { IsUnasked spid (tells connected tokens.now) result }
+    ensures answered { IsUnasked spid (tells connected.now tokens.now) result (LoggedIn connected.now) }
 {
     let response = PreparedResponse::of_tokens(alloc, connected.channel(spid), tokens)?;
     Ok(Handling::Responds {
         response,
-        next: Ok(ServerState::LoggedIn(connected)),
+        next: Ok(()),
     })
 }

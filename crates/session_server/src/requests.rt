@@ -4,6 +4,7 @@ ghost use Rattle.std.specs.Prelude.{◌≡◌, ◌<◌, ◌^◌, length};
 ghost use Rattle.session_server.specs.Parts.{IsHandled, IsUnasked};
 ghost use Rattle.batch_meaning.specs.Progress.{Ready};
 ghost use Rattle.session_server.specs.Talk.{handle_request, is_unserved_request, refuse_request};
+ghost use Rattle.session_server.specs.declared.message.ServerState.TheVariants.{LoggedIn};
 ghost use Rattle.transaction_requests.specs.Text.{managed};
 ghost use Rattle.tds_packets.specs.Packets.{IsPacketSize};
 
@@ -27,13 +28,13 @@ pub(crate) fn handle_request<P: Port>(
     spid: u16,
     session: &mut SessionState,
     port: &mut P,
-    connected: Connected,
+    connected: &Connected,
     payload: &[u8],
 ) -> Result<Handling, Memory>
     requires ready { Ready session.old (P.past port.old) }
-    requires sized { IsPacketSize connected.packet_size }
+    requires sized { IsPacketSize connected.now.packet_size }
     requires short { length payload.now < 2 ^ 32 }
-    ensures handled { IsHandled spid (P.past port.old) (P.past port.new) (handle_request connected (managed payload.now)) session.old result session.new }
+    ensures handled { IsHandled spid (P.past port.old) (P.past port.new) (handle_request connected.now (managed payload.now)) session.old result session.new (LoggedIn connected.now) }
     ensures ready { Ready session.new (P.past port.new) }
 {
     match transaction_text(alloc, payload) {
@@ -49,12 +50,12 @@ pub(crate) fn handle_request<P: Port>(
 fn refuse_request(
     alloc: Global,
     spid: u16,
-    connected: Connected,
+    connected: &Connected,
     at: u32,
     kind: TransactionKind,
 ) -> Result<Handling, Memory>
-    requires sized { IsPacketSize connected.packet_size }
-    ensures answered { IsUnasked spid (refuse_request connected at kind) result }
+    requires sized { IsPacketSize connected.now.packet_size }
+    ensures answered { IsUnasked spid (refuse_request connected.now at kind) result (LoggedIn connected.now) }
 {
     if is_unserved_request(kind) {
         let tokens = unserved_tokens(alloc, REQUEST_UNSERVED, at, DoneKind::Done)?;

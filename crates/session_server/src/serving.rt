@@ -1,6 +1,6 @@
 //! Serving one connection.
 
-ghost use Rattle.std.specs.Prelude.{◌≡◌, ◌≢◌, ◌+◌, ◌<◌, ◌≤◌, ℕ, false, List, length, Ok, Err, IfOk, IfErr};
+ghost use Rattle.std.specs.Prelude.{◌≡◌, ◌≢◌, ◌+◌, ◌<◌, ◌≤◌, ℕ, false, List, length, Ok, Err, IfErr, OnOk};
 ghost use Rattle.outside_io.specs.Bytes.{Takes, HasRisen};
 ghost use Rattle.session_server.specs.Conversation.{Conversation, Completes, CountsFault};
 ghost use Rattle.session_server.specs.Parts.{IsSized, Spoke, Turned, Ended};
@@ -87,18 +87,27 @@ fn serve_messages<P: Port, L: Line>(
     ensures writes_counted { L.Sink.faults line.old ≤ L.Sink.faults line.new }
     ensures held { L.held line.new ≡ L.held line.old }
 {
-    let mut state = ServerState::first(config);
+    let mut state = ServerState::first(alloc, config);
     let mut reader = Reader::new();
     loop {
-        match serve_message(alloc, config, spid, session, port, &mut reader, state, line) {
-            Ok(next) => state = next,
+        match serve_message(
+            alloc,
+            config,
+            spid,
+            session,
+            port,
+            &mut reader,
+            &mut state,
+            line,
+        ) {
+            Ok(()) => {}
             Err(end) => return end,
         }
     }
 }
 
 /// Reads a message, handles it in this state, and sends its response. Where the connection goes on, the
-/// state behind it; else why it ended.
+/// state becomes that behind it; else why it ended.
 fn serve_message<P: Port, L: Line>(
     alloc: Global,
     config: &Config,
@@ -106,17 +115,17 @@ fn serve_message<P: Port, L: Line>(
     session: &mut SessionState,
     port: &mut P,
     reader: &mut Reader,
-    state: ServerState,
+    state: &mut ServerState,
     line: &mut L,
-) -> Result<ServerState, End>
+) -> Result<(), End>
     requires ready { Ready session.old (P.past port.old) }
-    requires sized { IsSized state }
+    requires sized { IsSized state.old }
     requires within { reader.old ≤ byte_limit }
-    ensures turned { IfOk result (Turned config.now spid reader.old state (Takes L.left L.given line.old line.new)
-        (P.past port.old) (P.past port.new) (L.written line.old) (L.written line.new) session.old session.new reader.new) }
-    ensures sized { IfOk result IsSized }
-    ensures within { IfOk result (λ _. (reader.old < reader.new) × (reader.new ≤ byte_limit)) }
-    ensures ended { IfErr result (Ended config.now spid reader.old state (Takes L.left L.given line.old line.new) (L.left line.new)
+    ensures turned { OnOk result (Turned config.now spid reader.old state.old (Takes L.left L.given line.old line.new)
+        (P.past port.old) (P.past port.new) (L.written line.old) (L.written line.new) session.old session.new reader.new state.new) }
+    ensures sized { OnOk result (IsSized state.new) }
+    ensures within { OnOk result ((reader.old < reader.new) × (reader.new ≤ byte_limit)) }
+    ensures ended { IfErr result (Ended config.now spid reader.old state.old (Takes L.left L.given line.old line.new) (L.left line.new)
         (P.past port.old) (P.past port.new) (L.written line.old) (L.written line.new) session.old session.new) }
     ensures ready { Ready session.new (P.past port.new) }
     ensures read_fault { result ≡ Err End.ReadFault → HasRisen (L.Source.faults line.old) (L.Source.faults line.new) }

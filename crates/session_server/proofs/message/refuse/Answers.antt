@@ -13,11 +13,10 @@ returns c =
     let number : to_z w32 (of_z w32 c.args.number) ≡ c.args.number = to_z-of_z w32 c.args.number c.ranges.number in
     let tokens = c.deref.ensures.value ∙ c.in_ok-tokens.ensures.tokens ∙ ap refusal_tokens number in
     record {
-      answered = (
+      answered = λ state. (
         tabular default_size (refusal_tokens c.args.number),
         refl,
         bears_tokens c.args.spid default_size (refusal_tokens c.args.number) c.in_ok-response.response (c.in_ok-response.ensures.channel ∙ c.first_channel.ensures) (c.in_ok-response.ensures.payload ∙ ap TokenBytes tokens) (omega arith, omega arith),
         ap (λ (n : ℤ). Err (LoginRefused n)) number,
-        tt,
       );
     }

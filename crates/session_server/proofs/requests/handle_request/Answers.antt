@@ -14,9 +14,9 @@ returns-in-Ok-clause-handled g c =
 pub returns-in-Err-Bad-clause-handled : goal.returns-in-Err-Bad-clause-handled
 returns-in-Err-Bad-clause-handled g c =
     let refused : managed c.args.payload.now ≡ Err (Bad c.in-Err-Bad.at c.in-Err-Bad.kind) = rw c.in-Err-Bad.field-0-is at c.in-Err-Bad.ensures in
-    answered_as c.args.spid (g.P.Port.past c.args.port.now) _ _ c.args.session.now c.refuse_request.result (ap (handle_request c.args.connected) refused) c.refuse_request.ensures.answered
+    answered_as c.args.spid (g.P.Port.past c.args.port.now) _ _ c.args.session.now c.refuse_request.result _ (ap (handle_request c.args.connected.now) refused) c.refuse_request.ensures.answered
 
 pub returns-in-Err-Memory-clause-handled : goal.returns-in-Err-Memory-clause-handled
 returns-in-Err-Memory-clause-handled g c =
     let read : is_ok (managed c.args.payload.now) ≡ true = rw c.in-Err-Memory.field-0-is at c.in-Err-Memory.ensures in
-    (may_want_request c.args.connected (managed c.args.payload.now) read, record { exchanges = []; past = goes_nowhere _; left = inl (refl, refl) })
+    (may_want_request c.args.connected.now (managed c.args.payload.now) read, record { exchanges = []; past = goes_nowhere _; left = inl (refl, refl) })

@@ -6,8 +6,8 @@ use Rattle.session_server.proofs.Served.{Served}
 use Rattle.session_server.proofs.serving.serve_messages.Given as goal
 
 -- each message so far has its response, and no byte was taken behind them
-abbrev pub invariant-loop-next : goal.invariant-loop-next
-invariant-loop-next g l = record {
+abbrev pub invariant-loop-end : goal.invariant-loop-end
+invariant-loop-end g l = record {
   served : Served l.config g.L.Source.left g.L.Source.given l.initial.line l.line (g.P.Port.past l.initial.port) (g.P.Port.past l.port) (g.L.Sink.written l.initial.line) (g.L.Sink.written l.line) l.spid l.reader l.state l.session;
   ready : Ready l.session (g.P.Port.past l.port);
   sized : IsSized l.state;
@@ -17,5 +17,5 @@ invariant-loop-next g l = record {
   within : l.reader ≤ byte_limit;
 }
 
-abbrev pub decreases-loop-next : goal.decreases-loop-next
-decreases-loop-next g l = byte_limit - l.reader
+abbrev pub decreases-loop-end : goal.decreases-loop-end
+decreases-loop-end g l = byte_limit - l.reader

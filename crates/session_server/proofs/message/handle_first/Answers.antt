@@ -1,0 +1,8 @@
+use Rattle.session_server.proofs.Handled.{unasked_as, at_prelogin, at_login}
+use Rattle.session_server.proofs.message.handle_first.Goals as goal
+
+pub returns-in-18 : goal.returns-in-18
+returns-in-18 c = unasked_as c.args.spid _ _ c.handle_prelogin.result _ (at_prelogin c.args.config.now c.args.message.now c.as_slice-payload.result.now c.as_slice-payload.ensures c.in-18.is) (c.handle_prelogin.ensures.answered c.args.spid)
+
+pub returns-in-16 : goal.returns-in-16
+returns-in-16 c = unasked_as c.args.spid _ _ c.handle_login.result _ (at_login c.args.config.now c.args.message.now c.as_slice-payload.result.now c.as_slice-payload.ensures c.in-16.is) c.handle_login.ensures.answered
