@@ -2,7 +2,7 @@
 """Makes random conversations, has them answered by `tsqld pipe` and by a model of the language, and compares the
 replies.
 
-    tools/fuzz.py [--bin PROGRAM] [--number N] [--seed S] [--without procedures|triggers|cursors]..
+    tools/fuzz.py [--bin PROGRAM] [--number N] [--seed S] [--drivers] [--without procedures|triggers|cursors]..
     tools/fuzz.py --rows FILE..     compares the model with files of rows, without the server
 
 The model (tools/model, whose head says what it covers) was written from the documents and the definitions, apart from
@@ -13,10 +13,11 @@ that are needed for that, and the first line; else it prints how often each toke
 A conversation has three tables, and up to 14 batches: procedures, triggers, and statements of every kind that write,
 read, fail, are caught, call, begin and end transactions, set options and use cursors, one within another and three
 deep. Most of them fail sometimes, since tables, keys, transactions, procedures and cursors are there or not as it
-comes.
+comes. With --drivers they are sent as drivers do: by calls with parameters, prepared and run again, between requests
+of transactions.
 
 Of the files of rows those conversations are passed over that the model does not read, from there on, or in which it
-lacks a refusal; what two sessions say, and what is sent or answered as bytes."""
+lacks a refusal; what two sessions say, and what is sent or answered as bytes, but for calls by RPC."""
 import argparse
 import os
 import subprocess
@@ -27,11 +28,16 @@ from random import Random
 import dist
 import model
 import rows
+from worked.book import Step
 from worked.calls import call
 from worked.requests import request_of, transaction
+from worked.wire import batch
 
 # The refusals of a text or a statement that the model does not have, or not all of them.
 LACKING = ("ERROR 102 ", "ERROR 116 ", "ERROR 8120 ", "ERROR 49007 ", "ERROR 49009 ")
+
+# The type of a message that is a call.
+RPC = b"\3"
 
 TABLES = (
     "CREATE TABLE t (k INT NOT NULL PRIMARY KEY, v INT CHECK (v < 50)); "
@@ -73,7 +79,8 @@ class Maker:
 
     def conversation(self):
         first = [self.definition() for _ in range(self.rand.randint(0, 4))]
-        return [TABLES, *first, *(self.batch() for _ in range(self.rand.randint(4, 8))), LAST]
+        texts = [TABLES, *first, *(self.batch() for _ in range(self.rand.randint(4, 8))), LAST]
+        return [f"> {text}" for text in texts]
 
     def definition(self):
         makes = {"procedures": self.procedure, "triggers": self.trigger}
@@ -84,10 +91,13 @@ class Maker:
         return self.definition() if self.may(0.25) else self.body()
 
     def body(self):
+        return f"DECLARE @a INT = {self.rand.randint(0, 5)}, @b TINYINT; {self.work()}"
+
+    def work(self):
+        """Statements with the variables @a and @b."""
         place = Place("batch", ("@a", "@b"))
-        declared = f"DECLARE @a INT = {self.rand.randint(0, 5)}, @b TINYINT; {self.loops()}"
         begun = self.choose("", "", "", "BEGIN TRAN; ", "SET XACT_ABORT ON; ", "BEGIN TRAN; SAVE TRAN s; ")
-        return f"{declared}; {begun}{self.statements(place)}; {self.statements(place)}"
+        return f"{self.loops()}; {begun}{self.statements(place)}; {self.statements(place)}"
 
     def loops(self):
         """The variables that count the turns of loops, one for each depth."""
@@ -263,13 +273,100 @@ class Maker:
         return str(self.rand.randint(0, 6))
 
 
+class DriverMaker(Maker):
+    """Makes a conversation as drivers hold it. `handles` were given, each with what its statement declares."""
+
+    def __init__(self, rand, without):
+        super().__init__(rand, without)
+        self.handles = []
+
+    def conversation(self):
+        first = [self.defines() for _ in range(self.rand.randint(0, 3))]
+        return [f"> {TABLES}", *first, *(self.message_of() for _ in range(self.rand.randint(8, 16))), f"> {LAST}"]
+
+    def message_of(self):
+        forms = (self.executes, self.prepares, self.again, self.again, self.drops, self.asks, self.defines, self.text)
+        return self.rand.choices(forms, (10, 22, 22, 10, 4, 16, 4, 12))[0]()
+
+    def text(self):
+        return f"> {self.body()}"
+
+    def asks(self):
+        """A request of transactions, or a connection that begins anew."""
+        if self.may(0.05):
+            return "rpc sp_reset_connection"
+        ends = ("commit", "rollback", "commit, begin", "rollback, begin", "rollback s", "rollback x")
+        return "tm " + self.choose("begin", "begin", "begin 0 x", "save s", *ends)
+
+    def defines(self):
+        """A procedure or trigger, by each call that takes a text."""
+        if self.may(0.5):
+            return f"rpc sp_executesql {quoted(self.definition())}"
+        self.handles.append([])
+        return f"rpc #13 INT OUT, NTEXT, {quoted(self.definition())}"
+
+    def executes(self):
+        declared = self.declared()
+        return ", ".join([f"rpc #10 {quoted(self.work())}", spelled(declared), *self.arguments(declared)])
+
+    def prepares(self):
+        declared = self.declared()
+        self.handles.append(declared)
+        texts = [spelled(declared), quoted(self.work())]
+        if self.may(0.3):
+            return ", ".join(["rpc #11 INT OUT", *texts])
+        return ", ".join(["rpc #13 INT OUT", *texts, *self.arguments(declared)])
+
+    def again(self):
+        """What was prepared, or was not."""
+        handle = self.rand.randint(1, len(self.handles) + (1 if self.may(0.1) or not self.handles else 0))
+        declared = self.handles[handle - 1] if handle <= len(self.handles) else []
+        return ", ".join([f"rpc sp_execute {handle}", *self.arguments(declared)])
+
+    def drops(self):
+        return f"rpc #15 {self.rand.randint(1, len(self.handles) + 1)}"
+
+    def declared(self):
+        """The parameters of a statement, each its name, its type, and whether it is OUTPUT."""
+        kinds = self.choose("INT", "INT", "BIGINT", "SMALLINT"), self.choose("TINYINT", "INT")
+        return [(name, kind, self.may(0.4)) for name, kind in zip(("@a", "@b"), kinds)]
+
+    def arguments(self, declared):
+        found = [self.value(name, is_output) for name, _kind, is_output in declared]
+        if self.may(0.06):
+            found.pop() if found and self.may(0.5) else found.append("9")
+        if self.may(0.2):
+            self.rand.shuffle(found)
+        return found
+
+    def value(self, name, is_output):
+        """An argument, by its name or not."""
+        texts = ("VARCHAR(9) = ' 4'", "NTEXT = N'5'", "CHAR(2) = 'x'", "NVARCHAR(MAX/1) = N''")
+        value = self.choose("INT", "TINYINT = 6", "BIT = 1", "BIGINT = 70000", *texts) if self.may(0.4) else str(self.rand.randint(0, 9))
+        return f"{name} " * self.may(0.3) + value + " OUT" * (is_output and self.may(0.7)) + " DEFAULT" * self.may(0.02)
+
+
+def quoted(text):
+    return "NTEXT = N'" + text.replace("'", "''") + "'"
+
+
+def spelled(declared):
+    return quoted(", ".join(f"{name} {kind}{' OUTPUT' * is_output}" for name, kind, is_output in declared))
+
+
 # ---- replies
 
 
-def ours(program, batches):
-    """The lines of tsqld's reply to each batch; behind those how it ended, where that is wrong."""
-    sent = b"".join(rows.batch(text) for text in batches)
-    run = subprocess.run([program, "pipe", "--bare"], input=sent, stdout=subprocess.PIPE, check=False)
+def step_of(line):
+    """What a line of a conversation sends."""
+    mark, _, text = line.partition(" ")
+    return Step(0, text=text, spell={"rpc": call, "tm": transaction}.get(mark, batch))
+
+
+def ours(program, lines, flags=()):
+    """The lines of tsqld's reply to each message; behind those how it ended, where that is wrong."""
+    sent = b"".join(step_of(line).sent() for line in lines)
+    run = subprocess.run([program, "pipe", "--bare", *flags], input=sent, stdout=subprocess.PIPE, check=False)
     try:
         replies = [rows.Tokens(payload).lines() for _, payload in rows.replies_of(run.stdout)]
     except rows.Unread as error:
@@ -277,10 +374,11 @@ def ours(program, batches):
     return replies if run.returncode == 0 else [*replies, [f"status {run.returncode}"]]
 
 
-def theirs(batches):
+def theirs(lines, flags=()):
     """Those of the model."""
     session = model.Session()
-    return [session.batch(text) for text in batches]
+    calls = model.Calls(session, bool(flags))
+    return [answer(session, calls, step_of(line)) for line in lines]
 
 
 def first_difference(given, wanted):
@@ -291,20 +389,19 @@ def first_difference(given, wanted):
     return None
 
 
-def fewest(program, batches):
-    """The batches, without those that are not needed for a difference."""
-    for batch in reversed(batches):
-        fewer = [other for other in batches if other is not batch]
-        if ours(program, fewer) != theirs(fewer):
-            batches = fewer
-    return batches
+def fewest(program, lines, flags):
+    """The lines, without those that are not needed for a difference."""
+    for line in reversed(lines):
+        fewer = [other for other in lines if other is not line]
+        if ours(program, fewer, flags) != theirs(fewer, flags):
+            lines = fewer
+    return lines
 
 
-def show(program, batches):
-    batches = fewest(program, batches)
-    for text in batches:
-        print(f"> {text}")
-    given, wanted = ours(program, batches), theirs(batches)
+def show(program, lines, flags):
+    lines = fewest(program, lines, flags)
+    print("\n".join(lines))
+    given, wanted = ours(program, lines, flags), theirs(lines, flags)
     place = first_difference(given, wanted)
     print(f"reply {place + 1}")
     show_lines([*given, []][place], [*wanted, []][place], "tsqld", "model")
@@ -320,16 +417,17 @@ def show_lines(given, wanted, who, other):
 def compare_random(said):
     """Whether the replies to random conversations agree."""
     seen, passed = Counter(), 0
+    kind, flags = (DriverMaker, ["--drivers"]) if said.drivers else (Maker, [])
     for number in range(said.number):
-        batches = Maker(Random(f"{said.seed}.{number}"), said.without).conversation()
+        lines = kind(Random(f"{said.seed}.{number}"), said.without).conversation()
         try:
-            wanted = theirs(batches)
+            wanted = theirs(lines, flags)
         except model.Unread:
             passed += 1
             continue
-        if ours(said.bin, batches) != wanted:
+        if ours(said.bin, lines, flags) != wanted:
             print(f"after {number} conversations this one differs:")
-            show(said.bin, batches)
+            show(said.bin, lines, flags)
             return False
         seen.update(name_of(line) for reply in wanted for line in reply)
     counts = ", ".join(f"{name} {count}" for name, count in seen.most_common())
@@ -359,11 +457,12 @@ def compare_files(paths):
 
 def compare_conversation(path, conversation):
     is_other = conversation.is_of_two() or conversation.is_again() or conversation.session() != 1
-    if is_other or any(step.text is None or step.spell is call for step in conversation.steps):
+    if is_other or "login" in conversation.settings:
         return "passed"
     session = model.Session()
+    calls = model.Calls(session, "drivers" in conversation.settings)
     for step in conversation.steps:
-        outcome = compare_step(session, step, "drivers" in conversation.settings)
+        outcome = compare_step(session, calls, step)
         if outcome == "differs":
             print(f"{path}:{step.number}: {step.text}")
             show_lines(step.wanted, session.lines, "wanted", "model")
@@ -372,12 +471,14 @@ def compare_conversation(path, conversation):
     return "agrees"
 
 
-def compare_step(session, step, has_drivers):
+def compare_step(session, calls, step):
     try:
-        given = session.lines = answer(session, step, has_drivers)
+        given = session.lines = answer(session, calls, step)
     except model.Unread:
         is_refused = bool(step.wanted) and str(step.wanted[0]).startswith("ERROR 102 ")
         return "agrees" if is_refused else "passed"
+    except model.Refused:
+        return "differs" if step.wanted else "agrees"
     if given == step.wanted:
         return "agrees"
     place = first_difference(step.wanted, given)
@@ -385,12 +486,27 @@ def compare_step(session, step, has_drivers):
     return "passed" if isinstance(wanted, bytes) or wanted.startswith(LACKING) else "differs"
 
 
-def answer(session, step, has_drivers):
-    """The lines of the model's reply to a batch or to a request."""
+def answer(session, calls, step):
+    """The lines of the model's reply to a batch, a call or a request."""
+    sent = step.sent()
+    if sent[:1] == RPC:
+        return calls.answer(payload_of(sent))
+    if step.text is None:
+        raise model.Unread("bytes")
     if step.spell is transaction:
         return model.requests.answer(session, request_of(step.text))
     lines = session.batch(step.text)
-    return model.requests.ended_once(lines) if has_drivers else lines
+    return model.requests.ended_once(lines) if calls.has_drivers else lines
+
+
+def payload_of(sent):
+    """What the packets of a message carry."""
+    payload, at = b"", 0
+    while at < len(sent):
+        length = int.from_bytes(sent[at + 2 : at + 4], "big")
+        payload += sent[at + 8 : at + length]
+        at += max(8, length)
+    return payload
 
 
 def main():
@@ -398,6 +514,7 @@ def main():
     words.add_argument("--bin", default=dist.current() or dist.BUILT, help="the program, without it that of these sources")
     words.add_argument("--number", type=int, default=500, help="how many conversations")
     words.add_argument("--seed", type=int, default=1)
+    words.add_argument("--drivers", action="store_true", help="as drivers send it")
     words.add_argument("--without", action="append", default=[], choices=("procedures", "triggers", "cursors"))
     words.add_argument("--rows", nargs="+", metavar="FILE", help="compares the model with files of rows")
     said = words.parse_args()

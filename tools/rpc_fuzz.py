@@ -1,12 +1,16 @@
 #!/usr/bin/env python3
 """Makes random, cut and changed payloads of calls by RPC, reads each, and compares what `tsqld pipe` makes of them.
 
-    tools/rpc_fuzz.py [--bin PROGRAM] [--number N] [--seed S]
+    tools/rpc_fuzz.py [--bin PROGRAM] [--number N] [--seed S] [--drivers]
 
-The reader was written from [MS-TDS] 2.2.6.6 and docs/PROTOCOL.md, apart from the server. A payload that it reads must be answered, and
-where the answer shows what was read, that is compared byte by byte. One that it refuses must end the connection with status 5 and without
-a reply. The program does not say at which field: so what stands in front of that field is sent too, with an end that makes a call of it,
-and must be answered; and where the field is whole, it is sent with what would follow if it were right, and must be refused.
+The reader (tools/model/payloads.py) was written from [MS-TDS] 2.2.6.6 and docs/PROTOCOL.md, apart from the server. A payload that it
+reads must be answered, and where the answer shows what was read, that is compared byte by byte. One that it refuses must end the
+connection with status 5 and without a reply. The program does not say at which field: so what stands in front of that field is sent
+too, with an end that makes a call of it, and must be answered; and where the field is whole, it is sent with what would follow if it
+were right, and must be refused.
+
+With --drivers they are calls as drivers spell them, and the program is started so. There a field that is refused, but for one that is
+cut and for the headers, is answered by an error that tells its offset, and the connection goes on.
 
 Many are sent on one connection, until one is refused. Most call `sp_executesql` with a statement of nothing; its other parameters take
 their default, so that OUTPUT ones come back as they were sent. It prints how often each kind came, and ends with 1 at one that differs."""
@@ -19,99 +23,23 @@ from concurrent.futures import ThreadPoolExecutor
 from random import Random
 
 import dist
+from model.payloads import (
+    BIT, CHAR, COLLATION, FLAGS, FRONT, MAX, MOST_NAME, MOST_UNITS, NARROW, NCHAR, NTEXT, NULL, SQL, TEN, TEXT, UNTOLD, WHOLE, WIDE,
+    DriverReader, Reader, Refused, Unserved, letter_of,
+)  # fmt: skip
 from worked.server import run_pipe
 from worked.tokens import replies_of
 from worked.wire import ALL_HEADERS, message
 
-AT_ONCE, MOST_UNITS, MOST_NAME, MOST_PARAMETERS, ANY = 4, 4000, 128, 10000, b""
-WHOLE, BIT, WIDE, NARROW = 0x26, 0x68, 0xE7, 0xA7
-COLLATION, SQL = bytes.fromhex("0904000200"), "sp_executesql".encode("utf-16-le")
+AT_ONCE, MOST_PARAMETERS, MOST_PAYLOAD, ANY = 4, 10000, 2**20, b""
 BYTES = (0, 1, 2, 3, 4, 7, 8, 9, 10, 11, WHOLE, 0x2F, 0x3F, 0x40, BIT, 0x7F, 0x80, 0x81, NARROW, WIDE, 0xFE, 0xFF)
-# How a call may go on: flags; the number of sp_executesql and flags; a type with NULL; a status with these. And a text that is NULL.
-FLAGS, TEN, TINY, PLAIN, NULL = b"\0\0", b"\x0a\0\0\0", b"\x26\x01\0", b"\0\x26\x01\0", b"\xff\xff"
-
-
-class Refused(Exception):
-    """Why the first field is refused, a payload with a good one there and, unless it is cut, one that goes on as if it were right."""
-
-
-class Reader:
-    """Reads a payload from left to right. `instead` are bytes that a call may have in the place of a field, up to its end."""
-
-    def __init__(self, data):
-        self.data, self.at = data, 0
-
-    def take(self, count, instead):
-        """The next field."""
-        if len(self.data) - self.at < count:
-            raise Refused("Cut", self.data[: self.at] + instead)
-        self.at += count
-        return self.data[self.at - count : self.at]
-
-    def number(self, count, instead):
-        return int.from_bytes(self.take(count, instead), "little")
-
-    def refuse(self, count, why, instead, behind):
-        """Refuses the field of so many bytes that was taken last; `behind` would end the call if it were right."""
-        raise Refused(why, self.data[: self.at - count] + instead, self.data[: self.at] + behind)
-
-    def call(self):
-        """The name of the procedure, that of sp_executesql also where its number stands, and the parameters."""
-        self.at, name = int.from_bytes(self.data[:4], "little"), SQL
-        if len(self.data) < 4 or not 4 <= self.at <= len(self.data):
-            raise Refused("Headers", ALL_HEADERS + NULL + TEN)
-        count = self.number(2, NULL + TEN)
-        if count < 0xFFFF:
-            name = self.take(2 * count, bytes(2 * count) + FLAGS)
-        elif self.number(2, TEN) != 10:
-            self.refuse(2, "Procedure", TEN, FLAGS)
-        self.take(2, FLAGS)
-        parameters = []
-        while self.at < len(self.data):
-            parameters.append(self.parameter())
-        return name, parameters
-
-    def parameter(self):
-        """Its name and status, its type and value as RETURNVALUE has them, and the units of its value, if it is a text."""
-        count = self.number(1, b"")
-        if count > MOST_NAME:
-            self.refuse(1, "Trailing", b"", bytes(2 * count) + PLAIN)
-        name, status, tag = self.take(2 * count, bytes(2 * count) + PLAIN), self.number(1, PLAIN), self.number(1, TINY)
-        if tag not in (WHOLE, BIT, WIDE, NARROW):
-            self.refuse(1, "Kind", TINY, b"\x01\0")
-        self.at -= 1
-        return name, status, *(self.filled(tag) if tag in (WHOLE, BIT) else self.text(tag))
-
-    def filled(self, tag):
-        size = self.take(2, TINY)[1]
-        if size not in ((1,) if tag == BIT else (1, 2, 4, 8)):
-            self.refuse(2, "Kind", TINY, b"\0")
-        count = self.number(1, b"\0")
-        if count not in (0, size):
-            self.refuse(1, "Value", b"\0", bytes(count))
-        data = self.take(count, bytes(count))
-        return bytes([tag, size]), bytes([count]) + (bytes([data != b"\0"]) if tag == BIT and count else data), None
-
-    def text(self, tag):
-        size = struct.unpack("<H", self.take(8, TINY)[1:3])[0]
-        if not 1 <= size <= 2 * MOST_UNITS or tag == WIDE and size % 2:
-            self.refuse(8, "Kind", TINY, NULL)
-        most = size if tag == WIDE else min(size, MOST_UNITS)
-        kind = struct.pack("<BH", WIDE, most if tag == WIDE else 2 * most) + COLLATION
-        count = self.number(2, NULL)
-        if count == 0xFFFF:
-            return kind, NULL, None
-        if count > most or tag == WIDE and count % 2:
-            self.refuse(2, "Value", NULL, bytes(count))
-        data = self.take(count, bytes(count))
-        if tag == NARROW and not data.isascii():
-            self.refuse(count, "Value", bytes(count), b"")
-        data = data if tag == WIDE else data.decode("ascii").encode("utf-16-le")
-        return kind, struct.pack("<H", len(data)) + data, data
 
 
 def reply_to(name, parameters):
     """The payload of the reply to a call, where it is known."""
+    name = SQL if name == "sp_executesql" else name
+    if not isinstance(name, bytes):
+        return ANY
     if len(parameters) > MOST_PARAMETERS:
         return error(49007, "Definition or statement is outside the limits.")
     missing = [place for place, (_, status, *_) in enumerate(parameters) if status & 2]
@@ -144,6 +72,8 @@ def error(number, text):
 class Maker(Random):
     """Makes payloads, field by field, of which it changes some."""
 
+    drivers = False
+
     def units(self, most):
         count = min(most, self.choice((0, 1, 2, 3, self.randint(0, most), most if self.random() < 0.1 else 2)))
         return "".join(self.choice("ab@_0 'é\ud800") for _ in range(count)).encode("utf-16-le", "surrogatepass")
@@ -165,7 +95,49 @@ class Maker(Random):
         other, more, fewer = (field[:at] + new + field[end:] for new, end in ((byte, at + 1), (byte, at), (b"", at + 1)))
         fields[place : place + 1] = self.choice(([other], [other], [other], [more], [fewer], [], [field, field]))
 
+    def driver_text(self, text):
+        """The fields of a text of a driver, of one type of all that may have it."""
+        data, pieces = text.encode("utf-16-le", "surrogatepass"), []
+        tag = self.choice((WIDE, NCHAR, NTEXT, MAX, MAX))
+        if self.random() < 0.4 and all(letter_of(byte) != NULL for byte in data):
+            data, tag = self.randbytes(len(text)), self.choice((NARROW, CHAR, TEXT, -MAX, -MAX))
+        if tag in (NTEXT, TEXT):
+            size = struct.pack("<BI", tag, self.choice((0, 1, len(data), 2**31 - 1))) + COLLATION
+            return [size, b"\xff" * 4] if self.random() < 0.1 else [size, struct.pack("<I", len(data)), data]
+        if abs(tag) == MAX:
+            head = struct.pack("<BH", WIDE if tag > 0 else NARROW, MAX) + COLLATION
+            if self.random() < 0.1:
+                return [head, b"\xff" * 8]
+            by = self.choice((1, 2, 3, 7, 4000, len(data) or 1))
+            for at in range(0, len(data), by):
+                piece = data[at : at + by]
+                pieces += [struct.pack("<I", len(piece)), piece]
+            wrong = len(data) + self.choice((1, -1, 2**32, 2**63))
+            told = wrong if self.random() < 0.02 else self.choice((UNTOLD, len(data)))
+            return [head, struct.pack("<Q", told % 2**64), *pieces, bytes(4)]
+        room = max(2, len(data)) if self.random() < 0.95 else self.choice((0, 1, 3, 8000, 8001, 8002, MAX))
+        head = struct.pack("<BH", tag, room % 65536) + self.choice((COLLATION, bytes(5)))
+        return [head, NULL] if self.random() < 0.1 else [head, struct.pack("<H", len(data) % 65536), data]
+
+    def driver_fields(self):
+        headers = self.choice((ALL_HEADERS, ALL_HEADERS, b"\4\0\0\0", b"\x2c\0\0\0" + self.randbytes(40)))
+        number = struct.pack("<H", self.choice((10,) * 20 + (1, 11, 12, 13, 14, 15, 266)))
+        words = self.choice((SQL, SQL, self.choice(tuple(FRONT)).encode("utf-16-le"), self.units(140)))
+        fields = [headers, *self.choice(([NULL, number], [struct.pack("<H", len(words) // 2), words])), self.choice((FLAGS, FLAGS, NULL))]
+        blank = " " * self.choice((0, 0, 1, 4000, 4001, 9000))
+        for text in self.choice(((), ("",), ("", ""), (blank, ""), ("", blank), (";", " "), ("SELECT @a", "@a INT"), ("x",))):
+            fields += [b"\0", b"", b"\1" if self.random() < 0.3 else b"\0", *self.driver_text(text)]
+        for _ in range(self.choice((0, 1, 1, 2, 3, 8))):
+            name, status = self.units(MOST_NAME), self.choice((2, 3, 3, 3, 3, 0xFF, 0xFE, 0, 1))
+            text = self.units(self.choice((1, 2, 20, 2001, MOST_UNITS, MOST_UNITS + 1))).decode("utf-16-le", "surrogatepass")
+            typed = self.typed() if self.random() < 0.2 else self.driver_text(text)
+            fields += [bytes([len(name) // 2]), name, bytes([status]), *typed]
+        return fields
+
     def fields(self):
+        return self.driver_fields() if self.drivers else self.plain_fields()
+
+    def plain_fields(self):
         headers = self.choice((ALL_HEADERS, ALL_HEADERS, b"\4\0\0\0", b"\x2c\0\0\0" + self.randbytes(40)))
         named = [[struct.pack("<H", len(name) // 2), name] for name in (SQL, self.units(65534 if self.random() < 0.02 else 140))]
         fields = [headers, *self.choice(([NULL, TEN[:2]], [NULL, TEN[:2]], *named)), self.choice((FLAGS, FLAGS, NULL))]
@@ -194,21 +166,34 @@ class Maker(Random):
         return [kind, NULL, b""] if self.random() < 0.1 else [kind, struct.pack("<H", len(data)), data]
 
 
-def cases_of(payload, seen):
+def cases_of(payload, seen, reader=Reader):
     """The payload and those that it leads to, each with its reply, or None where it is refused."""
     try:
-        reply = reply_to(*Reader(payload).call())
+        reply = reply_to(*reader(payload).call())
+    except Unserved as it:
+        why, at = it.args
+        seen[why] += 1
+        unserved = error(8016, f"The remote procedure call is not served at byte {at}.")
+        return [(payload, error(49006, "Text is too long.") if why == "Long" else unserved)]
     except Refused as it:
         why, read, *refused = it.args
         seen[why] += 1
-        return [(read, reply_to(*Reader(read).call())), (payload, None), *((other, None) for other in refused)]
+        return [*front_of(read, reader), (payload, None), *((other, None) for other in refused)]
     seen["compared" if reply else "answered"] += 1
     return [(payload, reply)]
 
 
-def fault_of(program, run):
+def front_of(read, reader):
+    """What stands in front of a field, with an end that makes a call of it; nothing where none does, as in a chunk."""
+    try:
+        return [(read, reply_to(*reader(read).call()))] if len(read) <= MOST_PAYLOAD else []
+    except (Refused, Unserved):
+        return []
+
+
+def fault_of(program, run, flags=()):
     """What is wrong on a connection, at the first payload of which something is, or nothing."""
-    written, status = run_pipe(program, None, b"".join(message(3, payload) for payload, _wanted in run))
+    written, status = run_pipe(program, None, b"".join(message(3, payload) for payload, _wanted in run), 0, flags)
     given = [reply for _whole, reply in replies_of(written)]
     for at, (payload, wanted) in enumerate(run):
         reply = given[at] if at < len(given) else None
@@ -221,9 +206,10 @@ def fault_of(program, run):
 
 def runs_of(said, seen):
     """The cases of each connection: it ends behind one that is refused."""
-    maker, run = Maker(said.seed), []
+    maker, run, reader = Maker(said.seed), [], DriverReader if said.drivers else Reader
+    maker.drivers = said.drivers
     for _ in range(said.number):
-        for case in cases_of(maker.payload(), seen):
+        for case in cases_of(maker.payload(), seen, reader):
             run.append(case)
             if case[1] is None:
                 yield run
@@ -236,9 +222,10 @@ def main():
     words.add_argument("--bin", default=dist.current() or dist.BUILT, help="the program, without it that of these sources")
     words.add_argument("--number", type=int, default=20000, help="how many payloads")
     words.add_argument("--seed", type=int, default=1)
+    words.add_argument("--drivers", action="store_true", help="calls as drivers spell them")
     said, seen = words.parse_args(), Counter()
     with ThreadPoolExecutor(AT_ONCE) as pool:
-        for fault in pool.map(lambda run: fault_of(said.bin, run), runs_of(said, seen)):
+        for fault in pool.map(lambda run: fault_of(said.bin, run, ["--drivers"] if said.drivers else ()), runs_of(said, seen)):
             if fault:
                 pool.shutdown(cancel_futures=True)
                 sys.exit(fault)

@@ -5,10 +5,11 @@
 #
 # orders: each client runs the batches of orders.sql, and tells what orders.out has. transfers: four of a kind, and then one of
 # each, at once; no money is lost. locks: two of a kind, of which each meets the other's lock with LOCK_TIMEOUT 0, and one falls
-# in a deadlock. calls: four clients send parameters by calls by RPC, and tell what calls.out has, or that of their kind. Prints
-# a line for each part, and ends with 1 where one is wrong, or at once with 2 where no server is reached. The tables orders,
-# items, account, seat and parts are dropped, before and behind. The server needs two workers at least, and --drivers, which
-# ./tsqld gives it: pyodbc, go and DBD::ODBC begin transactions by requests.
+# in a deadlock. calls: four clients send parameters by calls by RPC, and tell what calls.out has, or that of their kind.
+# example: a program of ten lines in each of four languages. drivers: each client by its own idioms of parameters, prepared
+# statements and transactions, which tells what drivers.out has, and behind that what its own kind has. Prints a line for each
+# part, and ends with 1 where one is wrong, or at once with 2 where no server is reached. The tables orders, items, account,
+# seat and parts are dropped, before and behind. The server needs two workers at least, and --drivers, which ./tsqld gives it.
 cd "$(dirname "$0")" || exit 2
 port=${1:?the port is missing}
 host=${2:-127.0.0.1}
@@ -21,7 +22,9 @@ trap 'rm -r "$work"' EXIT
 trap 'exit 2' INT TERM
 export FREETDSCONF="$work/freetds.conf"
 printf '[tsqld]\n    host = %s\n    port = %s\n    tds version = 7.4\n    encryption = off\n' "$host" "$port" > "$FREETDSCONF"
-for script in orders transfers locks calls; do
+export ODBCINI="$work/odbc.ini"
+printf '[tsqld]\nDriver = FreeTDS\nServername = tsqld\n' > "$ODBCINI"
+for script in orders transfers locks calls drivers example; do
     GO111MODULE=off GOPATH=/usr/share/gocode go build -o "$work/$script" "$script.go" || exit 2
 done
 kinds="go pyodbc pdo perl tsql"
@@ -37,17 +40,19 @@ client() {
     case $1 in
         go) timeout 120 "$work/$2" "$host" "$port" $3 ;;
         pyodbc) timeout 120 /usr/bin/python3 "$2.py" $3 ;;
-        pymssql) timeout 120 /usr/bin/python3 "$2.py" "$host" "$port" ;;
+        pymssql | pytds) timeout 120 /usr/bin/python3 "$2_$1.py" "$host" "$port" ;;
         pdo) timeout 120 php "$2.php" $3 ;;
+        pdo_odbc) timeout 120 php "$2_odbc.php" ;;
         perl) timeout 120 perl "$2.pl" $3 ;;
-        odbc) timeout 120 perl "${2}_odbc.pl" ;;
+        odbc) timeout 120 perl "$2_odbc.pl" ;;
+        isql) timeout 120 isql tsqld sa A -b -v -d, < "$2_isql.sql" ;;
         tsql) { [ -z "$3" ] || echo "DECLARE @me INT = $3"; cat "$2.sql"; } | sql ;;
     esac > "$work/told.$1.$3" 2>&1
 }
 
 # What clients told, without what each of them puts round a message.
 plain() {
-    perl -ne 'if (my @told = /((?:The statement conflicted|The transaction was chosen|Lock request|Violation of constraint)[^.]*\.)/g) {
+    perl -ne 'if (my @told = /((?:The statement conflicted|The transaction was chosen|Lock request|Violation of constraint|Text is too long|Definition or statement)[^.]*\.)/g) {
                   print "$_\n" for @told;
               } elsif (!/^Msg /) {
                   tr/\t/ /;
@@ -111,12 +116,27 @@ The transaction was chosen as the deadlock victim.
 committed"
 done
 
-for kind in go pymssql perl odbc; do
-    printf 'DROP PROCEDURE add_part\ngo\nDROP TABLE parts\ngo\n' | sql > "$work/dropped"
-    client "$kind" calls
-    expected=calls.$kind.out
-    [ -e "$expected" ] || expected=calls.out
-    part "calls, $kind" "$(plain "$work"/told.*)" "$(cat "$expected")"
-done
+# Clients of these kinds run a script by which the table parts and the procedure add_part are made, one after another.
+alone() {
+    for kind in $2; do
+        printf 'DROP PROCEDURE add_part\ngo\nDROP TABLE parts\ngo\n' | sql > "$work/dropped"
+        client "$kind" "$1"
+        part "$1, $kind" "$(plain "$work"/told.*)" "$(expected "$1" "$kind")"
+    done
+}
+
+# What a client of this kind is to tell: all that stands in its own file of calls; of drivers what all tell, and what its own
+# file has behind that.
+expected() {
+    case $1.$2 in
+        drivers.isql) ;;
+        drivers.* | example.*) cat "$1.out" ;;
+        calls.*) [ -e "calls.$2.out" ] || cat calls.out ;;
+    esac
+    [ ! -e "$1.$2.out" ] || cat "$1.$2.out"
+}
+alone example "go pyodbc pdo odbc"
+alone calls "go pymssql perl odbc"
+alone drivers "go pyodbc pymssql pytds pdo pdo_odbc perl odbc isql"
 printf 'DROP PROCEDURE add_item\nDROP TABLE items\nDROP TABLE orders\nDROP TABLE account\nDROP TABLE seat\nDROP PROCEDURE add_part\nDROP TABLE parts\ngo\n' | sql > "$work/dropped"
 exit $failed

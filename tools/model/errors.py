@@ -50,6 +50,7 @@ TABLE = {
     8114: Line(16, T, Y, "Conversion failed when converting text to BIGINT."),
     8115: Line(16, S, Y, "Arithmetic overflow error."),
     8134: Line(16, S, Y, "Divide by zero error encountered."),
+    8179: Line(16, S, Y, "Could not find prepared statement with handle {name}."),
     16905: Line(16, S, Y, "The cursor is already open."),
     16915: Line(16, S, Y, "A cursor with the name '{name}' already exists."),
     16916: Line(16, S, Y, "A cursor with the name '{name}' does not exist."),

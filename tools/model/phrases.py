@@ -245,6 +245,8 @@ class Phrases:
     def function(self):
         if self.take("CAST"):
             return self.in_parentheses(self.cast)
+        if self.take("LEN"):
+            return trees.Length(self.in_parentheses(self.expr))
         if self.is_word(*AGGREGATES):
             function = self.advance().value.upper()
             return trees.Aggregate(function, self.in_parentheses(lambda: self.counted(function)))

@@ -64,6 +64,13 @@ class Cast:
 
 
 @dataclass
+class Length:
+    """LEN of a text."""
+
+    of: "Expr"
+
+
+@dataclass
 class Aggregate:
     """COUNT(*) is of nothing."""
 
@@ -78,7 +85,7 @@ class Inner:
     query: "Query"
 
 
-Expr = Union[Number, Text, Null, Variable, System, ColumnName, Negative, Computed, Cast, Aggregate, Inner]
+Expr = Union[Number, Text, Null, Variable, System, ColumnName, Negative, Computed, Cast, Length, Aggregate, Inner]
 
 # ---- tests
 

@@ -1,4 +1,5 @@
 """The conversations of a file of rows. docs/ROWS.md has its form."""
+import copy
 import re
 import sys
 
@@ -13,17 +14,19 @@ TOKENS = (
 
 # What is wanted of a batch that is not answered yet.
 WAITS = "WAITS"
-# A token that comes so many times, one behind another.
+# A token that comes so many times, one behind another; and a step that is taken so many times, each with its number.
 MANY = re.compile(r"([1-9]\d*) \* (.*)")
+TAKEN = re.compile(r"([1-9]\d*) \* (2?(?:>|rpc|tm) .*)")
+EACH = "{n}"
 
 
 class Step:
     """What a client sends, and what is wanted for it, with the lines that say so; where it is late, the reply to the batch
-    that waits."""
+    that waits. One that is taken several times is a step, and a row, once."""
 
     def __init__(self, number, text=None, data=b"", is_second=False, is_late=False, spell=batch):
         self.number, self.text, self.data, self.wanted, self.lines = number, text, data, [], []
-        self.is_second, self.is_late, self.spell = is_second, is_late, spell
+        self.is_second, self.is_late, self.spell, self.times, self.is_more = is_second, is_late, spell, 1, False
 
     def want(self, number, wanted):
         self.wanted.append(wanted)
@@ -36,6 +39,18 @@ class Step:
 
     def has_reply(self):
         return self.text is not None or bool(self.wanted)
+
+    def each(self):
+        """The step as it is taken each time."""
+        if self.times == 1:
+            return [self]
+        return [self.taken(number) for number in range(1, self.times + 1)]
+
+    def taken(self, number):
+        step = copy.copy(self)
+        step.text, step.is_more = self.text.replace(EACH, str(number)), number > 1
+        step.wanted = [line.replace(EACH, str(number)) for line in self.wanted]
+        return step
 
 
 class Conversation:
@@ -68,7 +83,7 @@ class Conversation:
 
     def rows(self):
         """How many rows it has: each that is sent is one, and so is a conversation in which nothing is."""
-        return max(1, sum(not step.is_late for step in self.steps))
+        return max(1, sum(not step.is_late and not step.is_more for step in self.steps))
 
 
 class Book:
@@ -83,6 +98,8 @@ class Book:
                     self.read_line(number, line.rstrip("\n"))
                 except (Unread, ValueError, IndexError) as error:
                     sys.exit(f"{path}:{number}: {error}")
+        for conversation in self.conversations:
+            conversation.steps = [step for several in conversation.steps for step in several.each()]
 
     def read_line(self, number, line):
         mark, _, rest = line.partition(" ")
@@ -92,7 +109,11 @@ class Book:
             self.go_on(rest)
             return
         self.named = None
-        if mark == "let":
+        taken = TAKEN.fullmatch(line)
+        if taken:
+            self.read_line(number, taken[2])
+            self.conversations[-1].steps[-1].times = int(taken[1])
+        elif mark == "let":
             self.named, _, items = rest.partition(" = ")
             self.names[self.named] = bytes_of(self.names, items)
             self.outcome = None

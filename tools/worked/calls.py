@@ -10,6 +10,7 @@ WHOLE = {"TINYINT": (1, "<B"), "SMALLINT": (2, "<h"), "INT": (4, "<i"), "BIGINT"
 SIZED = re.compile(r"(N?(?:VAR)?CHAR)\((\d+)\)")
 CHUNKS = re.compile(r"(N?VARCHAR)\(MAX(?:/(\d+))?(?:=(\d+))?\)")
 TAGS = {"NVARCHAR": 0xE7, "VARCHAR": 0xA7, "NCHAR": 0xEF, "CHAR": 0xAF}
+LONG = {"NTEXT": 0x63, "TEXT": 0x23}
 COLLATION = bytes.fromhex("0904000200")
 OUTPUT, DEFAULT = 1, 2
 
@@ -66,8 +67,8 @@ def typed(kind, lexeme):
         raise Unread(f"{value} is no value of {kind}")
     wide = kind.startswith("N")
     data = b"" if is_null else value if wide else value.decode("utf-16-le").encode("latin-1")
-    if kind == "NTEXT":
-        head = struct.pack("<BI", 0x63, len(data)) + COLLATION
+    if kind in LONG:
+        head = struct.pack("<BI", LONG[kind], len(data)) + COLLATION
         return head + (b"\xff" * 4 if is_null else struct.pack("<I", len(data)) + data)
     found = CHUNKS.fullmatch(kind)
     if found:
@@ -91,7 +92,7 @@ def chunks(data, is_null, by, told):
 
 
 def is_kind(word):
-    return word == "NTEXT" or SIZED.fullmatch(word) or CHUNKS.fullmatch(word)
+    return word in LONG or SIZED.fullmatch(word) or CHUNKS.fullmatch(word)
 
 
 def argument(lexemes):

@@ -49,7 +49,7 @@ def named(conversation, found):
 
 def all_steps(conversation, fault):
     """Each row of a conversation that could not be held."""
-    steps = [step for step in conversation.steps if not step.is_late]
+    steps = [step for step in conversation.steps if not step.is_late and not step.is_more]
     for step in steps or [conversation]:
         yield step.number, conversation.title, "a reply", str(fault)
 

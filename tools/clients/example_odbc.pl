@@ -1,0 +1,10 @@
+use DBI;
+my $db = DBI->connect('dbi:ODBC:DRIVER=FreeTDS;SERVERNAME=tsqld', 'sa', 'A', { RaiseError => 1 });
+$db->do('CREATE TABLE parts (id INT NOT NULL PRIMARY KEY, name NVARCHAR(20))');
+$db->begin_work;
+my $add = $db->prepare('INSERT INTO parts VALUES (?, ?)');
+$add->execute(1, 'bolt');
+$add->execute(2, undef);
+$db->commit;
+my $rows = $db->selectall_arrayref('SELECT id, name FROM parts WHERE id < ?', undef, 3);
+print "$_->[0] ", $_->[1] // 'NULL', "\n" for @$rows;
