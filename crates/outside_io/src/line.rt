@@ -5,8 +5,8 @@ ghost use Rattle.std.specs.Prelude.{◌≡◌, ℕ, List};
 use crate::sink::Sink;
 use crate::source::Source;
 
-/// A client's line: a source and a sink in one value, so that the answers go where the bytes came from. What goes through its one side
-/// leaves the other.
+/// A client's line: a source and a sink in one value. What goes through its one side leaves what is told of the other, and its faults.
+/// That both are the same client's, whoever makes the line sees to it: no clause says it.
 pub trait Line: Source + Sink {
     // The references that it holds, by their names in proofs: it keeps them.
     ghost held: { Self → List ℕ };

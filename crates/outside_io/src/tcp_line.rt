@@ -8,8 +8,8 @@ use crate::source::{Failed, Source};
 use std::io::{Read, Write};
 use std::net::TcpStream;
 
-/// A line over one socket, which is read and written through one handle, so that no answer can go to another client. Every error is a
-/// fault of its side, and so is a write that takes nothing. It tells nothing of its bytes.
+/// A line over one socket, which is read and written through one handle. Every error is a fault of its side, and so is a write that
+/// takes nothing. It tells nothing of its bytes, so no clause says that the answers go to the client whose bytes came.
 #[derive(Drop)]
 pub struct TcpLine {
     stream: TcpStream,
