@@ -12,11 +12,11 @@ use Rattle.seat_server.specs.declared.worker.Outcome.{Outcome}
 use Rattle.seat_server.specs.declared.worker.Outcome.TheVariants.{Going, Failed, Closed}
 use Rattle.seat_server.specs.declared.worker.Worker.{Worker}
 use Rattle.seat_server.specs.Served.{Course, Follow}
-use Rattle.seat_server.specs.Workers.{AllFollow, TellsCourses, all_courses, starved_in}
-use Rattle.seat_server.specs.Posts.{AreHired, IsHired, KeepsShare, TakesAll, Works, count_after, count_up, counted, is_closed, is_failed, one_more, seats_of, share_of, tally_after, with_seat}
+use Rattle.seat_server.specs.Workers.{AllFollow, AreWithin, TellsCourses, all_courses, is_short, share_of, short_in, starved_in}
+use Rattle.seat_server.specs.Posts.{AreHired, IsHired, KeepsShare, TakesAll, Works, count_after, count_up, counted, is_closed, is_failed, one_more, seats_of, tally_after, with_seat}
 use Rattle.seat_server.proofs.Courses.{count_fresh, count_none, count_twice, some_is, starved_append, tells_append, tells_none}
 use Rattle.seat_server.proofs.Dismissing.{zip_reverse}
-use Rattle.seat_server.proofs.Shares.{dealt_from}
+use Rattle.seat_server.proofs.Shares.{dealt_from, one_below}
 
 -- how many of them failed, and how many closed
 pub failed_in : {D : Type 0} → List (Worker D) → ℕ
@@ -97,6 +97,19 @@ shares_more (Some all) many at workers served failed closed here outcome bound r
       λ none_failed none_closed. let none : ended ≡ 0 = omega (arith, none_failed, none_closed) in omega (arith, whole none, rest.2 (omega (arith, none_failed)) (omega (arith, none_closed))),
     )
 
+-- one that keeps its share has no more, and is short of it only where its door has ended it
+within_one : (share : Option ℕ) (here : ℕ) (outcome : Outcome) → KeepsShare share here outcome → IfSome share (λ most. here ≤ most)
+within_one None here outcome keeps = tt
+within_one (Some most) here outcome keeps = keeps.0
+
+short_by : (here most : ℕ) (outcome : Outcome) → (here ≡ most) ⊎ (outcome ≢ Going) → one_if (ltb here most) ≤ one_if (is_failed outcome) + one_if (is_closed outcome)
+short_by here most outcome (inl same) = omega (arith, one_below here most, same)
+short_by here most outcome (inr ended) = omega (arith, ended_one outcome ended, at_most (ltb here most))
+
+short_one : (share : Option ℕ) (here : ℕ) (outcome : Outcome) → KeepsShare share here outcome → one_if (is_short share here) ≤ one_if (is_failed outcome) + one_if (is_closed outcome)
+short_one None here outcome keeps = omega arith
+short_one (Some most) here outcome keeps = short_by here most outcome keeps.1
+
 -- ---- faults
 
 -- How the count of a hall's faults stands behind doors of which so many have failed.
@@ -151,6 +164,8 @@ module _ {D : Type 0} (faults : D → ℕ) (is_out has_closed : D → Bool) {L :
     pub tells : (before after : Option (List L)) → TakesAll told before workers after → TellsCourses left given read_faults written write_faults config (all_courses each) before after
     pub few : failed_in workers + closed_in workers ≤ length workers
     pub shares : SharesSo rounds many at (length workers) (length (all_courses each)) (failed_in workers) (closed_in workers)
+    pub within : AreWithin rounds many at each
+    pub short : short_in rounds many at each ≤ failed_in workers + closed_in workers
     pub as_many : length workers ≡ length olds
     pub closes : 0 < closed_in workers → closing
 
@@ -171,6 +186,8 @@ module _ {D : Type 0} (faults : D → ℕ) (is_out has_closed : D → Bool) {L :
     tells = λ before after takes. subst (TellsCourses left given read_faults written write_faults config [] before) (sym takes) (tells_none left given read_faults written write_faults config before);
     few = omega arith;
     shares = shares_none rounds many at;
+    within = tt;
+    short = omega arith;
     as_many = refl;
     closes = λ some. absurd (let no : ⊥ = omega (arith, some) in no);
   }
@@ -202,6 +219,8 @@ module _ {D : Type 0} (faults : D → ℕ) (is_out has_closed : D → Bool) {L :
       let failed_so : one_if (has_failed (faults worker.door)) ≡ one_if (is_failed worker.outcome) = ap one_if worked.posted.failed in
       let closed_so : one_if (has_closed worker.door) ≡ one_if (is_closed worker.outcome) = ap one_if worked.posted.closed in
       let one : one_if (is_failed worker.outcome) + one_if (is_closed worker.outcome) ≤ 1 = at_most_one worker.outcome in
+      let keeps : KeepsShare (share_of rounds many at) here worker.outcome = subst (λ (share : Option ℕ). KeepsShare share here worker.outcome) new.share_is works.keeps in
+      let short : one_if (is_short (share_of rounds many at) here) ≤ one_if (is_failed worker.outcome) + one_if (is_closed worker.outcome) = short_one (share_of rounds many at) here worker.outcome keeps in
       record {
         each = works.courses ∷ rest.each;
         follow = subst (AllFollow (old ∷ olds) (works.courses ∷ rest.each)) (sym seat) (subst (λ (s : EngineSeat). Follow s works.courses works.new_seat) before worked.follow, rest.follow);
@@ -230,8 +249,9 @@ module _ {D : Type 0} (faults : D → ℕ) (is_out has_closed : D → Bool) {L :
             (rest.tells takes.0 after takes.2);
         few = omega (arith, rest.few, one);
         shares = subst (λ n. SharesSo rounds many at (suc (length workers)) n (one_if (is_failed worker.outcome) + failed_in workers) (one_if (is_closed worker.outcome) + closed_in workers)) (sym joined)
-            (shares_more rounds many at (length workers) (length (all_courses rest.each)) (failed_in workers) (closed_in workers) here worker.outcome rest.few rest.shares
-            (subst (λ (share : Option ℕ). KeepsShare share here worker.outcome) new.share_is works.keeps));
+            (shares_more rounds many at (length workers) (length (all_courses rest.each)) (failed_in workers) (closed_in workers) here worker.outcome rest.few rest.shares keeps);
+        within = (within_one (share_of rounds many at) here worker.outcome keeps, rest.within);
+        short = omega (arith, rest.short, short);
         as_many = ap suc rest.as_many;
         closes = λ some. closes_one worker.outcome closing (closed_in workers) some works.closes rest.closes;
       }

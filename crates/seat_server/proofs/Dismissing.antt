@@ -11,8 +11,8 @@ use Rattle.seat_server.specs.declared.tally.Tally.{Tally}
 use Rattle.shared_port.specs.SharedPort.{IsIdle}
 use Rattle.seat_server.specs.declared.worker.Outcome.TheVariants.{Going}
 use Rattle.seat_server.specs.declared.worker.Worker.{Worker}
-use Rattle.seat_server.specs.Posts.{AreHired, Begins, IsNewDoor, IsUnmoved, StaysTold, TakesAll, count_after, counted, is_closed, is_failed, no_tally, seats_of, share_of, tally_after, with_seat}
-use Rattle.seat_server.specs.Workers.{RisesBy}
+use Rattle.seat_server.specs.Posts.{AreHired, Begins, IsNewDoor, IsUnmoved, StaysTold, TakesAll, count_after, counted, is_closed, is_failed, no_tally, seats_of, tally_after, with_seat}
+use Rattle.seat_server.specs.Workers.{RisesBy, share_of}
 use Rattle.seat_server.proofs.Courses.{count_none}
 
 -- the last is the first behind

@@ -7,7 +7,7 @@ abbrev pub dealt_from : ℕ → ℕ → ℕ → ℕ → ℕ
 dealt_from each more at zero = 0
 dealt_from each more at (suc many) = (each + one_if (ltb at more)) + dealt_from each more (at + 1) many
 
-one_below : (at more : ℕ) → one_if (ltb at more) ≡ min 1 (more - at)
+pub one_below : (at more : ℕ) → one_if (ltb at more) ≡ min 1 (more - at)
 one_below at more = grind arith
 
 dealt_is : (each more at many : ℕ) → dealt_from each more at many ≡ many * each + min many (more - at)

@@ -8,7 +8,7 @@ use Rattle.shared_port.specs.Asked.{EngineSeat}
 use Rattle.seat_server.specs.declared.tally.Tally.{Tally}
 use Rattle.seat_server.specs.declared.worker.Worker.{Worker}
 use Rattle.seat_server.specs.Served.{Course}
-use Rattle.seat_server.specs.Workers.{AllFollow, AllWorked, RisesBy, Tallied, TellsCourses, all_courses, starved_in}
+use Rattle.seat_server.specs.Workers.{AllFollow, AllWorked, AreWithin, RisesBy, Tallied, TellsCourses, all_courses, share_of, starved_in}
 use Rattle.seat_server.specs.Posts.{StaysTold, TakesAll, count_after, no_tally, seats_of, tally_after}
 use Rattle.seat_server.proofs.Courses.{count_fresh, count_none, none_some, tells_none}
 use Rattle.seat_server.proofs.Dismissed.{Dismissal, SharesSo, closed_in, failed_in}
@@ -30,24 +30,31 @@ none_in_all : (seats : List EngineSeat) → all_courses (no_courses seats) ≡ [
 none_in_all [] = refl
 none_in_all (seat ∷ seats) = none_in_all seats
 
+zero_bounded : (rounds : Option ℕ) → IfSome rounds (λ all. 0 ≤ all)
+zero_bounded None = tt
+zero_bounded (Some all) = omega arith
+
+none_within : (rounds : Option ℕ) (many at : ℕ) (seats : List EngineSeat) → AreWithin rounds many at (no_courses seats)
+none_within rounds many at [] = tt
+none_within rounds many at (seat ∷ seats) = (zero_bounded (share_of rounds many at), none_within rounds many (at + 1) seats)
+
 module _ {L : Type 0} (left given : L → Option (List ℕ)) (read_faults : L → ℕ) (written : L → Option (List ℕ)) (write_faults : L → ℕ) (config : Config) where
   tells_stayed : (courses : List Course) (before mid after : Option (List L)) → StaysTold before mid → TellsCourses left given read_faults written write_faults config courses mid after → TellsCourses left given read_faults written write_faults config courses before after
   tells_stayed courses before mid None stays tells = tt
   tells_stayed courses before None (Some after) stays tells = absurd (none_some tells.2)
   tells_stayed courses before (Some mid) (Some after) stays tells = (tells.0, tells.1, stays ∙ tells.2, tells.3, tells.4)
 
-  pub none_worked : (seats : List EngineSeat) (before after : Option (List L)) (tally : Tally) → StaysTold before after → tally ≡ no_memory → AllWorked left given read_faults written write_faults config seats seats before after tally
-  none_worked seats before after tally stays is = record {
+  pub none_worked : (rounds : Option ℕ) (seats : List EngineSeat) (before after : Option (List L)) (tally : Tally) → StaysTold before after → tally ≡ no_memory
+      → AllWorked left given read_faults written write_faults config rounds seats seats before after tally
+  none_worked rounds seats before after tally stays is = record {
     each = no_courses seats;
     follow = none_follow seats;
     told = subst (λ (courses : List Course). TellsCourses left given read_faults written write_faults config courses before after) (sym (none_in_all seats)) (tells_stayed [] before after after stays (tells_none left given read_faults written write_faults config after));
     connections = ap (λ (t : Tally). t.connections) is ∙ ap (λ (courses : List Course). count_on 0 (length courses)) (sym (none_in_all seats));
     starved = ap (λ (t : Tally). t.starved) is ∙ ap (λ (courses : List Course). count_on 0 (starved_in courses)) (sym (none_in_all seats));
+    within = none_within rounds (length seats) 0 seats;
+    short = λ plenty. absurd (let differ : true ≡ false = sym (ap (λ (t : Tally). t.memory) is) ∙ plenty in cc);
   }
-
-zero_bounded : (rounds : Option ℕ) → IfSome rounds (λ all. 0 ≤ all)
-zero_bounded None = tt
-zero_bounded (Some all) = omega arith
 
 pub none_tallied : (rounds : Option ℕ) (workers : ℕ) (faults_old faults_new finished_old finished_new failed_old failed_new closed_old closed_new : ℕ) (tally : Tally) → RisesBy faults_old faults_new 0 → RisesBy finished_old finished_new 0 → RisesBy failed_old failed_new 0 → RisesBy closed_old closed_new 0 → tally ≡ no_memory
     → Tallied rounds workers faults_old faults_new finished_old finished_new failed_old failed_new closed_old closed_new tally
@@ -94,51 +101,54 @@ module _ {D : Type 0} (faults : D → ℕ) (is_out has_closed : D → Bool) {L :
   connections_are : tally.connections ≡ count_on 0 (length (all_courses done.each))
   connections_are = ap (λ (t : Tally). t.connections) is ∙ done.connections no_tally (omega arith)
 
-  pub all_worked : (before mid after : Option (List L)) → StaysTold before mid → TakesAll told mid workers after → news ≡ [] ++ seats_of workers → AllWorked left given read_faults written write_faults config olds news before after tally
-  all_worked before mid after stays takes seats = record {
+  failed_are : length olds ≤ 64 → tally.failed ≡ failed_in workers
+  failed_are few = omega (arith, ap (λ (t : Tally). t.failed) is, done.failed no_tally (omega (arith, done.as_many, few)))
+
+  closed_are : length olds ≤ 64 → tally.closed ≡ closed_in workers
+  closed_are few = omega (arith, ap (λ (t : Tally). t.closed) is, done.closed no_tally (omega (arith, done.as_many, few)))
+
+  pub all_worked : (before mid after : Option (List L)) → length olds ≤ 64 → StaysTold before mid → TakesAll told mid workers after → news ≡ [] ++ seats_of workers
+      → AllWorked left given read_faults written write_faults config rounds olds news before after tally
+  all_worked before mid after few stays takes seats = record {
     each = done.each;
     follow = subst (AllFollow olds done.each) (sym seats) done.follow;
     told = tells_stayed left given read_faults written write_faults config (all_courses done.each) before mid after stays (done.tells mid after takes);
     connections = connections_are;
     starved = ap (λ (t : Tally). t.starved) is ∙ done.starved no_tally (omega arith);
+    within = done.within;
+    short = λ plenty. omega (arith, done.short, failed_are few, closed_are few);
   }
 
   pub all_closes : length olds ≤ 64 → 0 < tally.closed → closing
-  all_closes few some = done.closes (omega (arith, some, ap (λ (t : Tally). t.closed) is, done.closed no_tally (omega (arith, done.as_many, few))))
+  all_closes few some = done.closes (omega (arith, some, closed_are few))
 
   pub all_tallied : (faults_old faults_new finished_old finished_mid finished_new failed_old failed_mid failed_new closed_old closed_mid closed_new : ℕ) → length olds ≤ 64 → 0 < length olds → IfSome rounds (λ all. all < 2 ^ 32)
       → RisesBy finished_old finished_mid 0 → RisesBy failed_old failed_mid 0 → RisesBy closed_old closed_mid 0
       → faults_new ≡ count_after faults faults_old workers → finished_new ≡ count_after finished finished_mid workers → failed_new ≡ count_after (λ door. one_if (has_failed (faults door))) failed_mid workers → closed_new ≡ count_after (λ door. one_if (has_closed door)) closed_mid workers
       → Tallied rounds (length olds) faults_old faults_new finished_old finished_new failed_old failed_new closed_old closed_new tally
   all_tallied faults_old faults_new finished_old finished_mid finished_new failed_old failed_mid failed_new closed_old closed_mid closed_new few some range finished_stays failed_stays closed_stays faults_is finished_is failed_is closed_is = record {
-    faulty = λ some. subst (HasRisen faults_old) (sym faults_is) ((done.hall_faults faults_old).0 (omega (arith, some, failed_are)));
+    faulty = λ some. subst (HasRisen faults_old) (sym faults_is) ((done.hall_faults faults_old).0 (omega (arith, some, failed_are few)));
     counted = λ bound. omega (arith, bound, faults_is, (done.hall_faults faults_old).1);
-    faultless = λ bound none. faults_is ∙ (done.hall_faults faults_old).2 bound (sym failed_are ∙ none);
+    faultless = λ bound none. faults_is ∙ (done.hall_faults faults_old).2 bound (sym (failed_are few) ∙ none);
     finished = λ bound.
         let same : finished_mid ≡ finished_old = finished_stays bound ∙ count_none finished_old bound in
         finished_is ∙ (ap (λ n. count_after finished n workers) same ∙ (done.hall_finished finished_old bound ∙ (sym (count_fresh finished_old served) ∙ ap (count_on finished_old) (sym connections_are))));
     failed = λ bound.
         let same : failed_mid ≡ failed_old = failed_stays bound ∙ count_none failed_old bound in
-        failed_is ∙ (ap (λ n. count_after (λ door. one_if (has_failed (faults door))) n workers) same ∙ (done.hall_failed failed_old bound ∙ ap (count_on failed_old) (sym failed_are)));
+        failed_is ∙ (ap (λ n. count_after (λ door. one_if (has_failed (faults door))) n workers) same ∙ (done.hall_failed failed_old bound ∙ ap (count_on failed_old) (sym (failed_are few))));
     closed = λ bound.
         let same : closed_mid ≡ closed_old = closed_stays bound ∙ count_none closed_old bound in
-        closed_is ∙ (ap (λ n. count_after (λ door. one_if (has_closed door)) n workers) same ∙ (done.hall_closed closed_old bound ∙ ap (count_on closed_old) (sym closed_are)));
+        closed_is ∙ (ap (λ n. count_after (λ door. one_if (has_closed door)) n workers) same ∙ (done.hall_closed closed_old bound ∙ ap (count_on closed_old) (sym (closed_are few))));
     bounded = bounded_by rounds (length olds) served (failed_in workers) (closed_in workers) tally.connections some shares connections_are;
     none = λ wanting. absurd (let differ : true ≡ false = sym wanting ∙ (ap (λ (t : Tally). t.memory) is ∙ done.memory no_tally) in cc);
-    least = λ memory. subst (λ ended. IfSome rounds (λ all. all / length olds * (length olds - ended) ≤ tally.connections)) (ap (λ n. n + closed_in workers) (sym failed_are) ∙ ap (λ n. tally.failed + n) (sym closed_are))
+    least = λ memory. subst (λ ended. IfSome rounds (λ all. all / length olds * (length olds - ended) ≤ tally.connections)) (ap (λ n. n + closed_in workers) (sym (failed_are few)) ∙ ap (λ n. tally.failed + n) (sym (closed_are few)))
         (least_by rounds (length olds) served (failed_in workers) (closed_in workers) tally.connections some range shares connections_are);
-    whole = λ memory none_failed none_closed. whole_by rounds (length olds) served (failed_in workers) (closed_in workers) tally.connections some range shares connections_are (sym failed_are ∙ none_failed) (sym closed_are ∙ none_closed);
-    ended = λ memory none. omega (arith, failed_are, closed_are, ended_by rounds (length olds) served (failed_in workers) (closed_in workers) none shares);
+    whole = λ memory none_failed none_closed. whole_by rounds (length olds) served (failed_in workers) (closed_in workers) tally.connections some range shares connections_are (sym (failed_are few) ∙ none_failed) (sym (closed_are few) ∙ none_closed);
+    ended = λ memory none. omega (arith, failed_are few, closed_are few, ended_by rounds (length olds) served (failed_in workers) (closed_in workers) none shares);
   }
     where
       served : ℕ
       served = length (all_courses done.each)
-
-      failed_are : tally.failed ≡ failed_in workers
-      failed_are = omega (arith, ap (λ (t : Tally). t.failed) is, done.failed no_tally (omega (arith, done.as_many, few)))
-
-      closed_are : tally.closed ≡ closed_in workers
-      closed_are = omega (arith, ap (λ (t : Tally). t.closed) is, done.closed no_tally (omega (arith, done.as_many, few)))
 
       shares : SharesSo rounds (length olds) 0 (length olds) served (failed_in workers) (closed_in workers)
       shares = subst (λ n. SharesSo rounds (length olds) 0 n served (failed_in workers) (closed_in workers)) done.as_many done.shares

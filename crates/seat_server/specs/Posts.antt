@@ -1,5 +1,5 @@
 -- Own: one worker at its post, with a seat and a door. It is said of all that it served; the code serves one connection after another.
-use Rattle.std.specs.Prelude.{◌≡◌, ℕ, ◌+◌, ◌-◌, ◌^◌, ◌/◌, ◌%◌, ◌≤◌, ◌⊎◌, ◌≢◌, min, ltb, nat_le, Bool, true, false, List, [], ◌∷◌, length, Option, None, Some, IfSome, IsSome, IsTrue}
+use Rattle.std.specs.Prelude.{◌≡◌, ℕ, ◌+◌, ◌-◌, ◌^◌, ◌≤◌, ◌⊎◌, ◌≢◌, min, nat_le, Bool, true, false, List, [], ◌∷◌, length, Option, None, Some, IfSome, IsSome, IsTrue}
 use Rattle.atomic_table.specs.Seated.{TableId}
 use Rattle.tds_login.specs.declared.config.Config.{Config}
 use Rattle.outside_io.specs.Doors.{IsUntouched, TakesOver, count_on, has_failed, one_if}
@@ -10,14 +10,9 @@ use Rattle.seat_server.specs.declared.worker.Outcome.{Outcome}
 use Rattle.seat_server.specs.declared.worker.Outcome.TheVariants.{Going, Failed, Closed}
 use Rattle.seat_server.specs.declared.worker.Worker.{Worker}
 use Rattle.seat_server.specs.Served.{Course, Follow, IsCourse}
-use Rattle.seat_server.specs.Workers.{RisesBy, TellsCourses, is_memory, starved_in}
+use Rattle.seat_server.specs.Workers.{RisesBy, TellsCourses, is_memory, share_of, starved_in}
 
 -- ---- shares
-
--- the share of the worker at a place: the rounds are dealt to so many workers, and the first ones have one more where they do not come out even
-abbrev pub share_of : Option ℕ → ℕ → ℕ → Option ℕ
-share_of None many at = None
-share_of (Some all) many at = Some (all / many + one_if (ltb at (all % many)))
 
 -- Where rounds are given a worker serves its share of them, or its door lets it serve no more. Without rounds only its door ends it.
 abbrev pub KeepsShare : Option ℕ → ℕ → Outcome → Type 0

@@ -1,10 +1,10 @@
 -- Own: what workers did, each with a seat and a door of its own, and how they are counted. It is said of each worker's connections as a
 -- list; the code counts them as they come.
-use Rattle.std.specs.Prelude.{◌≡◌, ℕ, ◌+◌, ◌-◌, ◌*◌, ◌/◌, ◌^◌, ◌≤◌, ◌<◌, Bool, true, false, List, [], ◌∷◌, ◌++◌, length, filter, Option, None, Some, IfSome}
+use Rattle.std.specs.Prelude.{◌≡◌, ℕ, ◌+◌, ◌-◌, ◌*◌, ◌/◌, ◌%◌, ◌^◌, ◌≤◌, ◌<◌, ltb, Bool, true, false, List, [], ◌∷◌, ◌++◌, length, filter, Option, None, Some, IfSome}
 use Rattle.std.specs.List.{AllZip, flat_map}
 use Rattle.tds_login.specs.declared.config.Config.{Config}
 use Rattle.outside_io.specs.Bytes.{HasRisen, Takes}
-use Rattle.outside_io.specs.Doors.{IsUntouched, count_on}
+use Rattle.outside_io.specs.Doors.{IsUntouched, count_on, one_if}
 use Rattle.shared_port.specs.Asked.{EngineSeat}
 use Rattle.session_server.specs.Conversation.{CountsFault}
 use Rattle.session_server.specs.declared.end.End.{End}
@@ -66,21 +66,46 @@ AllFollow (old ∷ olds) [] news = ⊥
 AllFollow (old ∷ olds) (courses ∷ each) [] = ⊥
 AllFollow (old ∷ olds) (courses ∷ each) (new ∷ news) = Follow old courses new × AllFollow olds each news
 
+-- ---- shares
+
+-- the share of the worker at a place: the rounds are dealt to so many workers, and the first ones have one more where they do not come out even
+abbrev pub share_of : Option ℕ → ℕ → ℕ → Option ℕ
+share_of None many at = None
+share_of (Some all) many at = Some (all / many + one_if (ltb at (all % many)))
+
+-- no worker has served more than its share, of those of which the first has this place among so many
+abbrev pub AreWithin : Option ℕ → ℕ → ℕ → List (List Course) → Type 0
+AreWithin rounds many at [] = Unit {0}
+AreWithin rounds many at (courses ∷ each) = IfSome (share_of rounds many at) (λ share. length courses ≤ share) × AreWithin rounds many (at + 1) each
+
+-- a worker is short of its share
+abbrev pub is_short : Option ℕ → ℕ → Bool
+is_short None served = false
+is_short (Some share) served = ltb served share
+
+-- how many of them are
+abbrev pub short_in : Option ℕ → ℕ → ℕ → List (List Course) → ℕ
+short_in rounds many at [] = 0
+short_in rounds many at (courses ∷ each) = one_if (is_short (share_of rounds many at) (length courses)) + short_in rounds many (at + 1) each
+
 module _ {L : Type 0} (left given : L → Option (List ℕ)) (read_faults : L → ℕ) (written : L → Option (List ℕ)) (write_faults : L → ℕ) where
-  -- Each seat served the connections of one of these lists, and all of them are what the hall was given back since.
-  pub record AllWorked (config : Config) (olds news : List EngineSeat) (told_old told_new : Option (List L)) (tally : Tally) : Type 0 where
+  -- Each seat served the connections of one of these lists, and all of them are what the hall was given back since. None served more than
+  -- its share of the rounds, and as many at most are short of it as doors failed or closed, unless memory was wanting before they began.
+  pub record AllWorked (config : Config) (rounds : Option ℕ) (olds news : List EngineSeat) (told_old told_new : Option (List L)) (tally : Tally) : Type 0 where
     pub each : List (List Course)
     pub follow : AllFollow olds each news
     pub told : TellsCourses left given read_faults written write_faults config (all_courses each) told_old told_new
     pub connections : tally.connections ≡ count_on 0 (length (all_courses each))
     pub starved : tally.starved ≡ count_on 0 (starved_in (all_courses each))
+    pub within : AreWithin rounds (length olds) 0 each
+    pub short : tally.memory ≡ false → short_in rounds (length olds) 0 each ≤ tally.failed + tally.closed
 
 -- a count has risen by so many, if it was one of its type
 abbrev pub RisesBy : ℕ → ℕ → ℕ → Type 0
 RisesBy old new more = old ≤ 2 ^ 64 - 1 → new ≡ count_on old more
 
 -- How the workers are counted, and what the hall's numbers have risen by, where so many rounds were given. Where memory was wanting for a
--- door or for the list of the workers, none began. Fewer connections than the rounds come only of doors that failed or closed.
+-- door or for the list of the workers, none began; else fewer connections than the rounds come only of doors that failed or closed.
 pub record Tallied (rounds : Option ℕ) (workers : ℕ) (faults_old faults_new finished_old finished_new failed_old failed_new closed_old closed_new : ℕ) (tally : Tally) : Type 0 where
   pub faulty : 0 < tally.failed → HasRisen faults_old faults_new
   pub counted : faults_old ≤ 2 ^ 64 - 1 → faults_old ≤ faults_new

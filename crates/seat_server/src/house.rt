@@ -123,7 +123,7 @@ impl House {
         requires some { 1 ≤ workers }
         requires few { workers ≤ length self.old.seats }
         ensures worked { AllWorked H.Door.Line.left H.Door.Line.given H.Door.Line.Source.faults H.Door.Line.written H.Door.Line.Sink.faults
-            config.now (take workers self.old.seats) (take workers self.new.seats) (H.told hall.old) (H.told hall.new) result }
+            config.now rounds (take workers self.old.seats) (take workers self.new.seats) (H.told hall.old) (H.told hall.new) result }
         ensures others { drop workers self.new.seats ≡ drop workers self.old.seats }
         ensures desk { self.new.desk ≡ self.old.desk }
         ensures full { (many : ℕ) → IsFull many self.old → IsFull many self.new }
@@ -189,7 +189,7 @@ fn serve_by_many<H: Hall, R: Threads + Wait + Sync>(
     requires few { workers ≤ length seats.old.items }
     requires hosted { AreHosted desk.now.desk seats.old.items }
     ensures worked { AllWorked H.Door.Line.left H.Door.Line.given H.Door.Line.Source.faults H.Door.Line.written H.Door.Line.Sink.faults
-        config.now (take workers seats.old.items) (take workers seats.new.items) (H.told hall.old) (H.told hall.new) result }
+        config.now rounds (take workers seats.old.items) (take workers seats.new.items) (H.told hall.old) (H.told hall.new) result }
     ensures others { drop workers seats.new.items ≡ drop workers seats.old.items }
     ensures hosted { AreHosted desk.now.desk seats.new.items }
     ensures numbers { SameNumbers seats.old.items seats.new.items }

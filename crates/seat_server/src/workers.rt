@@ -6,8 +6,8 @@ ghost use Rattle.std.specs.List.{All, AllZip};
 ghost use Rattle.shared_port.specs.Asked.{EngineSeat};
 ghost use Rattle.shared_port.specs.SharedPort.{IsIdle};
 ghost use Rattle.outside_io.specs.Doors.{has_failed, one_if};
-ghost use Rattle.seat_server.specs.Posts.{AreHired, Begins, IsNewDoor, IsUnmoved, SomeMayClose, TakesAll, Works, count_after, no_tally, seats_of, share_of as dealt, tally_after, with_seat};
-ghost use Rattle.seat_server.specs.Workers.{AllWorked, Tallied};
+ghost use Rattle.seat_server.specs.Posts.{AreHired, Begins, IsNewDoor, IsUnmoved, SomeMayClose, TakesAll, Works, count_after, no_tally, seats_of, tally_after, with_seat};
+ghost use Rattle.seat_server.specs.Workers.{AllWorked, Tallied, share_of as dealt};
 
 use crate::tally::Tally;
 use crate::worker::{Outcome, Worker};
@@ -28,10 +28,10 @@ const MOST_WORKERS: usize = 64;
 /// Serves the connections of a hall: each seat gets a door and a worker, which accepts, serves and finishes connections one
 /// after another, beside the others. It gives the seats back in their order, and how much was done ([`Tally`]).
 ///
-/// Where rounds are given, as many connections are served, or fewer where a door has failed or closed, or where memory is wanting for
-/// the doors or the list of workers, which are made first; then no worker begins. Without rounds each worker goes on until its door
-/// has failed or closed. That workers run at once, and which of them has how many of the rounds (`rounds / W` of W workers, and one more
-/// of the first `rounds % W`), no clause says.
+/// Where rounds are given, none of W workers serves more than its share of them, `rounds / W` and one more of the first `rounds % W`, and
+/// no more of them are short of it than have a door that failed or closed. Without rounds each worker goes on until its door has failed
+/// or closed. Where memory is wanting for the doors or the list of workers, which are made first, no worker begins. That workers run at
+/// once no clause says.
 pub fn serve_workers<H: Hall, R: Threads + Wait + Sync>(
     alloc: Global,
     rt: &R,
@@ -47,9 +47,9 @@ pub fn serve_workers<H: Hall, R: Threads + Wait + Sync>(
     requires desk { All (λ s. s.desk ≡ desk.now.desk) seats.items }
     requires idle { All IsIdle seats.items }
 
-    // What each seat served, and what the hall tells of its connections.
+    // What each seat served, of its share, and what the hall tells of its connections.
     ensures worked { AllWorked H.Door.Line.left H.Door.Line.given H.Door.Line.Source.faults H.Door.Line.written H.Door.Line.Sink.faults
-        config.now seats.items result.0.items (H.told hall.old) (H.told hall.new) result.1 }
+        config.now rounds seats.items result.0.items (H.told hall.old) (H.told hall.new) result.1 }
 
     // How much was done.
     ensures tallied { Tallied rounds (length seats.items) (H.faults hall.old) (H.faults hall.new) (H.finished hall.old) (H.finished hall.new) (H.failed hall.old) (H.failed hall.new)

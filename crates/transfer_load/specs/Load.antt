@@ -35,7 +35,8 @@ pub record OnlyServes (old new : HouseState) : Type 0 where
 pub record Transferred (config : Config) (workers transfers : ℕ) (olds news : List EngineSeat) (each : List (List (List Token))) : Type 0 where
   pub tally : Tally
   pub connections : List Connection
-  pub served : AllWorked line_left line_given read_faults line_written write_faults config (take workers olds) (take workers news) (Some []) (Some connections) tally
+  pub served : AllWorked line_left line_given read_faults line_written write_faults config (Some workers) (take workers olds) (take workers news) (Some []) (Some connections) tally
+  pub one : AllByRecursion (λ courses. length courses ≡ 1) served.each
   pub closed : AllByRecursion (λ course. course.end ≡ Closed) (all_courses served.each)
   pub others : drop workers news ≡ drop workers olds
   pub many : length connections ≡ workers

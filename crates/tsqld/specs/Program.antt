@@ -104,7 +104,7 @@ module _ {D L : Type 0} (may_close : D → Bool) (left given : L → Option (Lis
   -- printed how many connections that were. Doors closed only where there is one that may.
   pub record HallServed (config : Config) (workers : ℕ) (rounds : Option ℕ) (told_old told_new : Option (List L)) (before after : HallNumbers) (sink_before sink_after : Option (List ℕ)) (olds news : List EngineSeat) (status : ℕ) : Type 0 where
     pub tally : Tally
-    pub worked : AllWorked left given read_faults written write_faults config (take workers olds) (take workers news) told_old told_new tally
+    pub worked : AllWorked left given read_faults written write_faults config rounds (take workers olds) (take workers news) told_old told_new tally
     pub others : drop workers news ≡ drop workers olds
     pub tallied : Tallied rounds workers before.faults after.faults before.finished after.finished before.failed after.failed before.closed after.closed tally
     pub closes : 0 < tally.closed → (door : D) × IsTrue (may_close door)

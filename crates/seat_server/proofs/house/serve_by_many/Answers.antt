@@ -11,7 +11,7 @@ returns-in_default-clause-worked g c =
     let H = g.H.Hall in
     let I = g.H.Door.Line.Source in
     let O = g.H.Door.Line.Sink in
-    none_worked I.left I.given I.faults O.written O.faults c.args.config.now (take c.args.workers c.args.seats.now.items) (H.told c.args.hall.now) (H.told c.args.hall.now) c.without_memory.result (stays_self (H.told c.args.hall.now)) c.without_memory.ensures
+    none_worked I.left I.given I.faults O.written O.faults c.args.config.now c.args.rounds (take c.args.workers c.args.seats.now.items) (H.told c.args.hall.now) (H.told c.args.hall.now) c.without_memory.result (stays_self (H.told c.args.hall.now)) c.without_memory.ensures
 
 pub serve_workers-first-requires-clause-idle : goal.serve_workers-first-requires-clause-idle
 serve_workers-first-requires-clause-idle g c κs within =
@@ -48,8 +48,8 @@ returns-clause-worked g c =
     let long = all_long firsts served.result.0.items worked.each worked.follow ∙ aside.long in
     let told_old = H.told c.args.hall.now in
     let told_new = H.told served.new.hall in
-    subst (λ (l : List EngineSeat). AllWorked I.left I.given I.faults O.written O.faults c.args.config.now l (take c.args.workers c.stand_back.new.seats.items) told_old told_new served.result.1) firsts_are
-    (subst (λ (l : List EngineSeat). AllWorked I.left I.given I.faults O.written O.faults c.args.config.now firsts l told_old told_new served.result.1) (sym (take_these served.result.0.items others c.stand_back.new.seats.items c.args.workers long aside.back)) worked)
+    subst (λ (l : List EngineSeat). AllWorked I.left I.given I.faults O.written O.faults c.args.config.now c.args.rounds l (take c.args.workers c.stand_back.new.seats.items) told_old told_new served.result.1) firsts_are
+    (subst (λ (l : List EngineSeat). AllWorked I.left I.given I.faults O.written O.faults c.args.config.now c.args.rounds firsts l told_old told_new served.result.1) (sym (take_these served.result.0.items others c.stand_back.new.seats.items c.args.workers long aside.back)) worked)
 
 pub returns-clause-others : goal.returns-clause-others
 returns-clause-others g c =

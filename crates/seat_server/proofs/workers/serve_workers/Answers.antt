@@ -13,7 +13,7 @@ returns-in_default-clause-worked g c =
     let H = g.H.Hall in
     let I = g.H.Door.Line.Source in
     let O = g.H.Door.Line.Sink in
-    none_worked I.left I.given I.faults O.written O.faults c.args.config.now c.args.seats.items (H.told c.args.hall.now) (H.told c.open_doors.new.hall) c.without_memory.result c.open_doors.ensures.unmoved.told_same c.without_memory.ensures
+    none_worked I.left I.given I.faults O.written O.faults c.args.config.now c.args.rounds c.args.seats.items (H.told c.args.hall.now) (H.told c.open_doors.new.hall) c.without_memory.result c.open_doors.ensures.unmoved.told_same c.without_memory.ensures
 
 pub returns-in_default-with_capacity-clause-worked : goal.returns-in_default-with_capacity-clause-worked
 returns-in_default-with_capacity-clause-worked g c =
@@ -22,7 +22,7 @@ returns-in_default-with_capacity-clause-worked g c =
     let I = g.H.Door.Line.Source in
     let O = g.H.Door.Line.Sink in
     let unmoved = unmoved_more D.faults D.is_out D.has_closed D.finished D.told H.faults H.finished H.failed H.closed H.told c.args.hall.now c.open_doors.new.hall c.shut_doors.new.hall c.open_doors.ensures.unmoved c.shut_doors.ensures in
-    none_worked I.left I.given I.faults O.written O.faults c.args.config.now c.args.seats.items (H.told c.args.hall.now) (H.told c.shut_doors.new.hall) c.without_memory-in_default-with_capacity.result unmoved.told_same c.without_memory-in_default-with_capacity.ensures
+    none_worked I.left I.given I.faults O.written O.faults c.args.config.now c.args.rounds c.args.seats.items (H.told c.args.hall.now) (H.told c.shut_doors.new.hall) c.without_memory-in_default-with_capacity.result unmoved.told_same c.without_memory-in_default-with_capacity.ensures
 
 -- ---- where they served
 
@@ -65,7 +65,7 @@ returns-clause-worked g c =
     all_worked D.faults D.is_out D.has_closed I.left I.given I.faults O.written O.faults D.finished D.told c.args.config.now c.args.desk.now.desk (SomeMayClose D.may_close) c.args.rounds seats given.new.seats.items (reverse workers) given.result
     (all_done D.faults D.is_out D.has_closed I.left I.given I.faults O.written O.faults D.finished D.told c.args.config.now c.args.desk.now.desk (SomeMayClose D.may_close) c.args.rounds (length seats)
     seats c.hire.new.workers.items workers c.hire.ensures.hired c.serve_at_once.ensures)
-    given.ensures.tally (H.told c.args.hall.now) (H.told c.open_doors.new.hall) (H.told given.new.hall) c.open_doors.ensures.unmoved.told_same given.ensures.told
+    given.ensures.tally (H.told c.args.hall.now) (H.told c.open_doors.new.hall) (H.told given.new.hall) c.requires.few c.open_doors.ensures.unmoved.told_same given.ensures.told
     (given.ensures.seats ∙ ap (λ (l : List EngineSeat). l ++ seats_of (reverse workers)) c.hire.ensures.left)
 
 pub returns-clause-tallied : goal.returns-clause-tallied

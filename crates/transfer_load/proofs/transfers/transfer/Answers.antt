@@ -23,7 +23,8 @@ returns-in_ok-counts-in-Some-clause-transferred g c =
     let done : AreDone c.args.transfers 0 c.in-Some.connections.items counted.0 = subst (λ (s : List Connection). AreDone c.args.transfers 0 s counted.0) c.deref.ensures.value counted.1 in
     let plenty : c.serve_hall-tally.result.starved ≡ 0 = omega (arith, c.if-tally-gt0.false) in (
       counted.0,
-      transferred_all c.args.config.now c.args.workers c.args.transfers c.args.house.now.seats c.serve_hall-tally.new.self.seats c.serve_hall-tally.result _ _ c.in-Some.connections.items counted.0 c.requires.bare c.requires.transfers
+      transferred_all c.args.config.now c.args.workers c.args.transfers c.args.house.now.seats c.serve_hall-tally.new.self.seats c.serve_hall-tally.result _ _ c.in-Some.connections.items counted.0 c.requires.bare
+          (omega (arith, c.requires.workers.0)) (omega (arith, c.requires.workers.1, c.requires.full.all)) c.requires.transfers
           c.serve_hall-tally.ensures.worked (ap (λ s. s.told) c.new-hall.ensures) (sym c.into_connections.ensures ∙ ap (option_map vec_items) c.in-Some.is) plenty c.serve_hall-tally.ensures.others many done,
       counted.2,
       counted.3,
