@@ -161,6 +161,7 @@ module _ {D : Type 0} (faults : D → ℕ) (is_out has_closed : D → Bool) {L :
     pub hall_finished : (count : ℕ) → count ≤ 2 ^ 64 - 1 → count_after finished count workers ≡ count_on count (length (all_courses each))
     pub hall_failed : (count : ℕ) → count ≤ 2 ^ 64 - 1 → count_after (λ door. one_if (has_failed (faults door))) count workers ≡ count_on count (failed_in workers)
     pub hall_closed : (count : ℕ) → count ≤ 2 ^ 64 - 1 → count_after (λ door. one_if (has_closed door)) count workers ≡ count_on count (closed_in workers)
+    pub hall_back : (count : ℕ) → count ≤ 2 ^ 64 - 1 → count_after (λ door. 1) count workers ≡ count_on count (length workers)
     pub tells : (before after : Option (List L)) → TakesAll told before workers after → TellsCourses left given read_faults written write_faults config (all_courses each) before after
     pub few : failed_in workers + closed_in workers ≤ length workers
     pub shares : SharesSo rounds many at (length workers) (length (all_courses each)) (failed_in workers) (closed_in workers)
@@ -183,6 +184,7 @@ module _ {D : Type 0} (faults : D → ℕ) (is_out has_closed : D → Bool) {L :
     hall_finished = λ count bound. sym (count_none count bound);
     hall_failed = λ count bound. sym (count_none count bound);
     hall_closed = λ count bound. sym (count_none count bound);
+    hall_back = λ count bound. sym (count_none count bound);
     tells = λ before after takes. subst (TellsCourses left given read_faults written write_faults config [] before) (sym takes) (tells_none left given read_faults written write_faults config before);
     few = omega arith;
     shares = shares_none rounds many at;
@@ -244,6 +246,7 @@ module _ {D : Type 0} (faults : D → ℕ) (is_out has_closed : D → Bool) {L :
             ∙ (ap (λ n. count_on (count_on count n) (failed_in workers)) failed_so ∙ count_twice count (one_if (is_failed worker.outcome)) (failed_in workers));
         hall_closed = λ count bound. rest.hall_closed (count_on count (one_if (has_closed worker.door))) (omega arith)
             ∙ (ap (λ n. count_on (count_on count n) (closed_in workers)) closed_so ∙ count_twice count (one_if (is_closed worker.outcome)) (closed_in workers));
+        hall_back = λ count bound. rest.hall_back (count_on count 1) (omega arith) ∙ (count_twice count 1 (length workers) ∙ ap (count_on count) (let next : 1 + length workers ≡ length (worker ∷ workers) = omega arith in next));
         tells = λ before after takes. tells_append left given read_faults written write_faults config works.courses (all_courses rest.each) before takes.0 after
             (takes_over works.courses (told worker.door) (told hired.door) before takes.0 new.door.nothing worked.tells takes.1)
             (rest.tells takes.0 after takes.2);

@@ -13,7 +13,7 @@ use Rattle.seat_server.specs.declared.worker.Outcome.TheVariants.{Going}
 use Rattle.seat_server.specs.declared.worker.Worker.{Worker}
 use Rattle.seat_server.specs.Posts.{AreHired, Begins, IsNewDoor, IsUnmoved, StaysTold, TakesAll, count_after, counted, is_closed, is_failed, no_tally, seats_of, tally_after, with_seat}
 use Rattle.seat_server.specs.Workers.{RisesBy, share_of}
-use Rattle.seat_server.proofs.Courses.{count_none}
+use Rattle.seat_server.proofs.Courses.{count_none, count_twice}
 
 -- the last is the first behind
 last_first : {A : Type 0} (front : List A) (last : A) (behind : List A) → reverse_aux (front ++ last ∷ []) behind ≡ last ∷ reverse_aux front behind
@@ -154,6 +154,40 @@ module _ {D C H : Type 0} (faults : D → ℕ) (is_out has_closed : D → Bool) 
     closed_same = λ bound. closed_is ∙ ap (λ b. count_on (hall_closed old) (one_if b)) fresh.open_yet;
     told_same = takes_nothing (hall_told old) (told door) (hall_told new) fresh.nothing takes;
   }
+
+-- ---- how many doors came back
+
+-- of so many doors these are left, and the others came back
+pub record SomeBack (old new all left : ℕ) : Type 0 where
+  pub came : ℕ
+  pub rises : RisesBy old new came
+  pub rest : came + left ≡ all
+
+-- a count that stands, and one that goes on
+pub rises_self : (count : ℕ) → RisesBy count count 0
+rises_self count = λ bound. sym (count_none count bound)
+
+pub rises_next : (old mid new n m : ℕ) → RisesBy old mid n → new ≡ count_on mid 1 → m ≡ n + 1 → RisesBy old new m
+rises_next old mid new n m rises is next = λ bound. is ∙ (ap (λ k. count_on k 1) (rises bound) ∙ (count_twice old n 1 ∙ ap (count_on old) (sym next)))
+
+pub none_back : (count all : ℕ) → SomeBack count count all all
+none_back count all = record { came = 0; rises = rises_self count; rest = omega arith }
+
+pub one_back : (old mid new all left fewer : ℕ) → SomeBack old mid all left → new ≡ count_on mid 1 → left ≡ fewer + 1 → SomeBack old new all fewer
+one_back old mid new all left fewer some is next = record { came = some.came + 1; rises = rises_next old mid new some.came (some.came + 1) some.rises is refl; rest = omega (arith, some.rest, next) }
+
+pub all_back : (old new all left : ℕ) → SomeBack old new all left → left ≡ 0 → RisesBy old new all
+all_back old new all left some none = let same : some.came ≡ all = omega (arith, some.rest, none) in subst (λ (n : ℕ). RisesBy old new n) same some.rises
+
+-- and one that began where another stood
+pub rises_from : (old mid new many n : ℕ) → mid ≡ old → RisesBy mid new many → many ≡ n → RisesBy old new n
+rises_from old mid new many n same rises is = subst (λ (k : ℕ). RisesBy old new k) is (subst (λ (k : ℕ). RisesBy k new many) same rises)
+
+-- a count of a hall behind a worker more
+pub after_one : {D : Type 0} (at : D → ℕ) (before left : List (Worker D)) (worker : Worker D) (mid new all : ℕ) → before ≡ left ++ worker ∷ [] → new ≡ count_on mid (at worker.door) → count_after at mid (reverse before) ≡ all → count_after at new (reverse left) ≡ all
+after_one at before left worker mid new all popped is rest =
+    let turned : reverse before ≡ worker ∷ reverse left = ap reverse popped ∙ reverse_last left worker in
+    ap (λ n. count_after at n (reverse left)) is ∙ (ap (count_after at mid) (sym turned) ∙ rest)
 
 -- ---- workers that are hired
 

@@ -8,8 +8,8 @@ use Rattle.shared_port.specs.Asked.{EngineSeat}
 use Rattle.seat_server.specs.declared.tally.Tally.{Tally}
 use Rattle.seat_server.specs.declared.worker.Worker.{Worker}
 use Rattle.seat_server.specs.Served.{Course}
-use Rattle.seat_server.specs.Workers.{AllFollow, AllWorked, AreWithin, RisesBy, Tallied, TellsCourses, all_courses, share_of, starved_in}
-use Rattle.seat_server.specs.Posts.{StaysTold, TakesAll, count_after, no_tally, seats_of, tally_after}
+use Rattle.seat_server.specs.Workers.{AllFollow, AllWorked, AreWithin, HallNumbers, RisesBy, Tallied, TellsCourses, all_courses, share_of, starved_in}
+use Rattle.seat_server.specs.Posts.{AreBack, StaysTold, TakesAll, count_after, no_tally, seats_of, tally_after}
 use Rattle.seat_server.proofs.Courses.{count_fresh, count_none, none_some, tells_none}
 use Rattle.seat_server.proofs.Dismissed.{Dismissal, SharesSo, closed_in, failed_in}
 use Rattle.seat_server.proofs.Shares.{all_dealt}
@@ -56,16 +56,20 @@ module _ {L : Type 0} (left given : L → Option (List ℕ)) (read_faults : L �
     short = λ plenty. absurd (let differ : true ≡ false = sym (ap (λ (t : Tally). t.memory) is) ∙ plenty in cc);
   }
 
-pub none_tallied : (rounds : Option ℕ) (workers : ℕ) (faults_old faults_new finished_old finished_new failed_old failed_new closed_old closed_new : ℕ) (tally : Tally) → RisesBy faults_old faults_new 0 → RisesBy finished_old finished_new 0 → RisesBy failed_old failed_new 0 → RisesBy closed_old closed_new 0 → tally ≡ no_memory
-    → Tallied rounds workers faults_old faults_new finished_old finished_new failed_old failed_new closed_old closed_new tally
-none_tallied rounds workers faults_old faults_new finished_old finished_new failed_old failed_new closed_old closed_new tally faults finished failed closed is =
-    subst (Tallied rounds workers faults_old faults_new finished_old finished_new failed_old failed_new closed_old closed_new) (sym is) (record {
+pub none_tallied : (rounds : Option ℕ) (workers : ℕ) (before after : HallNumbers) (tally : Tally) → RisesBy before.faults after.faults 0 → RisesBy before.finished after.finished 0 → RisesBy before.failed after.failed 0
+    → RisesBy before.closed after.closed 0 → AreBack before.made after.made before.back after.back → tally ≡ no_memory → Tallied rounds workers before after tally
+none_tallied rounds workers before after tally faults finished failed closed doors is =
+    subst (Tallied rounds workers before after) (sym is) (record {
       faulty = λ some. absurd (let no : ⊥ = omega (arith, some) in no);
       counted = λ bound. omega (arith, bound, faults bound);
-      faultless = λ bound none. faults bound ∙ count_none faults_old bound;
+      faultless = λ bound none. faults bound ∙ count_none before.faults bound;
       finished = finished;
       failed = failed;
       closed = closed;
+      doors = doors.0;
+      made = doors.1;
+      back = doors.2;
+      each = λ plenty. absurd (let differ : true ≡ false = plenty in cc);
       bounded = zero_bounded rounds;
       none = λ wanting. (refl, refl, refl, refl);
       least = λ no. absurd (let differ : true ≡ false = no in cc);
@@ -122,23 +126,28 @@ module _ {D : Type 0} (faults : D → ℕ) (is_out has_closed : D → Bool) {L :
   pub all_closes : length olds ≤ 64 → 0 < tally.closed → closing
   all_closes few some = done.closes (omega (arith, some, closed_are few))
 
-  pub all_tallied : (faults_old faults_new finished_old finished_mid finished_new failed_old failed_mid failed_new closed_old closed_mid closed_new : ℕ) → length olds ≤ 64 → 0 < length olds → IfSome rounds (λ all. all < 2 ^ 32)
-      → RisesBy finished_old finished_mid 0 → RisesBy failed_old failed_mid 0 → RisesBy closed_old closed_mid 0
-      → faults_new ≡ count_after faults faults_old workers → finished_new ≡ count_after finished finished_mid workers → failed_new ≡ count_after (λ door. one_if (has_failed (faults door))) failed_mid workers → closed_new ≡ count_after (λ door. one_if (has_closed door)) closed_mid workers
-      → Tallied rounds (length olds) faults_old faults_new finished_old finished_new failed_old failed_new closed_old closed_new tally
-  all_tallied faults_old faults_new finished_old finished_mid finished_new failed_old failed_mid failed_new closed_old closed_mid closed_new few some range finished_stays failed_stays closed_stays faults_is finished_is failed_is closed_is = record {
-    faulty = λ some. subst (HasRisen faults_old) (sym faults_is) ((done.hall_faults faults_old).0 (omega (arith, some, failed_are few)));
-    counted = λ bound. omega (arith, bound, faults_is, (done.hall_faults faults_old).1);
-    faultless = λ bound none. faults_is ∙ (done.hall_faults faults_old).2 bound (sym (failed_are few) ∙ none);
+  pub all_tallied : (before mid after : HallNumbers) → length olds ≤ 64 → 0 < length olds → IfSome rounds (λ all. all < 2 ^ 32)
+      → RisesBy before.finished mid.finished 0 → RisesBy before.failed mid.failed 0 → RisesBy before.closed mid.closed 0 → RisesBy before.made mid.made (length olds) → mid.back ≡ before.back
+      → after.faults ≡ count_after faults before.faults workers → after.finished ≡ count_after finished mid.finished workers → after.failed ≡ count_after (λ door. one_if (has_failed (faults door))) mid.failed workers
+      → after.closed ≡ count_after (λ door. one_if (has_closed door)) mid.closed workers → after.made ≡ mid.made → after.back ≡ count_after (λ door. 1) mid.back workers → Tallied rounds (length olds) before after tally
+  all_tallied before mid after few some range finished_stays failed_stays closed_stays made_rises back_stays faults_is finished_is failed_is closed_is made_is back_is = record {
+    faulty = λ some. subst (HasRisen before.faults) (sym faults_is) ((done.hall_faults before.faults).0 (omega (arith, some, failed_are few)));
+    counted = λ bound. omega (arith, bound, faults_is, (done.hall_faults before.faults).1);
+    faultless = λ bound none. faults_is ∙ (done.hall_faults before.faults).2 bound (sym (failed_are few) ∙ none);
     finished = λ bound.
-        let same : finished_mid ≡ finished_old = finished_stays bound ∙ count_none finished_old bound in
-        finished_is ∙ (ap (λ n. count_after finished n workers) same ∙ (done.hall_finished finished_old bound ∙ (sym (count_fresh finished_old served) ∙ ap (count_on finished_old) (sym connections_are))));
+        let same : mid.finished ≡ before.finished = finished_stays bound ∙ count_none before.finished bound in
+        finished_is ∙ (ap (λ n. count_after finished n workers) same ∙ (done.hall_finished before.finished bound ∙ (sym (count_fresh before.finished served) ∙ ap (count_on before.finished) (sym connections_are))));
     failed = λ bound.
-        let same : failed_mid ≡ failed_old = failed_stays bound ∙ count_none failed_old bound in
-        failed_is ∙ (ap (λ n. count_after (λ door. one_if (has_failed (faults door))) n workers) same ∙ (done.hall_failed failed_old bound ∙ ap (count_on failed_old) (sym (failed_are few))));
+        let same : mid.failed ≡ before.failed = failed_stays bound ∙ count_none before.failed bound in
+        failed_is ∙ (ap (λ n. count_after (λ door. one_if (has_failed (faults door))) n workers) same ∙ (done.hall_failed before.failed bound ∙ ap (count_on before.failed) (sym (failed_are few))));
     closed = λ bound.
-        let same : closed_mid ≡ closed_old = closed_stays bound ∙ count_none closed_old bound in
-        closed_is ∙ (ap (λ n. count_after (λ door. one_if (has_closed door)) n workers) same ∙ (done.hall_closed closed_old bound ∙ ap (count_on closed_old) (sym (closed_are few))));
+        let same : mid.closed ≡ before.closed = closed_stays bound ∙ count_none before.closed bound in
+        closed_is ∙ (ap (λ n. count_after (λ door. one_if (has_closed door)) n workers) same ∙ (done.hall_closed before.closed bound ∙ ap (count_on before.closed) (sym (closed_are few))));
+    doors = length olds;
+    made = λ bound. made_is ∙ made_rises bound;
+    back = λ bound.
+        back_is ∙ (ap (λ n. count_after (λ door. 1) n workers) back_stays ∙ (done.hall_back before.back bound ∙ ap (count_on before.back) done.as_many));
+    each = λ plenty. refl;
     bounded = bounded_by rounds (length olds) served (failed_in workers) (closed_in workers) tally.connections some shares connections_are;
     none = λ wanting. absurd (let differ : true ≡ false = sym wanting ∙ (ap (λ (t : Tally). t.memory) is ∙ done.memory no_tally) in cc);
     least = λ memory. subst (λ ended. IfSome rounds (λ all. all / length olds * (length olds - ended) ≤ tally.connections)) (ap (λ n. n + closed_in workers) (sym (failed_are few)) ∙ ap (λ n. tally.failed + n) (sym (closed_are few)))

@@ -188,13 +188,17 @@ TakesAll {D} {C} told old (worker ∷ workers) new = (mid : Option (List C)) × 
 
 -- ---- a hall at which no connection came in
 
+-- as many doors came back as were made, by a hall's counts of both
+abbrev pub AreBack : ℕ → ℕ → ℕ → ℕ → Type 0
+AreBack made_old made_new back_old back_new = (many : ℕ) × RisesBy made_old made_new many × RisesBy back_old back_new many
+
 -- a list that is told is the one before
 abbrev pub StaysTold : {C : Type 0} → Option (List C) → Option (List C) → Type 0
 StaysTold before None = Unit {0}
 StaysTold before (Some after) = before ≡ Some after
 
 module _ {H C : Type 0} (faults finished failed closed : H → ℕ) (told : H → Option (List C)) where
-  -- its numbers and its list stay, whatever doors were made and came back
+  -- what it counts of connections and its list stay, whatever doors were made and came back
   pub record IsUnmoved (old new : H) : Type 0 where
     pub faults_same : RisesBy (faults old) (faults new) 0
     pub finished_same : RisesBy (finished old) (finished new) 0

@@ -104,15 +104,34 @@ module _ {L : Type 0} (left given : L → Option (List ℕ)) (read_faults : L �
 abbrev pub RisesBy : ℕ → ℕ → ℕ → Type 0
 RisesBy old new more = old ≤ 2 ^ 64 - 1 → new ≡ count_on old more
 
+-- the numbers of a hall: its faults, its finished connections, and its doors: those that failed, that closed, that it has made, and that
+-- came back
+pub record HallNumbers : Type 0 where
+  pub faults : ℕ
+  pub finished : ℕ
+  pub failed : ℕ
+  pub closed : ℕ
+  pub made : ℕ
+  pub back : ℕ
+
+abbrev pub numbers_of : {H : Type 0} → (H → ℕ) → (H → ℕ) → (H → ℕ) → (H → ℕ) → (H → ℕ) → (H → ℕ) → H → HallNumbers
+numbers_of faults finished failed closed made back hall =
+    record { faults = faults hall; finished = finished hall; failed = failed hall; closed = closed hall; made = made hall; back = back hall }
+
 -- How the workers are counted, and what the hall's numbers have risen by, where so many rounds were given. Where memory was wanting for a
--- door or for the list of the workers, none began; else fewer connections than the rounds come only of doors that failed or closed.
-pub record Tallied (rounds : Option ℕ) (workers : ℕ) (faults_old faults_new finished_old finished_new failed_old failed_new closed_old closed_new : ℕ) (tally : Tally) : Type 0 where
-  pub faulty : 0 < tally.failed → HasRisen faults_old faults_new
-  pub counted : faults_old ≤ 2 ^ 64 - 1 → faults_old ≤ faults_new
-  pub faultless : faults_old ≤ 2 ^ 64 - 1 → tally.failed ≡ 0 → faults_new ≡ faults_old
-  pub finished : RisesBy finished_old finished_new tally.connections
-  pub failed : RisesBy failed_old failed_new tally.failed
-  pub closed : RisesBy closed_old closed_new tally.closed
+-- door or for the list of the workers, none began; else a door was made for each worker, and fewer connections than the rounds come only
+-- of doors that failed or closed. All doors that were made came back.
+pub record Tallied (rounds : Option ℕ) (workers : ℕ) (before after : HallNumbers) (tally : Tally) : Type 0 where
+  pub faulty : 0 < tally.failed → HasRisen before.faults after.faults
+  pub counted : before.faults ≤ 2 ^ 64 - 1 → before.faults ≤ after.faults
+  pub faultless : before.faults ≤ 2 ^ 64 - 1 → tally.failed ≡ 0 → after.faults ≡ before.faults
+  pub finished : RisesBy before.finished after.finished tally.connections
+  pub failed : RisesBy before.failed after.failed tally.failed
+  pub closed : RisesBy before.closed after.closed tally.closed
+  pub doors : ℕ
+  pub made : RisesBy before.made after.made doors
+  pub back : RisesBy before.back after.back doors
+  pub each : tally.memory ≡ false → doors ≡ workers
   pub bounded : IfSome rounds (λ all. tally.connections ≤ all)
   pub none : tally.memory ≡ true → (tally.connections ≡ 0) × (tally.starved ≡ 0) × (tally.failed ≡ 0) × (tally.closed ≡ 0)
   pub least : tally.memory ≡ false → IfSome rounds (λ all. all / workers * (workers - (tally.failed + tally.closed)) ≤ tally.connections)

@@ -9,7 +9,7 @@ ghost use Rattle.connection_laws.specs.Laws.{Intact, Sound};
 ghost use Rattle.outside_io.specs.Bytes.{Takes};
 ghost use Rattle.session_server.specs.Conversation.{Completes, CountsFault};
 ghost use Rattle.seat_server.specs.Served.{ServedConnection};
-ghost use Rattle.seat_server.specs.Workers.{AllWorked, Tallied};
+ghost use Rattle.seat_server.specs.Workers.{AllWorked, Tallied, numbers_of};
 ghost use Rattle.seat_server.specs.House.{AreHosted, IsFull, KnowsSeat, SameNumbers, ServesFirst};
 
 use crate::connection::serve_connection;
@@ -127,8 +127,8 @@ impl House {
         ensures others { drop workers self.new.seats ≡ drop workers self.old.seats }
         ensures desk { self.new.desk ≡ self.old.desk }
         ensures full { (many : ℕ) → IsFull many self.old → IsFull many self.new }
-        ensures tallied { Tallied rounds workers (H.faults hall.old) (H.faults hall.new) (H.finished hall.old) (H.finished hall.new) (H.failed hall.old) (H.failed hall.new)
-            (H.closed hall.old) (H.closed hall.new) result }
+        ensures tallied { Tallied rounds workers (numbers_of H.faults H.finished H.failed H.closed H.made H.back hall.old)
+            (numbers_of H.faults H.finished H.failed H.closed H.made H.back hall.new) result }
         ensures may_close { 0 < result.closed → (door : H.Door) × IsTrue (H.Door.may_close door) }
     {
         serve_by_many(
@@ -193,8 +193,8 @@ fn serve_by_many<H: Hall, R: Threads + Wait + Sync>(
     ensures others { drop workers seats.new.items ≡ drop workers seats.old.items }
     ensures hosted { AreHosted desk.now.desk seats.new.items }
     ensures numbers { SameNumbers seats.old.items seats.new.items }
-    ensures tallied { Tallied rounds workers (H.faults hall.old) (H.faults hall.new) (H.finished hall.old) (H.finished hall.new) (H.failed hall.old) (H.failed hall.new)
-        (H.closed hall.old) (H.closed hall.new) result }
+    ensures tallied { Tallied rounds workers (numbers_of H.faults H.finished H.failed H.closed H.made H.back hall.old)
+        (numbers_of H.faults H.finished H.failed H.closed H.made H.back hall.new) result }
     ensures may_close { 0 < result.closed → (door : H.Door) × IsTrue (H.Door.may_close door) }
 {
     let Ok(mut others) = Vec::with_capacity(alloc, seats.len() - workers as usize) else {

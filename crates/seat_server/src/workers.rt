@@ -1,13 +1,12 @@
 //! All workers of a hall, each on a thread.
 
-ghost use Rattle.std.specs.Prelude.{◌≡◌, ℕ, ◌+◌, ◌^◌, ◌<◌, ◌≤◌, false, [], ◌++◌, length, reverse, IfOk, IfSome, IsTrue};
+ghost use Rattle.std.specs.Prelude.{◌≡◌, ◌+◌, ◌^◌, ◌<◌, ◌≤◌, false, [], ◌++◌, length, reverse, IfOk, IfSome, IsTrue, OnErr};
 ghost use Rattle.std.specs.Vec.{vec_capacity};
 ghost use Rattle.std.specs.List.{All, AllZip};
-ghost use Rattle.shared_port.specs.Asked.{EngineSeat};
 ghost use Rattle.shared_port.specs.SharedPort.{IsIdle};
 ghost use Rattle.outside_io.specs.Doors.{has_failed, one_if};
-ghost use Rattle.seat_server.specs.Posts.{AreHired, Begins, IsNewDoor, IsUnmoved, SomeMayClose, TakesAll, Works, count_after, no_tally, seats_of, tally_after, with_seat};
-ghost use Rattle.seat_server.specs.Workers.{AllWorked, Tallied, share_of as dealt};
+ghost use Rattle.seat_server.specs.Posts.{AreBack, AreHired, Begins, IsNewDoor, IsUnmoved, SomeMayClose, TakesAll, Works, count_after, no_tally, seats_of, tally_after, with_seat};
+ghost use Rattle.seat_server.specs.Workers.{AllWorked, RisesBy, Tallied, numbers_of, share_of as dealt};
 
 use crate::tally::Tally;
 use crate::worker::{Outcome, Worker};
@@ -52,8 +51,8 @@ pub fn serve_workers<H: Hall, R: Threads + Wait + Sync>(
         config.now rounds seats.items result.0.items (H.told hall.old) (H.told hall.new) result.1 }
 
     // How much was done.
-    ensures tallied { Tallied rounds (length seats.items) (H.faults hall.old) (H.faults hall.new) (H.finished hall.old) (H.finished hall.new) (H.failed hall.old) (H.failed hall.new)
-        (H.closed hall.old) (H.closed hall.new) result.1 }
+    ensures tallied { Tallied rounds (length seats.items) (numbers_of H.faults H.finished H.failed H.closed H.made H.back hall.old)
+        (numbers_of H.faults H.finished H.failed H.closed H.made H.back hall.new) result.1 }
 
     // Doors are counted as closed only where there is one that may close.
     ensures may_close { 0 < result.1.closed → (door : H.Door) × IsTrue (H.Door.may_close door) }
@@ -79,6 +78,9 @@ fn open_doors<H: Hall>(alloc: Global, hall: &mut H, many: usize) -> Result<Vec<H
     ensures new { IfOk result (λ doors. All (IsNewDoor H.Door.faults H.Door.is_out H.Door.has_closed H.Door.finished H.Door.told) doors.items) }
     ensures unmoved { IsUnmoved H.faults H.finished H.failed H.closed H.told hall.old hall.new }
     ensures faults { IfOk result (λ _. H.faults hall.new ≡ H.faults hall.old) }
+    ensures made { IfOk result (λ _. RisesBy (H.made hall.old) (H.made hall.new) many) }
+    ensures away { IfOk result (λ _. H.back hall.new ≡ H.back hall.old) }
+    ensures none { OnErr result (AreBack (H.made hall.old) (H.made hall.new) (H.back hall.old) (H.back hall.new)) }
 {
     let mut doors = Vec::with_capacity(alloc, many)?;
     for _made in 0..many {
@@ -96,7 +98,9 @@ fn open_doors<H: Hall>(alloc: Global, hall: &mut H, many: usize) -> Result<Vec<H
 /// Gives doors back at which no connection came in.
 fn shut_doors<H: Hall>(hall: &mut H, mut doors: Vec<H::Door>)
     requires new { All (IsNewDoor H.Door.faults H.Door.is_out H.Door.has_closed H.Door.finished H.Door.told) doors.items }
-    ensures { IsUnmoved H.faults H.finished H.failed H.closed H.told hall.old hall.new }
+    ensures unmoved { IsUnmoved H.faults H.finished H.failed H.closed H.told hall.old hall.new }
+    ensures made { H.made hall.new ≡ H.made hall.old }
+    ensures back { RisesBy (H.back hall.old) (H.back hall.new) (length doors.items) }
 {
     while let Some(door) = doors.pop() {
         hall.rejoin(door);
@@ -184,6 +188,8 @@ fn dismiss<H: Hall>(
     ensures finished { H.finished hall.new ≡ count_after H.Door.finished (H.finished hall.old) (reverse workers.items) }
     ensures failed { H.failed hall.new ≡ count_after (λ door. one_if (has_failed (H.Door.faults door))) (H.failed hall.old) (reverse workers.items) }
     ensures closed { H.closed hall.new ≡ count_after (λ door. one_if (H.Door.has_closed door)) (H.closed hall.old) (reverse workers.items) }
+    ensures made { H.made hall.new ≡ H.made hall.old }
+    ensures back { H.back hall.new ≡ count_after (λ door. 1) (H.back hall.old) (reverse workers.items) }
     ensures told { TakesAll H.Door.told (H.told hall.old) (reverse workers.items) (H.told hall.new) }
 {
     let mut tally = Tally::default();

@@ -172,6 +172,8 @@ pub struct GatedHall<'a> {
     floor: &'a Floor,
     finished: u64,
     closed: u64,
+    made: u64,
+    back: u64,
 }
 
 impl<'a> GatedHall<'a> {
@@ -181,6 +183,8 @@ impl<'a> GatedHall<'a> {
             floor,
             finished: 0,
             closed: 0,
+            made: 0,
+            back: 0,
         }
     }
 }
@@ -196,6 +200,10 @@ impl<'a> Hall for GatedHall<'a> {
 
     ghost closed = { λ h. h.closed };
 
+    ghost made = { λ h. h.made };
+
+    ghost back = { λ h. h.back };
+
     ghost told = { λ h. None };
 
     fn begin(&mut self, _port: u16) -> Result<(), Failed> {
@@ -203,6 +211,7 @@ impl<'a> Hall for GatedHall<'a> {
     }
 
     fn door(&mut self) -> Result<GatedDoor<'a>, Memory> {
+        self.made = self.made.saturating_add(1);
         Ok(GatedDoor {
             floor: self.floor,
             is_out: false,
@@ -214,5 +223,6 @@ impl<'a> Hall for GatedHall<'a> {
     fn rejoin(&mut self, door: GatedDoor<'a>) {
         self.finished = self.finished.saturating_add(door.finished);
         self.closed = self.closed.saturating_add(u64::from(door.has_closed));
+        self.back = self.back.saturating_add(1);
     }
 }

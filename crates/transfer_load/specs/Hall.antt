@@ -18,8 +18,11 @@ abbrev pub connections_of : {C : Type 0} → Option C → List C
 connections_of None = []
 connections_of (Some connection) = connection ∷ []
 
--- the connections that came back, where they are told; how many, and how many doors have answered that none will come any more
+-- the connections that came back, where they are told; how many; how many doors have answered that none will come any more, how many were
+-- made, and how many came back
 pub record HallState : Type 0 where
   pub told : Option (List Connection)
   pub finished : ℕ
   pub closed : ℕ
+  pub made : ℕ
+  pub back : ℕ

@@ -100,6 +100,7 @@ pub struct WorkerHall {
     alloc: Global,
     transfers: u32,
     made: u32,
+    back: u64,
     finished: u64,
     closed: u64,
     tells: bool,
@@ -112,7 +113,7 @@ impl Model for WorkerHall {
 
     ghost Value = { HallState };
 
-    ghost view = { λ h. record { told = if h.tells then Some h.connections.items else None; finished = h.finished; closed = h.closed } };
+    ghost view = { λ h. record { told = if h.tells then Some h.connections.items else None; finished = h.finished; closed = h.closed; made = h.made; back = h.back } };
 
     ghost invariant = { λ h. h.transfers ≤ 10000 };
 }
@@ -121,12 +122,13 @@ impl WorkerHall {
     /// A hall that has made no door yet.
     pub(crate) fn new(alloc: Global, transfers: u32) -> WorkerHall
         requires { transfers ≤ 10000 }
-        ensures { result ≡ record { told = Some []; finished = 0; closed = 0 } }
+        ensures { result ≡ record { told = Some []; finished = 0; closed = 0; made = 0; back = 0 } }
     {
         WorkerHall {
             alloc,
             transfers,
             made: 0,
+            back: 0,
             finished: 0,
             closed: 0,
             tells: true,
@@ -157,6 +159,10 @@ impl Hall for WorkerHall {
 
     ghost closed = { λ h. h.closed };
 
+    ghost made = { λ h. h.made };
+
+    ghost back = { λ h. h.back };
+
     ghost told = { λ h. h.told };
 
     fn begin(&mut self, _port: u16) -> Result<(), Failed> {
@@ -179,6 +185,7 @@ impl Hall for WorkerHall {
             ..
         } = door;
         self.closed = self.closed.saturating_add(u64::from(has_closed));
+        self.back = self.back.saturating_add(1);
         if let Some(connection) = finished {
             self.finished = self.finished.saturating_add(1);
             if self.connections.push(connection).is_err() {

@@ -19,7 +19,7 @@ use Rattle.session_server.specs.Conversation.{IsUnended}
 use Rattle.shared_port.specs.Asked.{EngineSeat}
 use Rattle.seat_server.specs.declared.tally.Tally.{Tally}
 use Rattle.seat_server.specs.Served.{Course, ServedConnection}
-use Rattle.seat_server.specs.Workers.{AllFollow, AllWorked, Tallied}
+use Rattle.seat_server.specs.Workers.{AllFollow, AllWorked, HallNumbers, Tallied}
 use Rattle.seat_server.specs.House.{ServesFirst}
 use Rattle.transfer_load.specs.Load.{Loaded}
 
@@ -89,16 +89,6 @@ tally_status tally = if nat_lt 0 tally.failed then 7 else if tally.memory || nat
 abbrev pub unprinted_status : Tally → ℕ
 unprinted_status tally = if nat_lt 0 tally.failed then 7 else 6
 
--- the numbers of a hall: its faults, its finished connections, and the doors of it that failed and that closed
-pub record HallNumbers : Type 0 where
-  pub faults : ℕ
-  pub finished : ℕ
-  pub failed : ℕ
-  pub closed : ℕ
-
-abbrev pub numbers_of : {H : Type 0} → (H → ℕ) → (H → ℕ) → (H → ℕ) → (H → ℕ) → H → HallNumbers
-numbers_of faults finished failed closed hall = record { faults = faults hall; finished = finished hall; failed = failed hall; closed = closed hall }
-
 module _ {D L : Type 0} (may_close : D → Bool) (left given : L → Option (List ℕ)) (read_faults : L → ℕ) (written : L → Option (List ℕ)) (write_faults : L → ℕ) where
   -- The first of the seats served the connections of the hall, so many workers beside one another, and the others nothing; then it was
   -- printed how many connections that were. Doors closed only where there is one that may.
@@ -106,7 +96,7 @@ module _ {D L : Type 0} (may_close : D → Bool) (left given : L → Option (Lis
     pub tally : Tally
     pub worked : AllWorked left given read_faults written write_faults config rounds (take workers olds) (take workers news) told_old told_new tally
     pub others : drop workers news ≡ drop workers olds
-    pub tallied : Tallied rounds workers before.faults after.faults before.finished after.finished before.failed after.failed before.closed after.closed tally
+    pub tallied : Tallied rounds workers before after tally
     pub closes : 0 < tally.closed → (door : D) × IsTrue (may_close door)
     pub printed : Prints sink_before sink_after (served_text tally.connections) (tally_status tally) (unprinted_status tally) status
 

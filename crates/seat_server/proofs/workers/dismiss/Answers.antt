@@ -2,7 +2,7 @@ use Rattle.std.proofs.Common.{◌≡◌, [], ◌∷◌, length, ap, ◌∙◌, a
 use Rattle.std.specs.Prelude.{Some, false}
 use Rattle.std.proofs.lemmas.List.Elements.{All-pop}
 use Rattle.seat_server.specs.Posts.{with_seat}
-use Rattle.seat_server.proofs.Dismissing.{dismisses_one, one_at_most}
+use Rattle.seat_server.proofs.Dismissing.{after_one, dismisses_one, one_at_most}
 use Rattle.seat_server.proofs.workers.dismiss.Goals as goal
 
 pub loop-worker-preserved : goal.loop-worker-preserved
@@ -20,4 +20,6 @@ loop-worker-preserved g c =
           c.loop-worker.tally c.count.new.self popped c.count.ensures c.give_back.ensures.seats back.faults back.finished back.failed back.closed back.told home.0 i.0,
       omega (arith, i.1, c.give_back.ensures.capacity, ap length c.give_back.ensures.seats, length-append here (with_seat worker.seat []), one_at_most worker.seat, ap length popped, length-append left (worker ∷ [])),
       c.give_back.ensures.capacity ∙ i.2,
+      back.made ∙ i.3,
+      after_one (λ door. 1) c.loop-worker.workers.items left worker (H.back c.loop-worker.hall) (H.back c.rejoin.new.self) _ popped back.back i.4,
     )

@@ -2,7 +2,7 @@ use Rattle.std.proofs.Common.{◌∷◌, [], length, ap, ◌∙◌, sym, subst, 
 use Rattle.std.specs.List.{All}
 use Rattle.std.proofs.lemmas.List.Elements.{All-push}
 use Rattle.seat_server.specs.Posts.{IsNewDoor}
-use Rattle.seat_server.proofs.Dismissing.{unmoved_made, unmoved_more}
+use Rattle.seat_server.proofs.Dismissing.{rises_from, rises_next, unmoved_made, unmoved_more}
 use Rattle.seat_server.proofs.workers.open_doors.Goals as goal
 
 pub loop-made-preserved : goal.loop-made-preserved
@@ -21,6 +21,8 @@ loop-made-preserved g c =
       unmoved_more D.faults D.is_out D.has_closed D.finished D.told H.faults H.finished H.failed H.closed H.told c.args.hall.now c.loop-made.hall c.door.new.self i.3
           (unmoved_made D.faults D.is_out D.has_closed D.finished D.told H.faults H.finished H.failed H.closed H.told c.loop-made.hall c.door.new.self made.faults made.finished made.failed made.closed made.told),
       made.faults ∙ i.4,
+      rises_next (H.made c.args.hall.now) (H.made c.loop-made.hall) (H.made c.door.new.self) c.loop-made._made _ i.5 made.made (omega arith),
+      made.back ∙ i.6,
     )
 
 pub returns-in-Err-clause-unmoved : goal.returns-in-Err-clause-unmoved
@@ -31,4 +33,14 @@ returns-in-Err-clause-unmoved g c =
     unmoved_more D.faults D.is_out D.has_closed D.finished D.told H.faults H.finished H.failed H.closed H.told c.args.hall.now c.door.new.self c.shut_doors.new.hall
     (unmoved_more D.faults D.is_out D.has_closed D.finished D.told H.faults H.finished H.failed H.closed H.told c.args.hall.now c.loop-made.hall c.door.new.self c.loop-made.invariant.3
     (unmoved_made D.faults D.is_out D.has_closed D.finished D.told H.faults H.finished H.failed H.closed H.told c.loop-made.hall c.door.new.self made.faults made.finished made.failed made.closed made.told))
-    c.shut_doors.ensures
+    c.shut_doors.ensures.unmoved
+
+pub returns-in-Err-clause-none : goal.returns-in-Err-clause-none
+returns-in-Err-clause-none g c =
+    let H = g.H.Hall in
+    let i = c.loop-made.invariant in
+    let shut = c.shut_doors.ensures in (
+      c.loop-made._made,
+      λ bound. shut.made ∙ (c.in-Err.ensures.unmade ∙ i.5 bound),
+      rises_from (H.back c.args.hall.now) (H.back c.door.new.self) (H.back c.shut_doors.new.hall) (length c.loop-made.doors.items) c.loop-made._made (c.door.ensures.back ∙ i.6) shut.back i.0,
+    )

@@ -2,6 +2,7 @@ use Rattle.std.proofs.Common.{◌≡◌, length}
 use Rattle.std.specs.List.{All}
 use Rattle.std.specs.Vec.{vec_capacity}
 use Rattle.seat_server.specs.Posts.{IsNewDoor, IsUnmoved}
+use Rattle.seat_server.specs.Workers.{RisesBy}
 use Rattle.seat_server.proofs.workers.open_doors.Given as goal
 
 -- so many doors are made, and there is room for the others
@@ -11,3 +12,4 @@ invariant-loop-made g l =
     let D = g.H.Door.Door in
     (length l.doors.items ≡ l._made) × (vec_capacity l.doors ≡ l.fn.many) × All (IsNewDoor D.faults D.is_out D.has_closed D.finished D.told) l.doors.items
     × IsUnmoved H.faults H.finished H.failed H.closed H.told l.fn.hall l.hall × (H.faults l.hall ≡ H.faults l.fn.hall)
+    × RisesBy (H.made l.fn.hall) (H.made l.hall) l._made × (H.back l.hall ≡ H.back l.fn.hall)
