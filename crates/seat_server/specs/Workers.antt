@@ -105,7 +105,7 @@ abbrev pub RisesBy : ℕ → ℕ → ℕ → Type 0
 RisesBy old new more = old ≤ 2 ^ 64 - 1 → new ≡ count_on old more
 
 -- the numbers of a hall: its faults, its finished connections, and its doors: those that failed, that closed, that it has made, and that
--- came back
+-- came back; how often it has begun, and at which port last
 pub record HallNumbers : Type 0 where
   pub faults : ℕ
   pub finished : ℕ
@@ -113,10 +113,20 @@ pub record HallNumbers : Type 0 where
   pub closed : ℕ
   pub made : ℕ
   pub back : ℕ
+  pub begun : ℕ
+  pub at_port : Option ℕ
 
-abbrev pub numbers_of : {H : Type 0} → (H → ℕ) → (H → ℕ) → (H → ℕ) → (H → ℕ) → (H → ℕ) → (H → ℕ) → H → HallNumbers
-numbers_of faults finished failed closed made back hall =
-    record { faults = faults hall; finished = finished hall; failed = failed hall; closed = closed hall; made = made hall; back = back hall }
+abbrev pub numbers_of : {H : Type 0} → (H → ℕ) → (H → ℕ) → (H → ℕ) → (H → ℕ) → (H → ℕ) → (H → ℕ) → (H → ℕ) → (H → Option ℕ) → H → HallNumbers
+numbers_of faults finished failed closed made back begun at_port hall = record {
+  faults = faults hall;
+  finished = finished hall;
+  failed = failed hall;
+  closed = closed hall;
+  made = made hall;
+  back = back hall;
+  begun = begun hall;
+  at_port = at_port hall;
+}
 
 -- How the workers are counted, and what the hall's numbers have risen by, where so many rounds were given. Where memory was wanting for a
 -- door or for the list of the workers, none began; else a door was made for each worker, and fewer connections than the rounds come only

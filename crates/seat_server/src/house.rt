@@ -127,8 +127,9 @@ impl House {
         ensures others { drop workers self.new.seats ≡ drop workers self.old.seats }
         ensures desk { self.new.desk ≡ self.old.desk }
         ensures full { (many : ℕ) → IsFull many self.old → IsFull many self.new }
-        ensures tallied { Tallied rounds workers (numbers_of H.faults H.finished H.failed H.closed H.made H.back hall.old)
-            (numbers_of H.faults H.finished H.failed H.closed H.made H.back hall.new) result }
+        ensures tallied { Tallied rounds workers (numbers_of H.faults H.finished H.failed H.closed H.made H.back H.begun H.at_port hall.old)
+            (numbers_of H.faults H.finished H.failed H.closed H.made H.back H.begun H.at_port hall.new) result }
+        ensures begun { (H.begun hall.new ≡ H.begun hall.old) × (H.at_port hall.new ≡ H.at_port hall.old) }
         ensures may_close { 0 < result.closed → (door : H.Door) × IsTrue (H.Door.may_close door) }
     {
         serve_by_many(
@@ -193,8 +194,9 @@ fn serve_by_many<H: Hall, R: Threads + Wait + Sync>(
     ensures others { drop workers seats.new.items ≡ drop workers seats.old.items }
     ensures hosted { AreHosted desk.now.desk seats.new.items }
     ensures numbers { SameNumbers seats.old.items seats.new.items }
-    ensures tallied { Tallied rounds workers (numbers_of H.faults H.finished H.failed H.closed H.made H.back hall.old)
-        (numbers_of H.faults H.finished H.failed H.closed H.made H.back hall.new) result }
+    ensures tallied { Tallied rounds workers (numbers_of H.faults H.finished H.failed H.closed H.made H.back H.begun H.at_port hall.old)
+        (numbers_of H.faults H.finished H.failed H.closed H.made H.back H.begun H.at_port hall.new) result }
+    ensures begun { (H.begun hall.new ≡ H.begun hall.old) × (H.at_port hall.new ≡ H.at_port hall.old) }
     ensures may_close { 0 < result.closed → (door : H.Door) × IsTrue (H.Door.may_close door) }
 {
     let Ok(mut others) = Vec::with_capacity(alloc, seats.len() - workers as usize) else {

@@ -51,8 +51,11 @@ pub fn serve_workers<H: Hall, R: Threads + Wait + Sync>(
         config.now rounds seats.items result.0.items (H.told hall.old) (H.told hall.new) result.1 }
 
     // How much was done.
-    ensures tallied { Tallied rounds (length seats.items) (numbers_of H.faults H.finished H.failed H.closed H.made H.back hall.old)
-        (numbers_of H.faults H.finished H.failed H.closed H.made H.back hall.new) result.1 }
+    ensures tallied { Tallied rounds (length seats.items) (numbers_of H.faults H.finished H.failed H.closed H.made H.back H.begun H.at_port hall.old)
+        (numbers_of H.faults H.finished H.failed H.closed H.made H.back H.begun H.at_port hall.new) result.1 }
+
+    // The hall has not begun anew.
+    ensures begun { (H.begun hall.new ≡ H.begun hall.old) × (H.at_port hall.new ≡ H.at_port hall.old) }
 
     // Doors are counted as closed only where there is one that may close.
     ensures may_close { 0 < result.1.closed → (door : H.Door) × IsTrue (H.Door.may_close door) }
@@ -80,6 +83,7 @@ fn open_doors<H: Hall>(alloc: Global, hall: &mut H, many: usize) -> Result<Vec<H
     ensures faults { IfOk result (λ _. H.faults hall.new ≡ H.faults hall.old) }
     ensures made { IfOk result (λ _. RisesBy (H.made hall.old) (H.made hall.new) many) }
     ensures away { IfOk result (λ _. H.back hall.new ≡ H.back hall.old) }
+    ensures begun { (H.begun hall.new ≡ H.begun hall.old) × (H.at_port hall.new ≡ H.at_port hall.old) }
     ensures none { OnErr result (AreBack (H.made hall.old) (H.made hall.new) (H.back hall.old) (H.back hall.new)) }
 {
     let mut doors = Vec::with_capacity(alloc, many)?;
@@ -101,6 +105,7 @@ fn shut_doors<H: Hall>(hall: &mut H, mut doors: Vec<H::Door>)
     ensures unmoved { IsUnmoved H.faults H.finished H.failed H.closed H.told hall.old hall.new }
     ensures made { H.made hall.new ≡ H.made hall.old }
     ensures back { RisesBy (H.back hall.old) (H.back hall.new) (length doors.items) }
+    ensures begun { (H.begun hall.new ≡ H.begun hall.old) × (H.at_port hall.new ≡ H.at_port hall.old) }
 {
     while let Some(door) = doors.pop() {
         hall.rejoin(door);
@@ -190,6 +195,7 @@ fn dismiss<H: Hall>(
     ensures closed { H.closed hall.new ≡ count_after (λ door. one_if (H.Door.has_closed door)) (H.closed hall.old) (reverse workers.items) }
     ensures made { H.made hall.new ≡ H.made hall.old }
     ensures back { H.back hall.new ≡ count_after (λ door. 1) (H.back hall.old) (reverse workers.items) }
+    ensures begun { (H.begun hall.new ≡ H.begun hall.old) × (H.at_port hall.new ≡ H.at_port hall.old) }
     ensures told { TakesAll H.Door.told (H.told hall.old) (reverse workers.items) (H.told hall.new) }
 {
     let mut tally = Tally::default();

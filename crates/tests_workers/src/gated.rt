@@ -174,6 +174,8 @@ pub struct GatedHall<'a> {
     closed: u64,
     made: u64,
     back: u64,
+    begun: u64,
+    at_port: Option<u16>,
 }
 
 impl<'a> GatedHall<'a> {
@@ -185,12 +187,18 @@ impl<'a> GatedHall<'a> {
             closed: 0,
             made: 0,
             back: 0,
+            begun: 0,
+            at_port: None,
         }
     }
 }
 
 impl<'a> Hall for GatedHall<'a> {
     type Door = GatedDoor<'a>;
+
+    ghost begun = { λ h. h.begun };
+
+    ghost at_port = { λ h. h.at_port };
 
     ghost faults = { λ h. 0 };
 
@@ -206,7 +214,9 @@ impl<'a> Hall for GatedHall<'a> {
 
     ghost told = { λ h. None };
 
-    fn begin(&mut self, _port: u16) -> Result<(), Failed> {
+    fn begin(&mut self, port: u16) -> Result<(), Failed> {
+        self.begun = self.begun.saturating_add(1);
+        self.at_port = Some(port);
         Ok(())
     }
 

@@ -19,10 +19,12 @@ connections_of None = []
 connections_of (Some connection) = connection ∷ []
 
 -- the connections that came back, where they are told; how many; how many doors have answered that none will come any more, how many were
--- made, and how many came back
+-- made, and how many came back; how often it has begun, and at which port last
 pub record HallState : Type 0 where
   pub told : Option (List Connection)
   pub finished : ℕ
   pub closed : ℕ
   pub made : ℕ
   pub back : ℕ
+  pub begun : ℕ
+  pub at_port : Option ℕ

@@ -1,6 +1,6 @@
 //! The hall of the workers: each door has the one connection of one worker.
 
-ghost use Rattle.std.specs.Prelude.{◌≡◌, ◌≤◌, ◌<◌, [], Some, true, false, IfOk, option_map, vec_items};
+ghost use Rattle.std.specs.Prelude.{◌≡◌, ◌≤◌, ◌<◌, [], None, Some, true, false, IfOk, option_map, vec_items};
 
 use crate::connection::{BatchSource, ReplySink};
 use outside_io::{Door, Failed, Hall, Joined};
@@ -101,6 +101,8 @@ pub struct WorkerHall {
     transfers: u32,
     made: u32,
     back: u64,
+    begun: u64,
+    at_port: Option<u16>,
     finished: u64,
     closed: u64,
     tells: bool,
@@ -113,7 +115,7 @@ impl Model for WorkerHall {
 
     ghost Value = { HallState };
 
-    ghost view = { λ h. record { told = if h.tells then Some h.connections.items else None; finished = h.finished; closed = h.closed; made = h.made; back = h.back } };
+    ghost view = { λ h. record { told = if h.tells then Some h.connections.items else None; finished = h.finished; closed = h.closed; made = h.made; back = h.back; begun = h.begun; at_port = h.at_port } };
 
     ghost invariant = { λ h. h.transfers ≤ 10000 };
 }
@@ -122,13 +124,15 @@ impl WorkerHall {
     /// A hall that has made no door yet.
     pub(crate) fn new(alloc: Global, transfers: u32) -> WorkerHall
         requires { transfers ≤ 10000 }
-        ensures { result ≡ record { told = Some []; finished = 0; closed = 0; made = 0; back = 0 } }
+        ensures { result ≡ record { told = Some []; finished = 0; closed = 0; made = 0; back = 0; begun = 0; at_port = None } }
     {
         WorkerHall {
             alloc,
             transfers,
             made: 0,
             back: 0,
+            begun: 0,
+            at_port: None,
             finished: 0,
             closed: 0,
             tells: true,
@@ -151,6 +155,10 @@ impl WorkerHall {
 impl Hall for WorkerHall {
     type Door = WorkerDoor;
 
+    ghost begun = { λ h. h.begun };
+
+    ghost at_port = { λ h. h.at_port };
+
     ghost faults = { λ h. 0 };
 
     ghost finished = { λ h. h.finished };
@@ -165,7 +173,9 @@ impl Hall for WorkerHall {
 
     ghost told = { λ h. h.told };
 
-    fn begin(&mut self, _port: u16) -> Result<(), Failed> {
+    fn begin(&mut self, port: u16) -> Result<(), Failed> {
+        self.begun = self.begun.saturating_add(1);
+        self.at_port = Some(port);
         Ok(())
     }
 

@@ -1,18 +1,22 @@
 -- What the commands did, as the program tells it.
-use Rattle.std.proofs.Common.{◌≡◌, ℕ, true, false, List, [], ◌∷◌, Option, None, Some, inl, inr, sym, ap, subst, ◌∙◌}
-use Rattle.std.specs.Prelude.{◌⊎◌, Ok, string_bytes}
+use Rattle.std.proofs.Common.{◌≡◌, ℕ, true, false, List, [], ◌∷◌, Option, None, Some, Result, Ok, Err, inl, inr, sym, ap, subst, ◌∙◌}
+use Rattle.std.specs.Prelude.{◌⊎◌, ◌≤◌, ◌-◌, ◌^◌, IfOk, string_bytes}
+use Rattle.std.specs.Result.{is_err}
 use Rattle.std.specs.List.{AllByRecursion}
 use Rattle.clap.specs.Kinds.{IsAmong, Kinds}
 use Rattle.clap.specs.Walk.{Text}
 use Rattle.clap.specs.declared.error.kind.ErrorKind.{ErrorKind}
 use Rattle.clap.specs.declared.error.kind.ErrorKind.TheVariants.{DisplayHelp, DisplayVersion}
 use Rattle.tds_login.specs.declared.config.Config.{Config}
+use Rattle.outside_io.specs.Bytes.{HasRisen}
 use Rattle.session_server.specs.declared.end.End.{End}
 use Rattle.session_server.specs.declared.end.End.TheVariants as ends
 use Rattle.session_server.specs.Conversation.{Completes}
 use Rattle.program_words.specs.declared.command.ProgramCommand.{ProgramCommand}
 use Rattle.program_words.specs.declared.command.ProgramCommand.TheVariants.{Pipe, Listen, Steps, Load, Show}
 use Rattle.program_words.specs.Asked.{Answers, AsksForTextAlone, IsText, asked, faults_of}
+use Rattle.seat_server.specs.declared.tally.Tally.{Tally}
+use Rattle.seat_server.specs.Workers.{HallNumbers, RisesBy, Tallied}
 use Rattle.tsqld.specs.Asking.{AsksFor, AsksForText, IfText, IsNoCommand, IsRefused}
 use Rattle.tsqld.specs.Program.{EndsWell, status_of}
 
@@ -30,6 +34,34 @@ well_status end (inr wanting) = inr (ap status_of wanting)
 pub ends_well : (config : Config) (told : Option (List ℕ)) (end : End) (status : ℕ) → status ≡ status_of end → Completes config told end → EndsWell config told status
 ends_well config None end status is well = tt
 ends_well config (Some bytes) end status is well = λ short messages split in_place. subst (λ (s : ℕ). (s ≡ 0) ⊎ (s ≡ 6)) (sym is) (well_status end (well short messages split in_place))
+
+-- ---- `listen`
+
+-- what holds where it came well, as it did
+pub where_ok : {A E P : Type 0} (result : Result A E) → is_err result ≡ false → IfOk result (λ _. P) → P
+where_ok (Ok a) well holds = holds
+where_ok (Err failure) well holds = absurd (let no : true ≡ false = well in cc)
+
+-- counts from these numbers on, where they are the same
+pub tallied_from : (rounds : Option ℕ) (workers : ℕ) (before mid after : HallNumbers) (tally : Tally) → mid.faults ≡ before.faults → mid.finished ≡ before.finished → mid.failed ≡ before.failed → mid.closed ≡ before.closed
+    → mid.made ≡ before.made → mid.back ≡ before.back → Tallied rounds workers mid after tally → Tallied rounds workers before after tally
+tallied_from rounds workers before mid after tally faults finished failed closed made back tallied = record {
+  faulty = λ some. subst (λ (n : ℕ). HasRisen n after.faults) faults (tallied.faulty some);
+  counted = λ few. subst (λ (n : ℕ). n ≤ after.faults) faults (tallied.counted (subst (λ (n : ℕ). n ≤ 2 ^ 64 - 1) (sym faults) few));
+  faultless = λ few none. tallied.faultless (subst (λ (n : ℕ). n ≤ 2 ^ 64 - 1) (sym faults) few) none ∙ faults;
+  finished = subst (λ (n : ℕ). RisesBy n after.finished tally.connections) finished tallied.finished;
+  failed = subst (λ (n : ℕ). RisesBy n after.failed tally.failed) failed tallied.failed;
+  closed = subst (λ (n : ℕ). RisesBy n after.closed tally.closed) closed tallied.closed;
+  doors = tallied.doors;
+  made = subst (λ (n : ℕ). RisesBy n after.made tallied.doors) made tallied.made;
+  back = subst (λ (n : ℕ). RisesBy n after.back tallied.doors) back tallied.back;
+  each = tallied.each;
+  bounded = tallied.bounded;
+  none = tallied.none;
+  least = tallied.least;
+  whole = tallied.whole;
+  ended = tallied.ended;
+}
 
 -- ---- words
 

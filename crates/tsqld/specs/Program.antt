@@ -1,6 +1,6 @@
 -- Own: the statuses of the program, and what its commands do. It is said of the whole run: of the words, the bytes that go in and
 -- out, the seats of the house and the connections of the hall; the code calls one layer after another.
-use Rattle.std.specs.Prelude.{◌≡◌, ℕ, ◌<◌, ◌⊎◌, ◌||◌, nat_lt, Bool, true, false, List, [], ◌++◌, length, take, drop, Option, IfSome, IsTrue, if◌then◌else◌, codes}
+use Rattle.std.specs.Prelude.{◌≡◌, ℕ, ◌<◌, ◌⊎◌, ◌||◌, nat_lt, Bool, true, false, List, [], ◌++◌, length, take, drop, Option, Some, IfSome, IsTrue, if◌then◌else◌, codes}
 use Rattle.std.specs.Fmt.{decimal}
 use Rattle.std.specs.Io.KnownBytes.{Appends}
 use Rattle.tds_login.specs.declared.config.Config.{Config}
@@ -19,7 +19,7 @@ use Rattle.session_server.specs.Conversation.{IsUnended}
 use Rattle.shared_port.specs.Asked.{EngineSeat}
 use Rattle.seat_server.specs.declared.tally.Tally.{Tally}
 use Rattle.seat_server.specs.Served.{Course, ServedConnection}
-use Rattle.seat_server.specs.Workers.{AllFollow, AllWorked, HallNumbers, Tallied}
+use Rattle.seat_server.specs.Workers.{AllFollow, AllWorked, HallNumbers, RisesBy, Tallied}
 use Rattle.seat_server.specs.House.{ServesFirst}
 use Rattle.transfer_load.specs.Load.{Loaded}
 
@@ -90,10 +90,12 @@ abbrev pub unprinted_status : Tally → ℕ
 unprinted_status tally = if nat_lt 0 tally.failed then 7 else 6
 
 module _ {D L : Type 0} (may_close : D → Bool) (left given : L → Option (List ℕ)) (read_faults : L → ℕ) (written : L → Option (List ℕ)) (write_faults : L → ℕ) where
-  -- The first of the seats served the connections of the hall, so many workers beside one another, and the others nothing; then it was
-  -- printed how many connections that were. Doors closed only where there is one that may.
-  pub record HallServed (config : Config) (workers : ℕ) (rounds : Option ℕ) (told_old told_new : Option (List L)) (before after : HallNumbers) (sink_before sink_after : Option (List ℕ)) (olds news : List EngineSeat) (status : ℕ) : Type 0 where
+  -- The hall began once, at this port. The first of the seats served its connections, so many workers beside one another, and the others
+  -- nothing; then it was printed how many connections that were. Doors closed only where there is one that may.
+  pub record HallServed (config : Config) (port workers : ℕ) (rounds : Option ℕ) (told_old told_new : Option (List L)) (before after : HallNumbers) (sink_before sink_after : Option (List ℕ)) (olds news : List EngineSeat) (status : ℕ) : Type 0 where
     pub tally : Tally
+    pub begun : RisesBy before.begun after.begun 1
+    pub at_port : after.at_port ≡ Some port
     pub worked : AllWorked left given read_faults written write_faults config rounds (take workers olds) (take workers news) told_old told_new tally
     pub others : drop workers news ≡ drop workers olds
     pub tallied : Tallied rounds workers before after tally
@@ -110,9 +112,9 @@ pub record NotBegun (before after : HallNumbers) (sink_before sink_after : Optio
 
 module _ {D L : Type 0} (may_close : D → Bool) (left given : L → Option (List ℕ)) (read_faults : L → ℕ) (written : L → Option (List ℕ)) (write_faults : L → ℕ) where
   -- `listen` by this configuration: the hall was served, or could not begin
-  abbrev pub Listened : Config → ℕ → Option ℕ → Option (List L) → Option (List L) → HallNumbers → HallNumbers → Option (List ℕ) → Option (List ℕ) → List EngineSeat → List EngineSeat → ℕ → Type 0
-  Listened config workers rounds told_old told_new before after sink_before sink_after olds news status =
-      HallServed may_close left given read_faults written write_faults config workers rounds told_old told_new before after sink_before sink_after olds news status
+  abbrev pub Listened : Config → ℕ → ℕ → Option ℕ → Option (List L) → Option (List L) → HallNumbers → HallNumbers → Option (List ℕ) → Option (List ℕ) → List EngineSeat → List EngineSeat → ℕ → Type 0
+  Listened config port workers rounds told_old told_new before after sink_before sink_after olds news status =
+      HallServed may_close left given read_faults written write_faults config port workers rounds told_old told_new before after sink_before sink_after olds news status
       ⊎ ((told_new ≡ told_old) × NotBegun before after sink_before sink_after olds news status)
 
 -- Where rounds are given, nothing fails, and no door may close: as many connections were served, and that was printed; or memory was

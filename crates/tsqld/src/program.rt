@@ -73,8 +73,8 @@ pub fn run_program<S: Source, K: Sink, H: Hall, C: Clock, R: Threads + Wait + Sy
 
     // What was served of the hall's connections, and what was printed.
     ensures listen { (port workers : ℕ) (rounds : Option ℕ) (user password : List ℕ) (drivers : Bool) → AsksFor (map string_bytes words.now) (ProgramCommand.Listen port workers rounds user password drivers)
-        → (input.new ≡ input.old) × (Listened H.Door.may_close H.Door.Line.left H.Door.Line.given H.Door.Line.Source.faults H.Door.Line.written H.Door.Line.Sink.faults (config_of user password false drivers) workers rounds
-        (H.told hall.old) (H.told hall.new) (numbers_of H.faults H.finished H.failed H.closed H.made H.back hall.old) (numbers_of H.faults H.finished H.failed H.closed H.made H.back hall.new)
+        → (input.new ≡ input.old) × (Listened H.Door.may_close H.Door.Line.left H.Door.Line.given H.Door.Line.Source.faults H.Door.Line.written H.Door.Line.Sink.faults (config_of user password false drivers) port workers rounds
+        (H.told hall.old) (H.told hall.new) (numbers_of H.faults H.finished H.failed H.closed H.made H.back H.begun H.at_port hall.old) (numbers_of H.faults H.finished H.failed H.closed H.made H.back H.begun H.at_port hall.new)
         (K.written output.old) (K.written output.new) house.old.seats house.new.seats result
         ⊎ ((result ≡ 6) × (output.new ≡ output.old) × (hall.new ≡ hall.old) × (house.new ≡ house.old))) }
 
@@ -136,8 +136,8 @@ fn run_command<S: Source, K: Sink, H: Hall, R: Threads + Wait + Sync>(
     ensures complete { (user password : List ℕ) (bare drivers : Bool) → command ≡ ProgramCommand.Pipe user password bare drivers
         → result ≢ 3 → result ≢ 4 → EndsWell (config_of user password bare drivers) (S.left input.old) result }
     ensures listen { (port workers : ℕ) (rounds : Option ℕ) (user password : List ℕ) (drivers : Bool) → command ≡ ProgramCommand.Listen port workers rounds user password drivers
-        → (input.new ≡ input.old) × Listened H.Door.may_close H.Door.Line.left H.Door.Line.given H.Door.Line.Source.faults H.Door.Line.written H.Door.Line.Sink.faults (config_of user password false drivers) workers rounds
-        (H.told hall.old) (H.told hall.new) (numbers_of H.faults H.finished H.failed H.closed H.made H.back hall.old) (numbers_of H.faults H.finished H.failed H.closed H.made H.back hall.new)
+        → (input.new ≡ input.old) × Listened H.Door.may_close H.Door.Line.left H.Door.Line.given H.Door.Line.Source.faults H.Door.Line.written H.Door.Line.Sink.faults (config_of user password false drivers) port workers rounds
+        (H.told hall.old) (H.told hall.new) (numbers_of H.faults H.finished H.failed H.closed H.made H.back H.begun H.at_port hall.old) (numbers_of H.faults H.finished H.failed H.closed H.made H.back H.begun H.at_port hall.new)
         (K.written output.old) (K.written output.new) house.old.seats house.new.seats result }
     ensures complete_listen { (port workers : ℕ) (rounds : Option ℕ) (user password : List ℕ) (drivers : Bool) → command ≡ ProgramCommand.Listen port workers rounds user password drivers
         → ((door : H.Door) → H.Door.may_close door ≡ false) → result ≢ 4 → result ≢ 7 → ServesAll rounds (K.written output.old) (K.written output.new) result }
@@ -281,8 +281,8 @@ fn listen<K: Sink, H: Hall, R: Threads + Wait + Sync>(
     requires full { IsFull house_seats house.old }
     requires workers { (1 ≤ workers) × (workers ≤ 64) }
     ensures full { IsFull house_seats house.new }
-    ensures listened { Listened H.Door.may_close H.Door.Line.left H.Door.Line.given H.Door.Line.Source.faults H.Door.Line.written H.Door.Line.Sink.faults config.now workers rounds
-        (H.told hall.old) (H.told hall.new) (numbers_of H.faults H.finished H.failed H.closed H.made H.back hall.old) (numbers_of H.faults H.finished H.failed H.closed H.made H.back hall.new)
+    ensures listened { Listened H.Door.may_close H.Door.Line.left H.Door.Line.given H.Door.Line.Source.faults H.Door.Line.written H.Door.Line.Sink.faults config.now port workers rounds
+        (H.told hall.old) (H.told hall.new) (numbers_of H.faults H.finished H.failed H.closed H.made H.back H.begun H.at_port hall.old) (numbers_of H.faults H.finished H.failed H.closed H.made H.back H.begun H.at_port hall.new)
         (K.written output.old) (K.written output.new) house.old.seats house.new.seats result }
     ensures complete { ((door : H.Door) → H.Door.may_close door ≡ false) → result ≢ 4 → result ≢ 7 → ServesAll rounds (K.written output.old) (K.written output.new) result }
     ensures writes { CountsFault (K.faults output.old) (K.faults output.new) (result ≡ 4) }

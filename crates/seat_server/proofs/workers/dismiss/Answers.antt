@@ -22,4 +22,6 @@ loop-worker-preserved g c =
       c.give_back.ensures.capacity ∙ i.2,
       back.made ∙ i.3,
       after_one (λ door. 1) c.loop-worker.workers.items left worker (H.back c.loop-worker.hall) (H.back c.rejoin.new.self) _ popped back.back i.4,
+      back.begun ∙ i.5,
+      back.at_port ∙ i.6,
     )

@@ -12,6 +12,7 @@ invariant-loop-worker g l =
     Dismisses D.faults D.is_out D.has_closed D.finished D.told H.faults H.finished H.failed H.closed H.told l.fn.workers.items l.workers.items l.fn.hall l.hall l.fn.seats.items l.seats.items l.tally
     × (length l.seats.items + length l.workers.items ≤ vec_capacity l.seats) × (vec_capacity l.seats ≡ vec_capacity l.fn.seats)
     × (H.made l.hall ≡ H.made l.fn.hall) × (count_after (λ door. 1) (H.back l.hall) (reverse l.workers.items) ≡ count_after (λ door. 1) (H.back l.fn.hall) (reverse l.fn.workers.items))
+    × (H.begun l.hall ≡ H.begun l.fn.hall) × (H.at_port l.hall ≡ H.at_port l.fn.hall)
 
 abbrev pub decreases-loop-worker : goal.decreases-loop-worker
 decreases-loop-worker g l = goal.left-loop-worker g l

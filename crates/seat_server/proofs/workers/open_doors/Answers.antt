@@ -23,6 +23,8 @@ loop-made-preserved g c =
       made.faults ∙ i.4,
       rises_next (H.made c.args.hall.now) (H.made c.loop-made.hall) (H.made c.door.new.self) c.loop-made._made _ i.5 made.made (omega arith),
       made.back ∙ i.6,
+      made.begun ∙ i.7,
+      made.at_port ∙ i.8,
     )
 
 pub returns-in-Err-clause-unmoved : goal.returns-in-Err-clause-unmoved

@@ -13,3 +13,4 @@ invariant-loop-made g l =
     (length l.doors.items ≡ l._made) × (vec_capacity l.doors ≡ l.fn.many) × All (IsNewDoor D.faults D.is_out D.has_closed D.finished D.told) l.doors.items
     × IsUnmoved H.faults H.finished H.failed H.closed H.told l.fn.hall l.hall × (H.faults l.hall ≡ H.faults l.fn.hall)
     × RisesBy (H.made l.fn.hall) (H.made l.hall) l._made × (H.back l.hall ≡ H.back l.fn.hall)
+    × (H.begun l.hall ≡ H.begun l.fn.hall) × (H.at_port l.hall ≡ H.at_port l.fn.hall)

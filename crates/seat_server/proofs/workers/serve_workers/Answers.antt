@@ -28,7 +28,7 @@ returns-in_default-with_capacity-clause-worked g c =
 pub returns-in_default-clause-tallied : goal.returns-in_default-clause-tallied
 returns-in_default-clause-tallied g c =
     let H = g.H.Hall in
-    let numbers = numbers_of H.faults H.finished H.failed H.closed H.made H.back in
+    let numbers = numbers_of H.faults H.finished H.failed H.closed H.made H.back H.begun H.at_port in
     let unmoved = c.open_doors.ensures.unmoved in
     none_tallied c.args.rounds (length c.args.seats.items) (numbers c.args.hall.now) (numbers c.open_doors.new.hall) c.without_memory.result unmoved.faults_same unmoved.finished_same unmoved.failed_same unmoved.closed_same
     c.in_default.ensures.none c.without_memory.ensures
@@ -37,7 +37,7 @@ pub returns-in_default-with_capacity-clause-tallied : goal.returns-in_default-wi
 returns-in_default-with_capacity-clause-tallied g c =
     let H = g.H.Hall in
     let D = g.H.Door.Door in
-    let numbers = numbers_of H.faults H.finished H.failed H.closed H.made H.back in
+    let numbers = numbers_of H.faults H.finished H.failed H.closed H.made H.back H.begun H.at_port in
     let old = c.args.hall.now in
     let mid = c.open_doors.new.hall in
     let new = c.shut_doors.new.hall in
@@ -106,7 +106,7 @@ returns-clause-tallied g c =
     let old = c.args.hall.now in
     let mid = c.open_doors.new.hall in
     let new = given.new.hall in
-    let numbers = numbers_of H.faults H.finished H.failed H.closed H.made H.back in
+    let numbers = numbers_of H.faults H.finished H.failed H.closed H.made H.back H.begun H.at_port in
     let unmoved = c.open_doors.ensures.unmoved in
     let long : c.len.result ≡ length seats = omega (arith, c.len.ensures) in
     all_tallied D.faults D.is_out D.has_closed I.left I.given I.faults O.written O.faults D.finished D.told c.args.config.now c.args.desk.now.desk (SomeMayClose D.may_close) c.args.rounds seats given.new.seats.items (reverse workers) given.result

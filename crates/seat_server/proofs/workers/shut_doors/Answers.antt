@@ -13,6 +13,8 @@ loop-door-init g c =
       unmoved_self D.faults D.is_out D.has_closed D.finished D.told H.faults H.finished H.failed H.closed H.told c.args.hall.now,
       refl,
       none_back (H.back c.args.hall.now) (length c.args.doors.items),
+      refl,
+      refl,
     )
 
 pub loop-door-preserved : goal.loop-door-preserved
@@ -29,6 +31,8 @@ loop-door-preserved g c =
       back.made ∙ i.2,
       one_back (H.back c.args.hall.now) (H.back c.loop-door.hall) (H.back c.rejoin.new.self) (length c.args.doors.items) (length c.loop-door.doors.items) (length c.pop.new.self.items) i.3 back.back
           (ap length popped ∙ length-append c.pop.new.self.items (c.in-Some.door ∷ [])),
+      back.begun ∙ i.4,
+      back.at_port ∙ i.5,
     )
 
 pub returns-clause-back : goal.returns-clause-back

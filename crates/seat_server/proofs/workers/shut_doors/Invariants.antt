@@ -11,6 +11,7 @@ invariant-loop-door g l =
     let D = g.H.Door.Door in
     All (IsNewDoor D.faults D.is_out D.has_closed D.finished D.told) l.doors.items × IsUnmoved H.faults H.finished H.failed H.closed H.told l.fn.hall l.hall
     × (H.made l.hall ≡ H.made l.fn.hall) × SomeBack (H.back l.fn.hall) (H.back l.hall) (length l.fn.doors.items) (length l.doors.items)
+    × (H.begun l.hall ≡ H.begun l.fn.hall) × (H.at_port l.hall ≡ H.at_port l.fn.hall)
 
 abbrev pub decreases-loop-door : goal.decreases-loop-door
 decreases-loop-door g l = goal.left-loop-door g l
