@@ -8,5 +8,6 @@ pub mod Served  -- what a connection has asked are batches and calls; and so it 
 pub mod Sound  -- each commit keeps its database intact, and each database of the log is
 pub mod Once  -- a batch's tokens with one DONE at their end
 pub mod Responses  -- what holds of each response by its own stretch of what the connection has asked
+pub mod InTurn  -- each response is what its request comes to by its own stretch
 pub mod Causes  -- each response tells an error of a lock only where the engine has replied so
 pub mod Ample  -- each response is whole, and tells want of memory only where it was wanting

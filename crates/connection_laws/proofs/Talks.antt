@@ -47,17 +47,18 @@ module _ (others : List Task) (old mid new : SessionProgress) (first later : Lis
 -- ---- all requests
 
 -- a talk with one response more: what was asked for the talk, and for the response
-pub record More (talk : Doing (List Response)) (tree : Doing Response) (p new : SessionProgress) (exchanges : List Exchange) : Type 0 where
+pub record More (talk : Doing (List Response)) (tree : Doing Response) (p new : SessionProgress) (exchanges : List Exchange) (responses : List Response) : Type 0 where
   pub front : List Exchange
   pub back : List Exchange
   pub earlier : List Response
   pub response : Response
   pub mid : SessionProgress
   pub parts : exchanges ≡ front ++ back
+  pub one : responses ≡ earlier ++ response ∷ []
   pub talked : Held talk p front earlier mid
   pub responded : Held tree mid back response new
 
-more_apart : (talk : Doing (List Response)) (tree : Doing Response) (p new : SessionProgress) (exchanges : List Exchange) (responses : List Response) → Held (talk_more talk tree) p exchanges responses new → More talk tree p new exchanges
+pub more_apart : (talk : Doing (List Response)) (tree : Doing Response) (p new : SessionProgress) (exchanges : List Exchange) (responses : List Response) → Held (talk_more talk tree) p exchanges responses new → More talk tree p new exchanges responses
 unfolding Held
 more_apart talk tree p new exchanges responses held =
     let one = held_apart talk (λ earlier. tree then λ response. over (earlier ++ response ∷ [])) p new exchanges responses held in
@@ -69,6 +70,7 @@ more_apart talk tree p new exchanges responses held =
       response = two.came;
       mid = one.mid;
       parts = one.parts;
+      one = two.rest.1;
       talked = one.held;
       responded = held_whole tree one.mid two.mid new one.back two.front two.back two.came two.held two.parts two.rest.0 two.rest.2;
     }

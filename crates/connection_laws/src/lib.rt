@@ -43,8 +43,9 @@ pub fn law_connection_sound()
     ensures { ConnectionSound }
 {}
 
-/// Each response of a connection has its own stretch of what the connection has asked, one behind another. Where no reply in that makes the
-/// session the victim of a deadlock, or says that a lock stands in its way, the response does not tell that error.
+/// Each response of a connection is what its message comes to by its own stretch of what the connection has asked, one behind another.
+/// Where no reply in that makes the session the victim of a deadlock, or says that a lock stands in its way, the response does not tell
+/// that error.
 pub fn law_connection_causes()
     ensures { ConnectionCauses }
 {}
