@@ -303,7 +303,7 @@ class DriverMaker(Maker):
         if self.may(0.5):
             return f"rpc sp_executesql {quoted(self.definition())}"
         self.handles.append([])
-        return f"rpc #13 INT OUT, NTEXT, {quoted(self.definition())}"
+        return f"rpc #13 {self.sent()}, NTEXT, {quoted(self.definition())}"
 
     def executes(self):
         declared = self.declared()
@@ -314,8 +314,12 @@ class DriverMaker(Maker):
         self.handles.append(declared)
         texts = [spelled(declared), quoted(self.work())]
         if self.may(0.3):
-            return ", ".join(["rpc #11 INT OUT", *texts])
-        return ", ".join(["rpc #13 INT OUT", *texts, *self.arguments(declared)])
+            return ", ".join([f"rpc #11 {self.sent()}", *texts])
+        return ", ".join([f"rpc #13 {self.sent()}", *texts, *self.arguments(declared)])
+
+    def sent(self):
+        """The first parameter of a call that tells a handle: NULL, or a handle, under which nothing is kept any longer then."""
+        return f"{self.rand.randint(1, len(self.handles) + 1)} OUT" if self.may(0.15) else "INT OUT"
 
     def again(self):
         """What was prepared, or was not."""

@@ -15,6 +15,7 @@ from .values import BIGINT, INT, SMALLINT, TINYINT, Failure, converted, escaped,
 from .values import BIT as BITS
 
 MOST_PARAMETERS, MOST_KEPT, MOST_UNITS, LONGEST = 10_000, 1_000, 1_048_576, 4_000
+LAST_HANDLE = 2_147_483_647
 WHOLES = {1: TINYINT, 2: SMALLINT, 4: INT, 8: BIGINT}
 RESET = (
     "IF @@TRANCOUNT > 0 ROLLBACK; SET XACT_ABORT OFF; SET NOCOUNT OFF; SET TRANSACTION ISOLATION LEVEL READ COMMITTED; "
@@ -41,6 +42,10 @@ class Parameter(NamedTuple):
     def text_or_nothing(self):
         """The same, where NULL and what is not given are an empty text."""
         return "" if self.is_missing or self.value is None else self.text()
+
+    def handle(self):
+        """The whole number that it gives, or None."""
+        return self.value if isinstance(self.value, int) and self.kind != BITS and not self.is_missing else None
 
 
 class Errand(NamedTuple):
@@ -90,7 +95,8 @@ def size_for(kind, spelled):
 
 
 def word_for(kind, spelled):
-    return "NVARCHAR" if kind == "word" and spelled.upper() in ("VARCHAR", "CHAR", "NCHAR") else spelled
+    word = spelled.upper() if kind == "word" else ""
+    return "NVARCHAR" if word in ("VARCHAR", "CHAR", "NCHAR") else "NVARCHAR(4000)" if word in ("TEXT", "NTEXT") else spelled
 
 
 def is_defining(statement):
@@ -138,6 +144,8 @@ class Calls:
 
     def taken(self, name, parameters):
         self.tells = False
+        if len(parameters) > MOST_PARAMETERS:
+            return Errand("unmatched")
         if name == "sp_executesql":
             return self.execute_sql(parameters)
         if self.has_drivers and name in ("sp_prepare", "sp_prepexec"):
@@ -166,8 +174,9 @@ class Calls:
         if len(parameters) < 3:
             return Errand("unmatched")
         declarations, statement = parameters[1].text_or_nothing(), parameters[2].text()
-        if declarations is None or statement is None:
+        if declarations is None or statement is None or self.given == LAST_HANDLE:
             return Errand("unmatched")
+        self.kept.pop(parameters[0].handle(), None)
         self.given, self.tells = self.given + 1, True
         self.kept[self.given] = declarations, statement
         self.shed()
@@ -183,9 +192,8 @@ class Calls:
         return sum(len(text) for texts in self.kept.values() for text in texts)
 
     def of_handle(self, is_run, parameters):
-        is_given = parameters and not parameters[0].is_missing and parameters[0].kind != BITS
-        handle = parameters[0].value if is_given else None
-        if not isinstance(handle, int):
+        handle = parameters[0].handle() if parameters else None
+        if handle is None:
             return Errand("unmatched")
         if handle not in self.kept:
             return Errand("unknown", handle)

@@ -22,7 +22,7 @@ use Rattle.rpc_requests.specs.Fit.{AreDriverParameters, IsDriverParameter, IsNam
 use Rattle.batch_meaning.specs.declared.errand.Errand.{Errand}
 use Rattle.batch_meaning.specs.declared.errand.Way.TheVariants as way
 use Rattle.batch_meaning.specs.declared.prepared.PreparedStatement.{PreparedStatement}
-use Rattle.batch_meaning.specs.Drivers.{KeptStatements, Source, Taken, by_handle, executed, executes, finds_kept, handle_in, is_above, keeps, kept_under, named_errand, next_handle, prepared_by, prepares, reset_text, short_value, shortened, source_for, sql_source, system_errand, system_taken, taken, target_taken, unmatched, unprepared, used_by, with_handle, without}
+use Rattle.batch_meaning.specs.Drivers.{KeptStatements, Source, Taken, are_too_many, by_handle, executed, executes, finds_kept, handle_in, is_above, keeps, kept_under, named_errand, next_handle, prepared_by, prepares, reset_text, served_by, short_value, shortened, source_for, sql_source, system_errand, system_taken, taken, target_taken, unmatched, unprepared, used_by, with_handle, without, without_sent}
 
 -- ---- values
 
@@ -121,9 +121,13 @@ module _ (ahead : ℕ) (parameters : List RpcParameter) (fit : AreDriverParamete
   system_fit p Unprepare = unprepared_fit p (handle_in parameters)
   system_fit p Reset = all_fit ahead parameters fit
 
+  served_fit : (p : KeptStatements) (procedure : DriverProcedure) (many : Bool) → AllByRecursion IsParameter (served_by many p parameters procedure).0.parameters
+  served_fit p procedure true = all_fit ahead parameters fit
+  served_fit p procedure false = system_fit p procedure
+
 target_fit : (p : KeptStatements) (parameters : List RpcParameter) (target : DriverTarget) → AreDriverParameters (front_count target) parameters → AllByRecursion IsParameter (target_taken p parameters target).0.parameters
 target_fit p parameters (Named name) fit = as_they_are parameters fit
-target_fit p parameters (System procedure) fit = system_fit (front_of procedure) parameters fit p procedure
+target_fit p parameters (System procedure) fit = served_fit (front_of procedure) parameters fit p procedure (are_too_many parameters)
 
 pub taken_fit : (p : KeptStatements) (call : DriverCall) → AreDriverParameters (front_count call.target) call.parameters → All IsParameter (taken p call).0.parameters
 taken_fit p call fit = All-from_recursion IsParameter (taken p call).0.parameters (target_fit p call.parameters call.target fit)
@@ -148,8 +152,17 @@ module _ (result : Result Errand Memory) (q : KeptStatements) where
   pub named_is : (p : KeptStatements) (call : DriverCall) (name : List ℕ) → call.target ≡ Named name → q ≡ p → IfOk result (λ errand. errand ≡ named_errand name call.parameters) → Is (taken p call)
   named_is p call name at same is = subst (λ (target : DriverTarget). Is (target_taken p call.parameters target)) (sym at) (both_are (named_errand name call.parameters) p same is)
 
-  pub system_is : (p : KeptStatements) (call : DriverCall) (procedure : DriverProcedure) → call.target ≡ System procedure → Is (system_taken p call.parameters procedure) → Is (taken p call)
+  pub system_is : (p : KeptStatements) (call : DriverCall) (procedure : DriverProcedure) → call.target ≡ System procedure → Is (served_by (are_too_many call.parameters) p call.parameters procedure)
+      → Is (taken p call)
   system_is p call procedure at is = subst (λ (target : DriverTarget). Is (target_taken p call.parameters target)) (sym at) is
+
+  pub refused_is : (p : KeptStatements) (parameters : List RpcParameter) (procedure : DriverProcedure) → are_too_many parameters ≡ true → q ≡ p → IfOk result (λ errand. errand ≡ unmatched parameters)
+      → Is (served_by (are_too_many parameters) p parameters procedure)
+  refused_is p parameters procedure many same is = subst (λ (b : Bool). Is (served_by b p parameters procedure)) (sym many) (both_are (unmatched parameters) p same is)
+
+  pub served_is : (p : KeptStatements) (parameters : List RpcParameter) (procedure : DriverProcedure) → are_too_many parameters ≡ false → Is (system_taken p parameters procedure)
+      → Is (served_by (are_too_many parameters) p parameters procedure)
+  served_is p parameters procedure few is = subst (λ (b : Bool). Is (served_by b p parameters procedure)) (sym few) is
 
   pub fits_so : (p : KeptStatements) (call : DriverCall) → AreDriverParameters (front_count call.target) call.parameters → Is (taken p call) → IfOk result (λ errand. All IsParameter errand.parameters)
   fits_so p call fit is = by_result result is
@@ -201,6 +214,14 @@ module _ (result : Result Errand Memory) (q : KeptStatements) where
         → IfOk result (λ errand. errand ≡ system_errand way.Tells None parameters) → Is (finds_kept (unprepared p parameters handle) p parameters handle found)
     unprepares_is None some same is = absurd (let never : false ≡ true = some in cc)
     unprepares_is (Some one) some same is = both_are (system_errand way.Tells None parameters) (without handle p) same is
+
+-- what is kept under a handle that was sent, or none was
+module _ (p : KeptStatements) (sent : Option ℤ) where
+  pub none_sent : sent ≡ None → p ≡ without_sent sent p
+  none_sent is = sym (ap (λ (one : Option ℤ). without_sent one p) is)
+
+  pub sent_dropped : (q : KeptStatements) (handle : ℤ) → sent ≡ Some handle → q ≡ without handle p → q ≡ without_sent sent p
+  sent_dropped q handle is same = same ∙ sym (ap (λ (one : Option ℤ). without_sent one p) is)
 
 -- what is run of what is kept under a handle
 module _ (found : Option PreparedStatement) where

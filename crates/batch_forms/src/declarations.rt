@@ -186,6 +186,12 @@ fn type_for(alloc: Global, word: &[u16]) -> Result<Option<Units>, Memory>
     if is_spelling(b"NCHAR", word) {
         return Ok(Some(Units::of_ascii(alloc, b"NVARCHAR")?));
     }
+    if is_spelling(b"TEXT", word) {
+        return Ok(Some(Units::of_ascii(alloc, b"NVARCHAR(4000)")?));
+    }
+    if is_spelling(b"NTEXT", word) {
+        return Ok(Some(Units::of_ascii(alloc, b"NVARCHAR(4000)")?));
+    }
     Ok(None)
 }
 

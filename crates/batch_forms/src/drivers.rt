@@ -1,13 +1,13 @@
 //! Calls as drivers spell them: what one is run as, and which statements are prepared behind it.
 
-ghost use Rattle.std.specs.Prelude.{◌≡◌, [], ◌∷◌, ◌++◌, All, IfOk, None, Some, is_some, map, option_map, pos};
+ghost use Rattle.std.specs.Prelude.{◌≡◌, ◌++◌, All, IfOk, None, Some, is_some, map, option_map, pos};
 ghost use Rattle.std.specs.Option.{option_copied};
 ghost use Rattle.value_types.specs.declared.sql_type.SqlType.TheVariants.{Int};
 ghost use Rattle.value_types.specs.declared.value.Value.TheVariants.{Whole};
 ghost use Rattle.rpc_requests.specs.declared.call.DriverProcedure.TheVariants.{Reset};
 ghost use Rattle.rpc_requests.specs.Drivers.{front_count};
 ghost use Rattle.rpc_requests.specs.Fit.{AreDriverParameters, IsParameter};
-ghost use Rattle.batch_meaning.specs.Drivers.{by_handle, executed, executes, finds_kept, handle_in, is_above, is_longer, keeps, keeps_texts, kept_under, named_errand, optional_text, prepared_by, prepares, reset_text, short_value, shortened, source_for, sql_source, system_errand, system_taken, taken, unmatched, unprepared, way_if, with_handle};
+ghost use Rattle.batch_meaning.specs.Drivers.{are_too_many, by_handle, executed, executes, finds_kept, handle_in, handle_of, is_above, is_longer, keeps, keeps_both, keeps_texts, kept_under, named_errand, optional_text, prepared_by, prepares, reset_text, served_by, short_value, shortened, source_for, sql_source, system_errand, system_taken, taken, unmatched, unprepared, way_if, with_handle, without_sent};
 ghost use Rattle.batch_meaning.specs.declared.errand.Way.TheVariants.{Unknown};
 ghost use Rattle.std.specs.Fmt.{signed_decimal};
 ghost use Rattle.batch_meaning.specs.Rpc.{text_in};
@@ -26,6 +26,9 @@ const OWN_OF_PREPARED: u8 = 3;
 /// How many parameters of `sp_execute` are its own: the handle.
 const OWN_OF_EXECUTE: u8 = 1;
 
+/// How many parameters a call may have.
+const MOST_PARAMETERS: usize = 10_000;
+
 /// What a call of a driver is run as; what is kept of prepared statements becomes what is kept behind it.
 pub fn take_call(
     alloc: Global,
@@ -40,7 +43,7 @@ pub fn take_call(
     match target {
         DriverTarget::Named(name) => named_errand(alloc, name, parameters),
         DriverTarget::System(procedure) => {
-            take_system(alloc, prepared, parameters.into_vec(), procedure)
+            take_served(alloc, prepared, parameters.into_vec(), procedure)
         }
     }
 }
@@ -57,7 +60,29 @@ fn named_errand(alloc: Global, name: Units, parameters: RpcParameters) -> Result
     })
 }
 
-/// A call of a procedure of the server.
+/// A call of a procedure of the server. One that is refused for its many parameters keeps and drops nothing.
+fn take_served(
+    alloc: Global,
+    prepared: &mut PreparedStatements,
+    parameters: Vec<RpcParameter>,
+    procedure: DriverProcedure,
+) -> Result<Errand, Memory>
+    ensures { IfOk result (λ errand. (errand, prepared.new) ≡ served_by (are_too_many parameters.items) prepared.old parameters.items procedure) }
+{
+    if are_too_many(parameters.as_slice()) {
+        return unmatched(alloc, parameters);
+    }
+    take_system(alloc, prepared, parameters, procedure)
+}
+
+/// Whether these are more parameters than a call may have.
+fn are_too_many(parameters: &[RpcParameter]) -> bool
+    ensures { result ≡ are_too_many parameters.now }
+{
+    MOST_PARAMETERS < parameters.len()
+}
+
+/// The same of one that is not.
 fn take_system(
     alloc: Global,
     prepared: &mut PreparedStatements,
@@ -147,10 +172,10 @@ fn keep(
         [] => Ok(None),
         [_] => Ok(None),
         [_, _] => Ok(None),
-        [_, declarations, statement, ..] => {
+        [handle, declarations, statement, ..] => {
             let declared = optional_text(declarations);
             let body = text_in(statement);
-            keep_texts(alloc, prepared, declared, body)
+            keep_texts(alloc, prepared, handle, declared, body)
         }
     }
 }
@@ -159,19 +184,45 @@ fn keep(
 fn keep_texts(
     alloc: Global,
     prepared: &mut PreparedStatements,
+    handle: &RpcParameter,
     declarations: Option<&[u16]>,
     statement: Option<&[u16]>,
 ) -> Result<Option<(Way, Units)>, Memory>
-    ensures { IfOk result (λ source. (source, prepared.new) ≡ keeps_texts prepared.old (option_copied declarations.entry) (option_copied statement.entry)) }
+    ensures { IfOk result (λ source. (source, prepared.new) ≡ keeps_texts prepared.old (handle_of handle.now) (option_copied declarations.entry) (option_copied statement.entry)) }
 {
     match (declarations, statement) {
-        (Some(declared), Some(body)) => {
-            prepared.keep(alloc, declared, body)?;
-            let source = source_for(alloc, OWN_OF_PREPARED, declared, body)?;
-            Ok(Some(source))
-        }
+        (Some(declared), Some(body)) => keep_both(alloc, prepared, handle, declared, body),
         _ => Ok(None),
     }
+}
+
+/// The same of texts, while a handle is left. What is kept under the handle that is sent goes.
+fn keep_both(
+    alloc: Global,
+    prepared: &mut PreparedStatements,
+    handle: &RpcParameter,
+    declarations: &[u16],
+    statement: &[u16],
+) -> Result<Option<(Way, Units)>, Memory>
+    ensures { IfOk result (λ source. (source, prepared.new) ≡ keeps_both prepared.old (handle_of handle.now) declarations.now statement.now) }
+{
+    if !prepared.has_handle() {
+        return Ok(None);
+    }
+    let source = source_for(alloc, OWN_OF_PREPARED, declarations, statement)?;
+    drop_sent(prepared, handle);
+    prepared.keep(alloc, declarations, statement)?;
+    Ok(Some(source))
+}
+
+/// Keeps what is under the handle that a parameter gives no longer, if it gives one.
+fn drop_sent(prepared: &mut PreparedStatements, handle: &RpcParameter)
+    ensures { prepared.new ≡ without_sent (handle_of handle.now) prepared.old }
+{
+    let Some(number) = handle_of(handle) else {
+        return;
+    };
+    prepared.drop_of(number);
 }
 
 /// What is run of what was kept under a handle, if something was.
@@ -361,7 +412,7 @@ fn handle_in(parameters: &[RpcParameter]) -> Option<i64>
 
 /// The same of that parameter.
 fn handle_of(handle: &RpcParameter) -> Option<i64>
-    ensures { result ≡ handle_in (handle.now ∷ []) }
+    ensures { result ≡ handle_of handle.now }
 {
     if handle.missing {
         return None;

@@ -17,10 +17,14 @@ use Rattle.batch_meaning.specs.Drivers.{KeptStatements, declared_as, declared_fr
 
 -- ---- declarations
 
--- sizes of bytes, and types that are read as texts of units
+-- sizes of bytes, and types that are read as texts of units, with a size or without
 declared_types : declared_as (codes "@a VARCHAR(8000), @b nchar(MAX),\n@c INT") ≡ codes "@a NVARCHAR(4000), @b NVARCHAR(4000),\n@c INT"
 unfolding declared_from lexing_of read_on piece_of piece_by number_piece number_of at_name_piece sign_piece single_sign double_sign opening_of
 declared_types = refl
+
+sizeless_types : declared_as (codes "@a text, @TEXT NTEXT, @b NVARCHAR(text)") ≡ codes "@a NVARCHAR(4000), @TEXT NVARCHAR(4000), @b NVARCHAR(text)"
+unfolding declared_from lexing_of read_on piece_of piece_by at_name_piece sign_piece single_sign double_sign opening_of
+sizeless_types = refl
 
 -- a number that is no size is a default, and so is MAX none elsewhere
 declared_defaults : declared_as (codes "@a INT = 5000, @b INT = -5000, @c CHAR(8000) = N'5000', @d MAX") ≡ codes "@a INT = 5000, @b INT = -5000, @c NVARCHAR(4000) = N'5000', @d MAX"
@@ -69,6 +73,24 @@ first_taken : taken none_kept first ≡ (
 )
 unfolding shed declared_from lexing_of read_on piece_of piece_by at_name_piece number_piece number_of sign_piece single_sign double_sign opening_of word_kind
 first_taken = refl
+
+-- the same with the handle 1: what is kept under it goes
+abbrev anew : DriverCall
+anew = record first { parameters = told 1 ∷ given (codes "@P1 INT") ∷ given (codes "SELECT @P1") ∷ number 5 ∷ [] }
+
+anew_taken : taken one_kept anew ≡ (
+  record { way = way.RunsRead 3; parameters = told 2 ∷ given (codes "@P1 INT") ∷ given (codes "SELECT @P1") ∷ number 5 ∷ []; text = Some selects },
+  record { given = 2; kept = record statement { handle = 2 } ∷ [] },
+)
+unfolding shed declared_from lexing_of read_on piece_of piece_by at_name_piece number_piece number_of sign_piece single_sign double_sign opening_of word_kind
+anew_taken = refl
+
+-- behind the last handle nothing is kept any more, and nothing is dropped
+abbrev spent : KeptStatements
+spent = record one_kept { given = 2147483647 }
+
+spent_taken : taken spent anew ≡ (record { way = way.Unmatched; parameters = anew.parameters; text = None }, spent)
+spent_taken = refl
 
 -- sp_execute 1, 6
 again_taken : taken one_kept (record { target = System Execute; parameters = number 1 ∷ number 6 ∷ [] }) ≡

@@ -32,16 +32,19 @@ use Rattle.batch_meaning.specs.declared.errand.Errand.{Errand}
 use Rattle.batch_meaning.specs.declared.errand.Way.{Way}
 use Rattle.batch_meaning.specs.declared.errand.Way.TheVariants as way
 use Rattle.batch_meaning.specs.declared.prepared.PreparedStatement.{PreparedStatement}
-use Rattle.batch_meaning.specs.Rpc.{naming_text, sql_text, text_in}
+use Rattle.batch_meaning.specs.Rpc.{is_too_many, naming_text, sql_text, text_in}
 
 -- ---- declarations
 
--- VARCHAR, CHAR and NCHAR are texts of units, and MAX is the longest: declarations are read so, until there are such types
+-- VARCHAR, CHAR and NCHAR are texts of units, TEXT and NTEXT, which have no size, are the longest, and so is MAX:
+-- declarations are read so, until there are such types
 abbrev pub type_for : List ℕ → Option (List ℕ)
 type_for word =
     if same_units (codes "VARCHAR") word then Some (codes "NVARCHAR")
     else if same_units (codes "CHAR") word then Some (codes "NVARCHAR")
     else if same_units (codes "NCHAR") word then Some (codes "NVARCHAR")
+    else if same_units (codes "TEXT") word then Some (codes "NVARCHAR(4000)")
+    else if same_units (codes "NTEXT") word then Some (codes "NVARCHAR(4000)")
     else None
 
 abbrev pub longest_for : List ℕ → Option (List ℕ)
@@ -154,6 +157,10 @@ shed (one ∷ rest) = if are_many (one ∷ rest) then shed rest else one ∷ res
 abbrev pub last_handle : ℕ
 last_handle = 2147483647
 
+-- one is left to be given
+abbrev pub has_handle : KeptStatements → Bool
+has_handle p = nat_lt p.given last_handle
+
 abbrev pub next_handle : KeptStatements → ℕ
 next_handle p = min (p.given + 1) last_handle
 
@@ -179,6 +186,11 @@ without_at p (Some place) = record p { kept = remove p.kept place }
 
 abbrev pub without : ℤ → KeptStatements → KeptStatements
 without handle p = without_at p (place_of handle p)
+
+-- what is under the handle that was sent goes, if one was
+abbrev pub without_sent : Option ℤ → KeptStatements → KeptStatements
+without_sent None p = p
+without_sent (Some handle) p = without handle p
 
 -- what is used is the last
 abbrev pub with_last : KeptStatements → PreparedStatement → KeptStatements
@@ -212,14 +224,18 @@ abbrev pub with_handle : ℕ → List RpcParameter → List RpcParameter
 with_handle number [] = []
 with_handle number (handle ∷ others) = record handle { kind = Int; value = Whole (pos number) } ∷ others
 
--- the handle that the first gives
+-- the handle that one gives
 abbrev pub whole_in : Value → Option ℤ
 whole_in (Whole number) = Some number
 whole_in other = None
 
+abbrev pub handle_of : RpcParameter → Option ℤ
+handle_of parameter = if parameter.missing then None else whole_in parameter.value
+
+-- the first is the handle
 abbrev pub handle_in : List RpcParameter → Option ℤ
 handle_in [] = None
-handle_in (handle ∷ others) = if handle.missing then None else whole_in handle.value
+handle_in (handle ∷ others) = handle_of handle
 
 -- a text that may be wanting: NULL is an empty one
 abbrev pub text_or_none : Value → Option (List ℕ)
@@ -247,13 +263,21 @@ abbrev pub executes : List RpcParameter → Option Source → Errand
 executes parameters None = unmatched parameters
 executes parameters (Some source) = system_errand source.0 (Some source.1) parameters
 
--- sp_prepare and sp_prepexec: a handle that is told, declarations, which may be wanting, and the statement are kept
-abbrev pub keeps_texts : KeptStatements → Option (List ℕ) → Option (List ℕ) → Option Source × KeptStatements
-keeps_texts p (Some declarations) (Some statement) = (Some (source_for 3 declarations statement), with_statement declarations statement p)
-keeps_texts p declarations statement = (None, p)
+-- sp_prepare and sp_prepexec: behind a handle that is told stand declarations, which may be wanting, and the statement.
+-- While a handle is left to be given they are kept, and what was kept under the one that was sent goes first
+abbrev pub keeps_if : Bool → KeptStatements → Option ℤ → List ℕ → List ℕ → Option Source × KeptStatements
+keeps_if true p sent declarations statement = (Some (source_for 3 declarations statement), with_statement declarations statement (without_sent sent p))
+keeps_if false p sent declarations statement = (None, p)
+
+abbrev pub keeps_both : KeptStatements → Option ℤ → List ℕ → List ℕ → Option Source × KeptStatements
+keeps_both p sent declarations statement = keeps_if (has_handle p) p sent declarations statement
+
+abbrev pub keeps_texts : KeptStatements → Option ℤ → Option (List ℕ) → Option (List ℕ) → Option Source × KeptStatements
+keeps_texts p sent (Some declarations) (Some statement) = keeps_both p sent declarations statement
+keeps_texts p sent declarations statement = (None, p)
 
 abbrev pub keeps : KeptStatements → List RpcParameter → Option Source × KeptStatements
-keeps p (handle ∷ declarations ∷ statement ∷ others) = keeps_texts p (optional_text declarations) (text_in statement)
+keeps p (handle ∷ declarations ∷ statement ∷ others) = keeps_texts p (handle_of handle) (optional_text declarations) (text_in statement)
 keeps p parameters = (None, p)
 
 -- the first runs nothing
@@ -297,13 +321,22 @@ system_taken p parameters Execute = by_handle (executed p parameters) p paramete
 system_taken p parameters Unprepare = by_handle (unprepared p parameters) p parameters (handle_in parameters)
 system_taken p parameters Reset = (system_errand way.RunsBatch (Some reset_text) parameters, record p { kept = [] })
 
+-- more parameters than a call may have, which is refused for them
+abbrev pub are_too_many : List RpcParameter → Bool
+are_too_many parameters = is_too_many (record { way = way.Unmatched; parameters = parameters; text = None })
+
+-- then nothing is kept or dropped
+abbrev pub served_by : Bool → KeptStatements → List RpcParameter → DriverProcedure → Taken
+served_by true p parameters procedure = (unmatched parameters, p)
+served_by false p parameters procedure = system_taken p parameters procedure
+
 -- a procedure that was created
 abbrev pub named_errand : List ℕ → List RpcParameter → Errand
 named_errand name parameters = record { way = way.LooksUp name; parameters = parameters; text = Some (naming_text name) }
 
 abbrev pub target_taken : KeptStatements → List RpcParameter → DriverTarget → Taken
 target_taken p parameters (Named name) = (named_errand name parameters, p)
-target_taken p parameters (System procedure) = system_taken p parameters procedure
+target_taken p parameters (System procedure) = served_by (are_too_many parameters) p parameters procedure
 
 -- What a call of a driver is run as, and what is kept behind it.
 abbrev pub taken : KeptStatements → DriverCall → Taken

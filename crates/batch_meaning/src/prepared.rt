@@ -1,7 +1,7 @@
 //! Statements that are prepared, by their handles.
 
 ghost use Rattle.std.specs.Prelude.{◌≡◌, ◌-◌, [], IfOk, None, Some, if◌then◌else◌, nat_le, nat_lt, option_map, sum_by};
-ghost use Rattle.batch_meaning.specs.Drivers.{are_many, are_within, is_of, kept_under, next_handle, none_kept, place_of, shed, units_in, used_by, with_statement, without};
+ghost use Rattle.batch_meaning.specs.Drivers.{are_many, are_within, is_of, kept_under, has_handle, next_handle, none_kept, place_of, shed, units_in, used_by, with_statement, without};
 
 use std::alloc::Global;
 use std::marker::Model;
@@ -61,6 +61,13 @@ impl PreparedStatements {
             return None;
         };
         Some(&self.kept[place])
+    }
+
+    /// Whether a handle is left to be given.
+    pub fn has_handle(&self) -> bool
+        ensures { result ≡ has_handle self.now }
+    {
+        self.given < LAST_HANDLE
     }
 
     /// The handle that is given next.

@@ -15,11 +15,11 @@ use Rattle.rpc_requests.specs.Reading.{rpc_of}
 use Rattle.rpc_requests.proofs.Sizes.{HasShort, HasSmall, IsSmall, IsSmallCall, rpc_small}
 use Rattle.batch_meaning.specs.Rpc.{is_sql, name_of, rpc_text, sql_in, text_in, text_value}
 
--- what is no longer than a payload is no longer than any may be; declarations are read as nine times as many units at most
+-- what is no longer than a payload is no longer than any may be; declarations are read as fifteen times as many units at most
 pub within : (n : ℕ) → n ≤ payload_limit → (m : ℕ) → m ≤ n → m ≤ payload_limit
 within n limit m few = omega (arith, few, limit)
 
-wider : (n : ℕ) → n ≤ payload_limit → (m : ℕ) → m ≤ n → m ≤ 9 * payload_limit
+wider : (n : ℕ) → n ≤ payload_limit → (m : ℕ) → m ≤ n → m ≤ 15 * payload_limit
 wider n limit m few = omega (arith, few, limit)
 
 -- ---- the text that is read for a call
@@ -42,7 +42,7 @@ value_few n false (Whole number) small = tt
 value_few n false (Bit bit) small = tt
 
 -- around at most a hundred units of its own
-pub put_short : (front middle declared body : List ℕ) → length front + length middle ≤ 100 → length declared ≤ 9 * payload_limit → length body ≤ payload_limit → length (front ++ declared ++ middle ++ body) ≤ longest_text
+pub put_short : (front middle declared body : List ℕ) → length front + length middle ≤ 100 → length declared ≤ 15 * payload_limit → length body ≤ payload_limit → length (front ++ declared ++ middle ++ body) ≤ longest_text
 put_short front middle declared body own one two =
     omega (arith, length-append (front ++ declared ++ middle) body, length-append (front ++ declared) middle, length-append front declared)
 

@@ -18,7 +18,7 @@ use Rattle.rpc_requests.specs.Drivers.{driver_call_of}
 use Rattle.rpc_requests.proofs.Sizes.{HasSmall, IsSmall}
 use Rattle.rpc_requests.proofs.DriverSizes.{HasShort, driver_small}
 use Rattle.batch_meaning.specs.declared.prepared.PreparedStatement.{PreparedStatement}
-use Rattle.batch_meaning.specs.Drivers.{KeptStatements, Source, Taken, are_many, by_handle, declared_as, executed, executes, finds_kept, handle_in, is_batch, keeps, keeps_texts, kept_under, next_handle, optional_text, place_of, prepared_by, prepares, reset_text, shed, source_by, source_for, sql_source, system_taken, taken, target_taken, text_or_none, unprepared, with_statement, without, without_at}
+use Rattle.batch_meaning.specs.Drivers.{KeptStatements, Source, Taken, are_many, are_too_many, by_handle, declared_as, executed, executes, finds_kept, handle_in, handle_of, has_handle, is_batch, keeps, keeps_both, keeps_if, keeps_texts, kept_under, next_handle, optional_text, place_of, prepared_by, prepares, reset_text, served_by, shed, source_by, source_for, sql_source, system_taken, taken, target_taken, text_or_none, unprepared, with_statement, without, without_at, without_sent}
 use Rattle.batch_meaning.specs.Rpc.{text_in}
 use Rattle.cause_laws.proofs.Clean.{all_both}
 use Rattle.text_laws.proofs.Declared.{declared_few}
@@ -79,6 +79,10 @@ module _ (p : KeptStatements) (kept : AreShortKept p) where
       by_place None = kept
       by_place (Some place) = remove_short p.kept place kept
 
+  sent_short : (sent : Option ℤ) → AreShortKept (without_sent sent p)
+  sent_short None = kept
+  sent_short (Some handle) = without_short handle
+
 -- ---- what is run
 
 short_text : (text : List ℕ) → length text ≤ payload_limit → length text ≤ longest_text
@@ -104,6 +108,10 @@ executes_short parameters (Some source) short = short
 prepared_short : (runs : Bool) (number : ℕ) (parameters : List RpcParameter) (source : Option Source) → IsShortSource source → IsShortText (prepared_by runs number parameters source).text
 prepared_short runs number parameters None short = tt
 prepared_short runs number parameters (Some source) short = short
+
+-- what is run of a statement is short, and what is kept behind it
+abbrev AreBothShort : Option Source × KeptStatements → Type 0
+AreBothShort behind = IsShortSource behind.0 × AreShortKept behind.1
 
 -- the text of the errand is short, and what is kept behind it
 abbrev pub IsShortTaken : Taken → Type 0
@@ -139,19 +147,26 @@ module _ (n : ℕ) (limit : n ≤ payload_limit) where
   optional_few false (Bit bit) small = tt
 
   module _ (p : KeptStatements) (kept : AreShortKept p) where
-    keeps_short : (parameters : List RpcParameter) → AllByRecursion (HasSmall n) parameters → IsShortSource (keeps p parameters).0 × AreShortKept (keeps p parameters).1
+    both_short : (sent : Option ℤ) (declarations statement : List ℕ) → length declarations ≤ payload_limit → length statement ≤ payload_limit → AreBothShort (keeps_both p sent declarations statement)
+    both_short sent declarations statement one two = by_left (has_handle p)
+      where
+        by_left : (left : Bool) → AreBothShort (keeps_if left p sent declarations statement)
+        by_left true = (source_short 3 declarations statement one two, with_short (without_sent sent p) (sent_short p kept sent) declarations statement one two)
+        by_left false = (tt, kept)
+
+    keeps_short : (parameters : List RpcParameter) → AllByRecursion (HasSmall n) parameters → AreBothShort (keeps p parameters)
     keeps_short [] small = (tt, kept)
     keeps_short (handle ∷ []) small = (tt, kept)
     keeps_short (handle ∷ declarations ∷ []) small = (tt, kept)
     keeps_short (handle ∷ declarations ∷ statement ∷ others) small =
         by_texts (optional_text declarations) (text_in statement) (optional_few declarations.missing declarations.value small.1.0) (value_few n statement.missing statement.value small.1.1.0)
       where
-        by_texts : (declared body : Option (List ℕ)) → AtMostIf n declared → AtMostIf n body → IsShortSource (keeps_texts p declared body).0 × AreShortKept (keeps_texts p declared body).1
+        by_texts : (declared body : Option (List ℕ)) → AtMostIf n declared → AtMostIf n body → AreBothShort (keeps_texts p (handle_of handle) declared body)
         by_texts None None one two = (tt, kept)
         by_texts None (Some body) one two = (tt, kept)
         by_texts (Some declared) None one two = (tt, kept)
         by_texts (Some declared) (Some body) one two =
-            (source_short 3 declared body (within n limit (length declared) one) (within n limit (length body) two), with_short p kept declared body (within n limit (length declared) one) (within n limit (length body) two))
+            both_short (handle_of handle) declared body (within n limit (length declared) one) (within n limit (length body) two)
 
     prepares_short : (runs : Bool) (parameters : List RpcParameter) → AllByRecursion (HasSmall n) parameters → IsShortTaken (prepares runs p parameters)
     prepares_short runs parameters small =
@@ -182,9 +197,13 @@ module _ (n : ℕ) (limit : n ≤ payload_limit) where
     system_short parameters small Unprepare = handle_short (unprepared p parameters) parameters (unprepared_short parameters) (handle_in parameters)
     system_short parameters small Reset = (short_text reset_text (omega arith), tt)
 
+    served_short : (parameters : List RpcParameter) → AllByRecursion (HasSmall n) parameters → (procedure : DriverProcedure) (many : Bool) → IsShortTaken (served_by many p parameters procedure)
+    served_short parameters small procedure true = (tt, kept)
+    served_short parameters small procedure false = system_short parameters small procedure
+
     target_short : (parameters : List RpcParameter) → AllByRecursion (HasSmall n) parameters → (target : DriverTarget) → HasShort n target → IsShortTaken (target_taken p parameters target)
     target_short parameters small (Named name) short = (name_short n limit name short, kept)
-    target_short parameters small (System procedure) short = system_short parameters small procedure
+    target_short parameters small (System procedure) short = served_short parameters small procedure (are_too_many parameters)
 
 -- A call of a driver is run as an errand with a short text, and what is kept behind it is short.
 pub taken_short : (payload : List ℕ) (call : DriverCall) (p : KeptStatements) → length payload ≤ payload_limit → driver_call_of payload ≡ Ok call → AreShortKept p → IsShortTaken (taken p call)
