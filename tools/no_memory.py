@@ -101,6 +101,7 @@ CONVERSATION = [
     ("INSERT orders VALUES (8, N'Eve'), (9, N'Flo')", None),
     ("DECLARE c CURSOR STATIC FOR SELECT id, customer FROM orders ORDER BY id DESC", None),
     ("OPEN c", None),
+    ("DECLARE @i INT, @s NVARCHAR(20) IF @@ERROR = 0 FETCH NEXT FROM c INTO @i, @s", None),
     ("DECLARE @i INT, @s NVARCHAR(20); FETCH NEXT FROM c INTO @i, @s; SELECT @i, @s", None),
     ("CLOSE c", None),
     ("DROP TRIGGER follows", None),

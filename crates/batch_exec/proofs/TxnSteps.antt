@@ -11,17 +11,18 @@ use Rattle.txn_rules.specs.declared.state.BackKind.{BackKind}
 use Rattle.txn_rules.specs.declared.state.BackKind.TheVariants.{Mark, Whole}
 use Rattle.txn_rules.specs.declared.state.TxnState.{TxnState}
 use Rattle.txn_rules.specs.Savepoints.{mark_behind, mark_of}
-use Rattle.txn_rules.specs.State.{back_to, count_limit, is_called, is_closed, rollback_answer}
+use Rattle.txn_rules.specs.State.{back_to, commit_answer, count_limit, is_called, is_closed, rollback_answer}
+use Rattle.binder.specs.Statements.{is_maybe_long}
 use Rattle.tds_tokens.specs.declared.token.Token.{Token}
 use Rattle.batch_meaning.specs.declared.failure.Failure.{Failure}
 use Rattle.batch_meaning.specs.Failures.{plain}
-use Rattle.batch_meaning.specs.Selecting.{no_effect, result_full}
+use Rattle.batch_meaning.specs.Selecting.{Effect, no_effect, result_full}
 use Rattle.batch_meaning.specs.Settings.{outside_profile}
 use Rattle.batch_meaning.specs.Progress.{SessionProgress, AreLive, Ready, opens, size_of}
 use Rattle.batch_meaning.specs.Doing.{Doing, over, makes, Did}
 use Rattle.batch_meaning.specs.Asking.{fails, if_bytes_left}
-use Rattle.batch_meaning.specs.Transactions.{begins_outermost, begins_over, fails_of, goes_back, next_serial, nothing_open, rolls_back_to, rolls_back_whole}
-use Rattle.batch_meaning.proofs.Composed.{does_over, does_reads, does_room}
+use Rattle.batch_meaning.specs.Transactions.{begins_outermost, begins_over, commits_by, commits_transaction, fails_of, goes_back, named_first, next_serial, nothing_open, rolls_back_to, rolls_back_transaction, rolls_back_whole}
+use Rattle.batch_meaning.proofs.Composed.{does_no, does_over, does_reads, does_room}
 use Rattle.batch_exec.specs.Running.{IsAffordable, IsNumbered}
 
 -- ---- what is open
@@ -59,6 +60,14 @@ does_afforded {past = past} {after = after} {A = A} tokens (Ok these) next {sent
     by_test false same = go (let so : sent ≡ tokens = cc in so)
 does_afforded tokens (Err memory) next are is go = absurd cc
 
+-- ---- the name of one that ends a transaction
+
+-- it is looked at, and it goes on
+named_on : {past after : PortPast} (name : Option (List ℕ)) (go : SessionProgress → Doing (Result Effect Failure)) (tree : Doing (Result Effect Failure)) {p new : SessionProgress} {result : Result Effect Failure}
+    → is_maybe_long name ≡ false → go p ≡ tree → Did past after tree p (Ok result) new → Did past after (named_first name go) p (Ok result) new
+named_on {past = past} {after = after} name go tree {p = p} {new = new} {result = result} short is did =
+    does_no (is_maybe_long name) _ _ short (does_reads (subst (λ (t : Doing (Result Effect Failure)). Did past after t p (Ok result) new) (sym is) did))
+
 -- ---- BEGIN TRANSACTION
 
 pub begins_closed : (name : Option (List ℕ)) (p : SessionProgress) → p.is_open ≡ false → begins_over name p ≡ begins_outermost name (next_serial p.txn)
@@ -70,16 +79,40 @@ begins_most name p begun most = rw (begun, most) refl
 pub begins_inner : (name : Option (List ℕ)) (p : SessionProgress) → p.is_open ≡ true → nat_le count_limit p.txn.count ≡ false → begins_over name p ≡ makes (opens name) (over (Ok no_effect))
 begins_inner name p begun most = rw (begun, most) refl
 
+-- ---- COMMIT
+
+-- it is committed by this answer
+pub commits_on : {past after : PortPast} (name : Option (List ℕ)) (answer : Result Bool ℤ) {p new : SessionProgress} {result : Result Effect Failure}
+    → is_maybe_long name ≡ false → commit_answer p.txn ≡ answer → Did past after (commits_by p answer) p (Ok result) new → Did past after (commits_transaction name) p (Ok result) new
+unfolding commits_transaction
+commits_on name answer {p = p} short is did = named_on name (λ q. commits_by q (commit_answer q.txn)) (commits_by p answer) short (ap (commits_by p) is) did
+
 -- ---- ROLLBACK
 
-pub rolls_named : (given : Option (List ℕ)) (name : List ℕ) (p : SessionProgress) → given ≡ Some name → rolls_back_to given p ≡ goes_back name p (rollback_answer name p.txn)
+rolls_named : (given : Option (List ℕ)) (name : List ℕ) (p : SessionProgress) → given ≡ Some name → rolls_back_to given p ≡ goes_back name p (rollback_answer name p.txn)
 rolls_named given name p is = rw is refl
 
-pub rolls_closed : (given : Option (List ℕ)) (p : SessionProgress) → given ≡ None → is_closed p.txn ≡ true → rolls_back_to given p ≡ fails nothing_open
+rolls_closed : (given : Option (List ℕ)) (p : SessionProgress) → given ≡ None → is_closed p.txn ≡ true → rolls_back_to given p ≡ fails nothing_open
 rolls_closed given p is shut = rw (is, shut) refl
 
-pub rolls_open : (given : Option (List ℕ)) (p : SessionProgress) → given ≡ None → is_closed p.txn ≡ false → rolls_back_to given p ≡ rolls_back_whole p
+rolls_open : (given : Option (List ℕ)) (p : SessionProgress) → given ≡ None → is_closed p.txn ≡ false → rolls_back_to given p ≡ rolls_back_whole p
 rolls_open given p is shut = rw (is, shut) refl
+
+module _ {past after : PortPast} (given : Option (List ℕ)) {p new : SessionProgress} {result : Result Effect Failure} (short : is_maybe_long given ≡ false) where
+  -- to a name
+  pub rolls_to : (name : List ℕ) → given ≡ Some name → Did past after (goes_back name p (rollback_answer name p.txn)) p (Ok result) new → Did past after (rolls_back_transaction given) p (Ok result) new
+  unfolding rolls_back_transaction
+  rolls_to name is did = named_on given (rolls_back_to given) (goes_back name p (rollback_answer name p.txn)) short (rolls_named given name p is) did
+
+  -- where nothing is open
+  pub rolls_none : given ≡ None → is_closed p.txn ≡ true → Did past after (fails nothing_open) p (Ok result) new → Did past after (rolls_back_transaction given) p (Ok result) new
+  unfolding rolls_back_transaction
+  rolls_none is shut did = named_on given (rolls_back_to given) (fails nothing_open) short (rolls_closed given p is shut) did
+
+  -- whole
+  pub rolls_all : given ≡ None → is_closed p.txn ≡ false → Did past after (rolls_back_whole p) p (Ok result) new → Did past after (rolls_back_transaction given) p (Ok result) new
+  unfolding rolls_back_transaction
+  rolls_all is begun did = named_on given (rolls_back_to given) (rolls_back_whole p) short (rolls_open given p is begun) did
 
 -- a mark to which a name goes back is live
 pub named_live : (name : List ℕ) (txn : TxnState) (marks : List ℕ) (mark : ℕ) → AreLive txn.saves marks → rollback_answer name txn ≡ Ok (Mark mark) → IsTrue (list_any (λ live. nat_eq live mark) marks)

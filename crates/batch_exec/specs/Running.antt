@@ -72,8 +72,8 @@ IsSimple form = Unit {0}
 -- what a statement does that is done with its effect
 abbrev pub effects : Around → Statement → Layer → Doing (Result Effect Failure)
 effects around statement (Form-F.BeginTransaction name) = begins_transaction statement name
-effects around statement (Form-F.Commit name) = commits_transaction statement
-effects around statement (Form-F.Rollback name) = rolls_back_transaction statement name
+effects around statement (Form-F.Commit name) = commits_transaction name
+effects around statement (Form-F.Rollback name) = rolls_back_transaction name
 effects around statement (Form-F.Save name) = saves_transaction statement name
 effects around statement (Form-F.CreateTable table text) = creates_table around statement table.name text
 effects around statement (Form-F.Drop kind name) = drops around statement kind name

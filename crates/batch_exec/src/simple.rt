@@ -114,10 +114,8 @@ fn work_by_form<P: Port>(
         Form::BeginTransaction(name) => {
             begin_transaction(alloc, session, port, statement, name.as_ref())
         }
-        Form::Commit(_) => commit_transaction(alloc, session, port, statement),
-        Form::Rollback(name) => {
-            roll_back_transaction(alloc, session, port, statement, name.as_ref())
-        }
+        Form::Commit(name) => commit_transaction(alloc, session, port, name.as_ref()),
+        Form::Rollback(name) => roll_back_transaction(alloc, session, port, name.as_ref()),
         Form::Save(name) => save_transaction(alloc, session, port, statement, name),
         Form::Drop(kind, name) => {
             drop_object(alloc, session, port, statement, *kind, name, around)

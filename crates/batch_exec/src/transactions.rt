@@ -2,18 +2,19 @@
 
 ghost use Rattle.std.specs.Prelude.{◌≡◌, [], true, false, Ok, IfOk, None};
 ghost use Rattle.std.specs.Option.{option_map};
-ghost use Rattle.txn_rules.specs.State.{rollback_answer, save_refusal};
+ghost use Rattle.txn_rules.specs.State.{is_closed, rollback_answer, save_refusal};
+ghost use Rattle.binder.specs.Statements.{is_maybe_long};
 ghost use Rattle.batch_meaning.specs.Doing.{Did};
 ghost use Rattle.batch_meaning.specs.Progress.{Ready};
-ghost use Rattle.batch_meaning.specs.Tokens.{transaction_committed, transaction_rolled_back};
-ghost use Rattle.batch_meaning.specs.Transactions.{begins_outermost, begins_transaction, commits_by, commits_transaction, goes_back, next_serial, rolls_back_transaction, rolls_back_whole, saves_transaction, saves_unless, unless_own};
+ghost use Rattle.batch_meaning.specs.Transactions.{begins_outermost, begins_transaction, commits_by, commits_transaction, goes_back, next_serial, rolls_back_transaction, rolls_back_whole, saves_transaction, saves_unless};
 ghost use Rattle.batch_meaning.specs.Asking.{with_room};
+ghost use Rattle.session_state.specs.Ending.{begun_serial};
 ghost use Rattle.batch_exec.specs.Running.{IsAffordable, IsNumbered};
 
 use batch_meaning::Failure;
 use session_state::{
-    Effect, NOTHING_OPEN, OUTSIDE_PROFILE, RESULT_FULL, SessionState, TokenList, no_memory,
-    transaction_begun, transaction_committed, transaction_rolled_back,
+    Effect, Endings, LONGEST_NAME, NOTHING_OPEN, OUTSIDE_LIMITS, OUTSIDE_PROFILE, RESULT_FULL,
+    SessionState, TokenList, no_memory, transaction_begun,
 };
 use statement_exec::{bind_first, take_back};
 use std::alloc::Global;
@@ -33,6 +34,16 @@ fn affordable(
         Ok(tokens) if session.is_full(&tokens) => Err(Failure::plain(RESULT_FULL)),
         Ok(tokens) => Ok(tokens),
         Err(_) => Err(no_memory()),
+    }
+}
+
+/// Whether the name of a transaction is too long.
+fn is_maybe_long(name: Option<&Units>) -> bool
+    ensures { result ≡ is_maybe_long (option_map (λ name. name.now) name.entry) }
+{
+    match name {
+        Some(name) => LONGEST_NAME < name.len(),
+        None => false,
     }
 }
 
@@ -58,13 +69,26 @@ pub(crate) fn begin_transaction<P: Port>(
     if session.is_nested_most() {
         return Err(Failure::plain(OUTSIDE_PROFILE));
     }
-    match copy_of(alloc, name) {
-        Ok(name) => {
-            session.open(name);
-            Ok(Effect::none(alloc))
-        }
-        Err(_) => Err(no_memory()),
-    }
+    let Ok((name, endings)) = begin_parts(alloc, session, name) else {
+        return Err(no_memory());
+    };
+    session.open(name, endings);
+    Ok(Effect::none(alloc))
+}
+
+/// The name of a transaction that begins, and what is told at its end.
+fn begin_parts(
+    alloc: Global,
+    session: &SessionState,
+    name: Option<&Units>,
+) -> Result<(Option<Units>, Endings), Memory>
+    ensures name { IfOk result (λ parts. parts.0 ≡ option_map (λ name. name.now) name.entry) }
+    ensures number { IfOk result (λ parts. parts.1 ≡ begun_serial session.now.txn) }
+{
+    Ok((
+        copy_of(alloc, name)?,
+        Endings::new(alloc, session.begun_serial())?,
+    ))
 }
 
 /// A name that is kept.
@@ -91,12 +115,12 @@ fn begin_outermost<P: Port>(
     ensures none { IfOk result (λ effect. effect.sets ≡ []) }
 {
     let tokens = affordable(session, transaction_begun(alloc, session.next_serial()))?;
-    let Ok(name) = copy_of(alloc, name) else {
+    let Ok((name, endings)) = begin_parts(alloc, session, name) else {
         return Err(no_memory());
     };
     match session.ask(port, &Op::Begin) {
         Reply::Began => {
-            session.open(name);
+            session.open(name, endings);
             Ok(Effect::sending(alloc, tokens))
         }
         Reply::Memory => Err(no_memory()),
@@ -111,14 +135,16 @@ pub(crate) fn commit_transaction<P: Port>(
     alloc: Global,
     session: &mut SessionState,
     port: &mut P,
-    statement: &Statement,
+    name: Option<&Units>,
 ) -> Result<Effect, Failure>
     requires ready { Ready session.old (P.past port.old) }
-    ensures does { Did (P.past port.old) (P.past port.new) (commits_transaction statement.now) session.old (Ok result) session.new }
+    ensures does { Did (P.past port.old) (P.past port.new) (commits_transaction (option_map (λ name. name.now) name.entry)) session.old (Ok result) session.new }
     ensures ready { Ready session.new (P.past port.new) }
     ensures none { IfOk result (λ effect. effect.sets ≡ []) }
 {
-    bind_first(alloc, session, statement)?;
+    if is_maybe_long(name) {
+        return Err(Failure::plain(OUTSIDE_LIMITS));
+    }
     match session.commit_answer() {
         Ok(true) => commit_outermost(alloc, session, port),
         Ok(false) => {
@@ -136,38 +162,16 @@ fn commit_outermost<P: Port>(
     port: &mut P,
 ) -> Result<Effect, Failure>
     requires ready { Ready session.old (P.past port.old) }
-    requires begun { session.old.is_open ≡ true }
-    ensures does { Did (P.past port.old) (P.past port.new) (with_room (commits_by session.old (Ok true))) session.old (Ok result) session.new }
+    requires counted { is_closed session.old.txn ≡ false }
+    ensures does { Did (P.past port.old) (P.past port.new) (commits_by session.old (Ok true)) session.old (Ok result) session.new }
     ensures ready { Ready session.new (P.past port.new) }
     ensures none { IfOk result (λ effect. effect.sets ≡ []) }
 {
-    let tokens = affordable(session, committed_tokens(alloc, session))?;
-    match session.ask(port, &Op::Commit) {
-        Reply::Ended { .. } => Ok(Effect::sending(alloc, tokens)),
-        _ => unreachable!(),
+    if session.is_commit_full(alloc) {
+        return Err(Failure::plain(RESULT_FULL));
     }
-}
-
-/// What is told of the commit: nothing of a statement's own transaction.
-fn committed_tokens(alloc: Global, session: &SessionState) -> Result<TokenList, Memory>
-    ensures { IfOk result (λ tokens. tokens ≡ unless_own session.now.is_own (transaction_committed session.now.txn.serial)) }
-{
-    if session.is_own() {
-        Ok(TokenList::none(alloc))
-    } else {
-        transaction_committed(alloc, session.serial())
-    }
-}
-
-/// What is told of the rollback: nothing of a statement's own transaction.
-fn rolled_back_tokens(alloc: Global, session: &SessionState) -> Result<TokenList, Memory>
-    ensures { IfOk result (λ tokens. tokens ≡ unless_own session.now.is_own (transaction_rolled_back session.now.txn.serial)) }
-{
-    if session.is_own() {
-        Ok(TokenList::none(alloc))
-    } else {
-        transaction_rolled_back(alloc, session.serial())
-    }
+    let tokens = session.commit(alloc, port);
+    Ok(Effect::sending(alloc, tokens))
 }
 
 // ---- ROLLBACK
@@ -177,15 +181,16 @@ pub(crate) fn roll_back_transaction<P: Port>(
     alloc: Global,
     session: &mut SessionState,
     port: &mut P,
-    statement: &Statement,
     name: Option<&Units>,
 ) -> Result<Effect, Failure>
     requires ready { Ready session.old (P.past port.old) }
-    ensures does { Did (P.past port.old) (P.past port.new) (rolls_back_transaction statement.now (option_map (λ name. name.now) name.entry)) session.old (Ok result) session.new }
+    ensures does { Did (P.past port.old) (P.past port.new) (rolls_back_transaction (option_map (λ name. name.now) name.entry)) session.old (Ok result) session.new }
     ensures ready { Ready session.new (P.past port.new) }
     ensures none { IfOk result (λ effect. effect.sets ≡ []) }
 {
-    bind_first(alloc, session, statement)?;
+    if is_maybe_long(name) {
+        return Err(Failure::plain(OUTSIDE_LIMITS));
+    }
     match name {
         Some(name) => go_back(alloc, session, port, name),
         None if session.is_closed() => Err(Failure::plain(NOTHING_OPEN)),
@@ -201,7 +206,7 @@ fn go_back<P: Port>(
     name: &Units,
 ) -> Result<Effect, Failure>
     requires ready { Ready session.old (P.past port.old) }
-    ensures does { Did (P.past port.old) (P.past port.new) (with_room (goes_back name.now session.old (rollback_answer name.now session.old.txn))) session.old (Ok result) session.new }
+    ensures does { Did (P.past port.old) (P.past port.new) (goes_back name.now session.old (rollback_answer name.now session.old.txn)) session.old (Ok result) session.new }
     ensures ready { Ready session.new (P.past port.new) }
     ensures none { IfOk result (λ effect. effect.sets ≡ []) }
 {
@@ -235,16 +240,16 @@ fn roll_back_whole<P: Port>(
     port: &mut P,
 ) -> Result<Effect, Failure>
     requires ready { Ready session.old (P.past port.old) }
-    requires begun { session.old.is_open ≡ true }
-    ensures does { Did (P.past port.old) (P.past port.new) (with_room (rolls_back_whole session.old)) session.old (Ok result) session.new }
+    requires counted { is_closed session.old.txn ≡ false }
+    ensures does { Did (P.past port.old) (P.past port.new) (rolls_back_whole session.old) session.old (Ok result) session.new }
     ensures ready { Ready session.new (P.past port.new) }
     ensures none { IfOk result (λ effect. effect.sets ≡ []) }
 {
-    let tokens = affordable(session, rolled_back_tokens(alloc, session))?;
-    match session.ask(port, &Op::Rollback) {
-        Reply::Ended { .. } => Ok(Effect::sending(alloc, tokens)),
-        _ => unreachable!(),
+    if session.is_rollback_full(alloc) {
+        return Err(Failure::plain(RESULT_FULL));
     }
+    let tokens = session.roll_back(alloc, port);
+    Ok(Effect::sending(alloc, tokens))
 }
 
 // ---- SAVE TRANSACTION

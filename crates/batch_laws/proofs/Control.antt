@@ -111,8 +111,8 @@ module _ (one : Statement → Meaning) (around : Around) (statement : Statement)
   named_held : (form : Layer) (work : Doing (Result Effect Failure)) → work_named around statement form ≡ Some work → Held (mean_form one around statement form) p exchanges exit new → Does work
   unfolding mean_form
   named_held (Form-F.BeginTransaction name) work is held = same_work work (begins_transaction statement name) is held
-  named_held (Form-F.Commit name) work is held = same_work work (commits_transaction statement) is held
-  named_held (Form-F.Rollback name) work is held = same_work work (rolls_back_transaction statement name) is held
+  named_held (Form-F.Commit name) work is held = same_work work (commits_transaction name) is held
+  named_held (Form-F.Rollback name) work is held = same_work work (rolls_back_transaction name) is held
   named_held (Form-F.Save name) work is held = same_work work (saves_transaction statement name) is held
   named_held (Form-F.DeclareCursor name select) work is held = same_work work (declares_cursor statement name select) is held
   named_held (Form-F.OpenCursor name) work is held = same_work work (opens_cursor around statement name) is held

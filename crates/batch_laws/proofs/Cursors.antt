@@ -1,5 +1,5 @@
 -- The statements on cursors.
-use Rattle.std.proofs.Common.{◌≡◌, ◌⊎◌, inl, inr, ℕ, pos, ◌==◌, Bool, true, false, if◌then◌else◌, List, [], length, Option, None, Some, Result, Ok, Err, refl, sym, subst, is_ok, ap, ◌∙◌, ◌++◌}
+use Rattle.std.proofs.Common.{◌≡◌, ◌⊎◌, inl, inr, ℕ, ◌==◌, Bool, true, false, if◌then◌else◌, List, [], length, Option, None, Some, Result, Ok, Err, refl, sym, subst, is_ok, ap, ◌∙◌, ◌++◌}
 use Rattle.value_types.specs.declared.sql_type.SqlType.{SqlType}
 use Rattle.value_types.specs.declared.value.Value.{Value}
 use Rattle.tsql_tree.specs.declared.query.Select.{Select}
@@ -13,10 +13,10 @@ use Rattle.session_cursors.specs.Cursors as list
 use Rattle.batch_meaning.specs.declared.failure.Failure.{Failure}
 use Rattle.batch_meaning.specs.Raised.{Around}
 use Rattle.batch_meaning.specs.Failures.{naming, plain}
-use Rattle.batch_meaning.specs.Asking.{fails, fails_naming, on_ok, with_room, ◌>>=◌}
-use Rattle.batch_meaning.specs.Cursors.{already_open, already_there, answered, closes_cursor, declares_cursor, fails_for_cursor, fetches_cursor, fetches_into, fetches_row, no_such_cursor, not_open, opens_bound, opens_cursor, opens_kept, other_count, removes_cursor, select_statement, fills_with, kinds_of}
+use Rattle.batch_meaning.specs.Asking.{fails, fails_naming, with_room, ◌>>=◌}
+use Rattle.batch_meaning.specs.Cursors.{already_open, already_there, answered, assigns_row, closes_cursor, declares_cursor, fails_for_cursor, fetches_cursor, fetches_into, fetches_row, no_such_cursor, not_open, opens_bound, opens_cursor, opens_kept, other_count, removes_cursor, select_statement, fills_with, kinds_of}
 use Rattle.batch_meaning.specs.Doing.{Doing, makes, over, Held, ◌then◌}
-use Rattle.batch_meaning.specs.Progress.{SessionProgress, SessionStep, declares, fetches, made, removes, shuts, tells_fetch, asked, fills, touches}
+use Rattle.batch_meaning.specs.Progress.{SessionProgress, SessionStep, declares, fetches, made, removes, shuts, asked, fills, touches}
 use Rattle.batch_meaning.specs.Selecting.{Effect, no_effect}
 use Rattle.batch_meaning.specs.Transactions.{bound_first}
 use Rattle.batch_meaning.specs.Values.{Assigned, assigned_to}
@@ -96,44 +96,33 @@ module _ (p new : SessionProgress) (exchanges : List Exchange) (came : Result Ef
     fetch_refused next failed = (failed.2, subst (λ (r : Result Effect Failure). Fetches p name variables next r new) (sym failed.1) (by_next next))
       where
         by_next : (next : Result (Option (List Value)) CursorFault) → Fetches p name variables next (Err failed.0) new
-        by_next (Ok None) = inl failed.3
+        by_next (Ok None) = failed.3
         by_next (Ok (Some row)) = inl failed.3
         by_next (Err fault) = failed.3
 
-    -- what a row assigns
-    abbrev Sets : List Assigned → Doing (Result Effect Failure)
-    Sets sets = makes (tells_fetch (pos 0)) (over (Ok (record { sets = sets; rows = 1; tokens = [] })))
-
     -- a row that is fetched
     row_held : (next : Option (List Value)) → Held (fetches_row p name variables next) p exchanges came new → Fetched (Ok next)
-    unfolding Held ◌then◌
+    unfolding Held
     row_held None held = (held.0, subst (λ (r : Result Effect Failure). Fetches p name variables (Ok None) r new) (sym held.1) (refl, held.2))
-    row_held (Some row) held = by_enough held.0 held.1
+    row_held (Some row) held = by_room (room_or p new exchanges came (makes (fetches name) (assigns_row (assigned_to p.vars variables row))) held)
       where
-        failed_row : (failure : Failure) → (exchanges ≡ []) × (came ≡ Err failure) × (new ≡ made (fetches name) p) → Fetched (Ok (Some row))
-        failed_row failure was = (was.0, subst (λ (r : Result Effect Failure). Fetches p name variables (Ok (Some row)) r new) (sym was.1) (inr was.2))
-
-        by_sets : (it : Result (List Assigned) Failure) → assigned_to p.vars variables row ≡ it → Held (on_ok Sets it) (made (fetches name) p) exchanges came new → Fetched (Ok (Some row))
+        by_sets : (it : Result (List Assigned) Failure) → assigned_to p.vars variables row ≡ it → Held (assigns_row it) (made (fetches name) p) exchanges came new → Fetched (Ok (Some row))
         by_sets (Ok sets) is was = (was.0, subst (λ (r : Result Effect Failure). Fetches p name variables (Ok (Some row)) r new) (sym was.1) (sets, is, refl, was.2))
-        by_sets (Err failure) is was = failed_row failure was
+        by_sets (Err failure) is was = (was.0, subst (λ (r : Result Effect Failure). Fetches p name variables (Ok (Some row)) r new) (sym was.1) (inr (is, was.2)))
 
-        by_enough : (enough : Bool) → Held ((if enough then over (assigned_to p.vars variables row) else fails no_memory) then on_ok Sets) (made (fetches name) p) exchanges came new → Fetched (Ok (Some row))
-        by_enough true was = by_sets (assigned_to p.vars variables row) refl was
-        by_enough false was = failed_row (plain no_memory) was
+        by_room : Failed p new exchanges came ⊎ Held (makes (fetches name) (assigns_row (assigned_to p.vars variables row))) p exchanges came new → Fetched (Ok (Some row))
+        by_room (inl failed) = fetch_refused (Ok (Some row)) failed
+        by_room (inr here) = by_sets (assigned_to p.vars variables row) refl here
 
-    next_held : (next : Result (Option (List Value)) CursorFault) → Held (answered name (λ row. with_room (fetches_row p name variables row)) next) p exchanges came new → Fetched next
-    next_held (Ok next) held = by_room (room_or p new exchanges came (fetches_row p name variables next) held)
-      where
-        by_room : Failed p new exchanges came ⊎ Held (fetches_row p name variables next) p exchanges came new → Fetched (Ok next)
-        by_room (inl failed) = fetch_refused (Ok next) failed
-        by_room (inr here) = row_held next here
+    next_held : (next : Result (Option (List Value)) CursorFault) → Held (answered name (fetches_row p name variables) next) p exchanges came new → Fetched next
+    next_held (Ok next) held = row_held next held
     next_held (Err fault) held = fetch_refused (Err fault) (fault_fails name fault held)
 
     fetch_held : (statement : Statement) → Held (fetches_cursor statement name variables) p exchanges came new → Fetched (list.next_of name p.cursors)
     unfolding fetches_cursor Held
     fetch_held statement held = by_first (first_or p new exchanges came statement (λ q. answered name (fetches_into q name variables) (list.kinds_of name q.cursors)) held)
       where
-        by_count : (test : Bool) → Held (if test then answered name (λ row. with_room (fetches_row p name variables row)) (list.next_of name p.cursors) else fails other_count) p exchanges came new → Fetched (list.next_of name p.cursors)
+        by_count : (test : Bool) → Held (if test then answered name (fetches_row p name variables) (list.next_of name p.cursors) else fails other_count) p exchanges came new → Fetched (list.next_of name p.cursors)
         by_count true was = next_held (list.next_of name p.cursors) was
         by_count false was = fetch_refused (list.next_of name p.cursors) (plain other_count, was.1, was.0, was.2)
 

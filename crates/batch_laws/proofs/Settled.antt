@@ -385,16 +385,16 @@ module _ (p new : SessionProgress) (exchanges : List Exchange) (steady : IsStead
   close_steady (Ok true) (Ok effect) is closed = same_steady (asked ops.Commit (replies.Ended closed.1.0) p) new closed.1.2 (ended_steady p ops.Commit closed.1.0)
   close_steady (Ok false) (Ok effect) is closed = same_steady (made closes_one p) new closed.2 (closes_steady p.is_open p.txn is steady)
   close_steady (Err number) (Ok effect) is closed = absurd closed
-  close_steady (Ok true) (Err failure) is refused = same_steady p new refused.1 steady
-  close_steady (Ok false) (Err failure) is refused = same_steady p new refused.1 steady
-  close_steady (Err number) (Err failure) is refused = same_steady p new refused.1 steady
+  close_steady (Ok true) (Err failure) is denied = same_steady p new denied.0.1 steady
+  close_steady (Ok false) (Err failure) is denied = same_steady p new denied.0.1 steady
+  close_steady (Err number) (Err failure) is denied = same_steady p new denied.0.1 steady
 
   back_steady : (answer : Result BackKind ℤ) (came : Result Effect Failure) → RollsBack p answer came exchanges new → IsSteady new
   back_steady (Ok Whole) (Ok effect) rolled = same_steady (asked ops.Rollback (replies.Ended rolled.1.0) p) new rolled.1.2 (ended_steady p ops.Rollback rolled.1.0)
   back_steady (Ok (Mark mark)) (Ok effect) rolled = same_steady (asked (ops.BackTo mark) replies.Done p) new rolled.2 steady
   back_steady (Err number) (Ok effect) rolled = absurd rolled
-  back_steady (Ok Whole) (Err failure) refused = same_steady p new refused.1 steady
-  back_steady (Ok (Mark mark)) (Err failure) refused = same_steady p new refused.1 steady
+  back_steady (Ok Whole) (Err failure) denied = same_steady p new denied.0.1 steady
+  back_steady (Ok (Mark mark)) (Err failure) denied = same_steady p new denied.0.1 steady
   back_steady (Err number) (Err failure) refused = same_steady p new refused.1 steady
 
   save_steady : (name : List ℕ) (refusal : Option ℤ) (came : Result Effect Failure) → Saves p name refusal came exchanges new → IsSteady new
@@ -407,11 +407,11 @@ module _ (p new : SessionProgress) (exchanges : List Exchange) (steady : IsStead
 begins_settles : (statement : Statement) (name : Option (List ℕ)) → Settles (begins_transaction statement name)
 begins_settles statement name p new exchanges came steady held = begin_steady p new exchanges steady name p.is_open came refl (begin_held p new exchanges came statement name held)
 
-commits_settles : (statement : Statement) → Settles (commits_transaction statement)
-commits_settles statement p new exchanges came steady held = close_steady p new exchanges steady (commit_answer p.txn) came refl (close_held p new exchanges came statement held)
+commits_settles : (name : Option (List ℕ)) → Settles (commits_transaction name)
+commits_settles name p new exchanges came steady held = close_steady p new exchanges steady (commit_answer p.txn) came refl (close_held p new exchanges came name held)
 
-rolls_settles : (statement : Statement) (name : Option (List ℕ)) → Settles (rolls_back_transaction statement name)
-rolls_settles statement name p new exchanges came steady held = back_steady p new exchanges steady (back_for name p.txn) came (back_held p new exchanges came statement name held)
+rolls_settles : (name : Option (List ℕ)) → Settles (rolls_back_transaction name)
+rolls_settles name p new exchanges came steady held = back_steady p new exchanges steady (back_for name p.txn) came (back_held p new exchanges came name held)
 
 saves_settles : (statement : Statement) (name : List ℕ) → Settles (saves_transaction statement name)
 saves_settles statement name p new exchanges came steady held = save_steady p new exchanges steady name (save_refusal p.txn) came (save_held p new exchanges came statement name held)
@@ -812,8 +812,8 @@ module _ (one : Statement → Meaning) (each : (inner : Statement) (at : Around)
     form_settles (Form-F.Return value) is = concludes_settles around statement (λ status. succeeds statement no_effect (over (Return status))) (statuses around statement) (statuses_settle around p0 statement) (λ status. succeeds_settles statement no_effect (Return status))
     form_settles (Form-F.SetOption option) is = option_settles around statement option
     form_settles (Form-F.BeginTransaction name) is = does_settles around statement On (begins_transaction statement name) (begins_settles statement name)
-    form_settles (Form-F.Commit name) is = does_settles around statement On (commits_transaction statement) (commits_settles statement)
-    form_settles (Form-F.Rollback name) is = does_settles around statement On (rolls_back_transaction statement name) (rolls_settles statement name)
+    form_settles (Form-F.Commit name) is = does_settles around statement On (commits_transaction name) (commits_settles name)
+    form_settles (Form-F.Rollback name) is = does_settles around statement On (rolls_back_transaction name) (rolls_settles name)
     form_settles (Form-F.Save name) is = does_settles around statement On (saves_transaction statement name) (saves_settles statement name)
     form_settles (Form-F.CreateTable table text) is = does_settles around statement On (creates_table around statement table.name text) (creates_settles around p0 statement table.name text)
     form_settles (Form-F.Drop kind name) is = does_settles around statement On (drops around statement kind name) (drops_settle around p0 statement kind name)

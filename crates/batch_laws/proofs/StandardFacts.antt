@@ -1,5 +1,6 @@
 -- What known exchanges leave and commit.
-use Rattle.std.proofs.Common.{◌≡◌, ℕ, Bool, true, false, negsuc, List, [], ◌∷◌, ◌++◌, Some, None, Ok, Err, refl}
+use Rattle.std.proofs.Common.{◌≡◌, inl, inr, ℕ, Bool, true, false, negsuc, List, [], ◌∷◌, ◌++◌, Some, None, Ok, Err, refl, sym, ◌∙◌}
+use Rattle.value_types.specs.declared.value.Value.{Value}
 use Rattle.table_rows.specs.Definitions.{objects_name, object_key, row_of}
 use Rattle.table_rows.specs.Rows.{rows_table}
 use Rattle.tsql_tree.specs.declared.definition.TableTree.{TableTree}
@@ -18,13 +19,15 @@ use Rattle.session_cursors.specs.declared.fault.CursorFault.{CursorFault}
 use Rattle.txn_rules.specs.State.{after_end, is_closed, no_transaction}
 use Rattle.tds_tokens.specs.declared.token.DoneKind.TheVariants.{Done}
 use Rattle.batch_meaning.specs.declared.exit.Exit.TheVariants.{On, End}
+use Rattle.batch_meaning.specs.declared.failure.Failure.{Failure}
 use Rattle.batch_meaning.specs.declared.raised.Raised.{Raised}
 use Rattle.batch_meaning.specs.Changing.{created}
 use Rattle.batch_meaning.specs.Meaning.{way_of}
-use Rattle.batch_meaning.specs.Progress.{SessionProgress, fetches, first_progress, made, tells_fetch}
+use Rattle.batch_meaning.specs.Progress.{SessionProgress, first_progress, made, tells_fetch}
 use Rattle.batch_meaning.specs.Raised.{error_token}
 use Rattle.batch_meaning.specs.Selecting.{no_effect}
 use Rattle.batch_meaning.specs.Tokens.{statement_failed}
+use Rattle.batch_meaning.specs.Values.{Assigned, assigned_to}
 use Rattle.statement_paths.specs.Paths.{definition_put, replied}
 use Rattle.batch_laws.specs.Committing.{is_plain, told_of, IsIdle, Leaves, StrikesBy}
 use Rattle.batch_laws.specs.Cursors.{Fetches}
@@ -56,8 +59,14 @@ open_names : (name : List ℕ) → is_plain (Form-F.OpenCursor name) ≡ false
 open_names name = refl
 
 -- behind the last row FETCH sets @@FETCH_STATUS to -1, and a row that there is not can't be fetched
-behind_last : (p : SessionProgress) (name : List ℕ) (variables : List (List ℕ)) → Fetches p name variables (Ok None) (Ok no_effect) (made (tells_fetch (negsuc 0)) (made (fetches name) p))
+behind_last : (p : SessionProgress) (name : List ℕ) (variables : List (List ℕ)) → Fetches p name variables (Ok None) (Ok no_effect) (made (tells_fetch (negsuc 0)) p)
 behind_last p name variables = (refl, refl)
+
+-- a row whose values can be assigned is not passed where memory is wanting for that
+none_passed : (p new : SessionProgress) (name : List ℕ) (variables : List (List ℕ)) (row : List Value) (sets : List Assigned) (failure : Failure)
+    → assigned_to p.vars variables row ≡ Ok sets → Fetches p name variables (Ok (Some row)) (Err failure) new → new ≡ p
+none_passed p new name variables row sets failure is (inl kept) = kept
+none_passed p new name variables row sets failure is (inr passed) = absurd (let no : Ok sets ≡ Err failure = sym is ∙ passed.0 in cc)
 
 none_fetched : (p new : SessionProgress) (name : List ℕ) (variables : List (List ℕ)) (fault : CursorFault) → Fetches p name variables (Err fault) (Ok no_effect) new → ⊥
 none_fetched p new name variables fault fetched = fetched

@@ -1,7 +1,9 @@
 -- BEGIN TRANSACTION, COMMIT, ROLLBACK and SAVE TRANSACTION.
-use Rattle.std.proofs.Common.{◌≡◌, ◌⊎◌, inl, inr, ℕ, ℤ, pos, Bool, true, false, if◌then◌else◌, List, [], ◌∷◌, Option, None, Some, Result, Ok, Err, refl, sym, ap, ◌∙◌, subst, append-nil}
+use Rattle.std.proofs.Common.{◌≡◌, ◌≢◌, ◌⊎◌, inl, inr, ℕ, ◌==◌, ℤ, pos, Bool, true, false, if◌then◌else◌, List, [], ◌∷◌, Option, None, Some, Result, Ok, Err, refl, sym, ap, ◌∙◌, subst, append-nil}
+use Rattle.std.specs.Ordering.{int_eq}
 use Rattle.std.specs.Prelude.{nat_le, nat_lt, not}
 use Rattle.tsql_tree.specs.declared.statement.Statement.{Statement}
+use Rattle.binder.specs.Statements.{is_maybe_long}
 use Rattle.bound_tree.specs.declared.write.Bound.{Bound}
 use Rattle.step_model.specs.declared.op.Op.TheVariants as ops
 use Rattle.step_model.specs.declared.reply.Reply.{Reply}
@@ -13,6 +15,7 @@ use Rattle.step_model.specs.Own.{Progress as Stand, progress_from}
 use Rattle.step_model.specs.Ranges.{no_memory}
 use Rattle.txn_rules.specs.declared.state.BackKind.{BackKind}
 use Rattle.txn_rules.specs.declared.state.BackKind.TheVariants.{Mark, Whole}
+use Rattle.txn_rules.specs.declared.state.TxnState.{TxnState}
 use Rattle.txn_rules.specs.State.{commit_answer, count_limit, is_closed, rollback_answer, save_refusal}
 use Rattle.tds_tokens.specs.declared.token.Token.{Token}
 use Rattle.batch_meaning.specs.declared.failure.Failure.{Failure}
@@ -23,15 +26,46 @@ use Rattle.batch_meaning.specs.Progress.{SessionProgress, asked, opens, saves, s
 use Rattle.batch_meaning.specs.Selecting.{Effect, bound_over, no_effect, result_full, sending}
 use Rattle.batch_meaning.specs.Settings.{outside_profile}
 use Rattle.batch_meaning.specs.Tokens.{transaction_begun, transaction_committed, transaction_rolled_back}
-use Rattle.batch_meaning.specs.Transactions.{begins_outermost, begins_over, begins_transaction, bound_first, commits_by, commits_transaction, goes_back, next_serial, nothing_open, rolls_back_to, rolls_back_transaction, rolls_back_whole, saves_transaction, saves_unless, unless_own}
+use Rattle.batch_meaning.specs.Values.{outside_limits}
+use Rattle.batch_meaning.specs.Transactions.{begins_outermost, begins_over, begins_transaction, bound_first, commits_by, commits_transaction, goes_back, named_first, next_serial, nothing_open, rolls_back_to, rolls_back_transaction, rolls_back_whole, saves_transaction, saves_unless, unless_own}
 use Rattle.statement_paths.specs.Paths.{replied}
 use Rattle.statement_paths.proofs.Dialogs.{is_replied}
 use Rattle.batch_laws.specs.Committing.{Agrees}
 use Rattle.batch_laws.specs.Transactions.{back_for, BeginLeaves, Begins, Closes, CommitLeaves, CommitsBy, LeavesAll, LeavesBack, RollbackLeaves, RollsBack, SaveLeaves, Saves}
 
+-- ---- numbers that are no want of memory
+
+no_want : (number : ℤ) → int_eq number (pos no_memory) ≡ false → number ≢ pos no_memory
+no_want number other same = absurd (let no : true ≡ false = sym (ap (λ (n : ℤ). int_eq n (pos no_memory)) same) ∙ other in cc)
+
+-- those by which COMMIT is refused
+commit_other : (txn : TxnState) (number : ℤ) → commit_answer txn ≡ Err number → number ≢ pos no_memory
+commit_other txn number is = by_closed (is_closed txn) is
+  where
+    by_number : (from : ℕ) → int_eq (pos from) (pos no_memory) ≡ false → pos from ≡ number → number ≢ pos no_memory
+    by_number from other same = subst (λ (n : ℤ). n ≢ pos no_memory) same (no_want (pos from) other)
+
+    by_doom : (doomed : Bool) → (if doomed then Err (pos 3930) else Ok (txn.count == 1)) ≡ Err number → number ≢ pos no_memory
+    by_doom true same = by_number 3930 refl (let so : pos 3930 ≡ number = cc in so)
+    by_doom false same = absurd cc
+
+    by_closed : (closed : Bool) → (if closed then Err (pos 3902) else if txn.doomed then Err (pos 3930) else Ok (txn.count == 1)) ≡ Err number → number ≢ pos no_memory
+    by_closed true same = by_number 3902 refl (let so : pos 3902 ≡ number = cc in so)
+    by_closed false same = by_doom txn.doomed same
+
 module _ (p new : SessionProgress) (exchanges : List Exchange) (came : Result Effect Failure) where
   abbrev pub Failed : Type 0
   Failed = (failure : Failure) × (came ≡ Err failure) × (exchanges ≡ []) × (new ≡ p)
+
+  -- the same, and memory was not wanting
+  abbrev Denied : Type 0
+  Denied = (failure : Failure) × (came ≡ Err failure) × (exchanges ≡ []) × (new ≡ p) × (failure.number ≢ pos no_memory)
+
+  failed_so : Denied → Failed
+  failed_so denied = (denied.0, denied.1, denied.2, denied.3)
+
+  denied_by : (number : ℕ) → int_eq (pos number) (pos no_memory) ≡ false → (exchanges ≡ []) × (came ≡ Err (plain number)) × (new ≡ p) → Denied
+  denied_by number other was = (plain number, was.1, was.0, was.2, no_want (pos number) other)
 
   -- ---- its parts
 
@@ -43,12 +77,12 @@ module _ (p new : SessionProgress) (exchanges : List Exchange) (came : Result Ef
       by_enough true was = inr was
       by_enough false was = inl (plain no_memory, was.1, was.0, was.2)
 
-  bytes_or : (tokens : List Token) (tree : Doing (Result Effect Failure)) → Held (if_bytes_left tokens tree) p exchanges came new → Failed ⊎ Held tree p exchanges came new
+  bytes_or : (tokens : List Token) (tree : Doing (Result Effect Failure)) → Held (if_bytes_left tokens tree) p exchanges came new → Denied ⊎ Held tree p exchanges came new
   unfolding Held
   bytes_or tokens tree held = by_test (nat_lt p.bytes_left (size_of tokens)) held
     where
-      by_test : (test : Bool) → Held (if test then fails result_full else tree) p exchanges came new → Failed ⊎ Held tree p exchanges came new
-      by_test true was = inl (plain result_full, was.1, was.0, was.2)
+      by_test : (test : Bool) → Held (if test then fails result_full else tree) p exchanges came new → Denied ⊎ Held tree p exchanges came new
+      by_test true was = inl (denied_by result_full refl was)
       by_test false was = inr was
 
   -- it is bound first
@@ -67,6 +101,15 @@ module _ (p new : SessionProgress) (exchanges : List Exchange) (came : Result Ef
       by_enough : (enough : Bool) → Held ((if enough then over (bound_over [] p.vars statement) else fails no_memory) then on_ok (λ of. with_room (reads go))) p exchanges came new → Failed ⊎ Held (go p) p exchanges came new
       by_enough true was = by_bound (bound_over [] p.vars statement) was
       by_enough false was = inl (plain no_memory, was.1, was.0, was.2)
+
+  -- or its name is looked at
+  named_or : (name : Option (List ℕ)) (go : SessionProgress → Doing (Result Effect Failure)) → Held (named_first name go) p exchanges came new → Denied ⊎ Held (go p) p exchanges came new
+  unfolding Held
+  named_or name go held = by_name (is_maybe_long name) held
+    where
+      by_name : (test : Bool) → Held (if test then fails outside_limits else reads go) p exchanges came new → Denied ⊎ Held (go p) p exchanges came new
+      by_name true was = inl (denied_by outside_limits refl was)
+      by_name false was = inr was
 
   -- ---- BEGIN TRANSACTION
 
@@ -100,8 +143,8 @@ module _ (p new : SessionProgress) (exchanges : List Exchange) (came : Result Ef
       by_room (inl failed) = begin_refused name false failed
       by_room (inr here) = begin_asks name here
 
-      by_bytes : Failed ⊎ Held (with_room (asks ops.Begin (unless_refused (where_begun (makes (opens name) (over (Ok (sending (transaction_begun (next_serial p.txn) ∷ []))))))))) p exchanges came new → Begins p name false came exchanges new
-      by_bytes (inl failed) = begin_refused name false failed
+      by_bytes : Denied ⊎ Held (with_room (asks ops.Begin (unless_refused (where_begun (makes (opens name) (over (Ok (sending (transaction_begun (next_serial p.txn) ∷ []))))))))) p exchanges came new → Begins p name false came exchanges new
+      by_bytes (inl denied) = begin_refused name false (failed_so denied)
       by_bytes (inr here) = by_room (room_or _ here)
 
       by_count : (test : Bool) → Held (if test then fails outside_profile else makes (opens name) (over (Ok no_effect))) p exchanges came new → Begins p name true came exchanges new
@@ -122,13 +165,13 @@ module _ (p new : SessionProgress) (exchanges : List Exchange) (came : Result Ef
 
   -- ---- COMMIT
 
-  close_refused : (answer : Result Bool ℤ) → Failed → Closes p answer came exchanges new
-  close_refused answer failed = subst (λ (r : Result Effect Failure). Closes p answer r exchanges new) (sym failed.1) (by_answer answer)
+  close_denied : (answer : Result Bool ℤ) → Denied → Closes p answer came exchanges new
+  close_denied answer denied = subst (λ (r : Result Effect Failure). Closes p answer r exchanges new) (sym denied.1) (by_answer answer)
     where
-      by_answer : (answer : Result Bool ℤ) → Closes p answer (Err failed.0) exchanges new
-      by_answer (Ok true) = (failed.2, failed.3)
-      by_answer (Ok false) = (failed.2, failed.3)
-      by_answer (Err number) = (failed.2, failed.3)
+      by_answer : (answer : Result Bool ℤ) → Closes p answer (Err denied.0) exchanges new
+      by_answer (Ok true) = ((denied.2, denied.3), denied.4)
+      by_answer (Ok false) = ((denied.2, denied.3), denied.4)
+      by_answer (Err number) = ((denied.2, denied.3), denied.4)
 
   close_asks : Held (asks ops.Commit (where_ended (over (Ok (sending (unless_own p.is_own (transaction_committed p.txn.serial))))))) p exchanges came new → Closes p (Ok true) came exchanges new
   unfolding Held
@@ -143,33 +186,36 @@ module _ (p new : SessionProgress) (exchanges : List Exchange) (came : Result Ef
               (refl, (place, is ∙ ap (λ (y : Exchange). y ∷ later) (is_replied x p.settings.manner ops.Commit (replies.Ended place) was.0 was.1 told) ∙ ap (λ (l : List Exchange). replied p.settings.manner ops.Commit (replies.Ended place) ∷ l) so.0, so.2))
           by_reply reply told can so = absurd can
 
-  close_by : (answer : Result Bool ℤ) → Held (commits_by p answer) p exchanges came new → Closes p answer came exchanges new
+  close_by : (answer : Result Bool ℤ) → ((number : ℤ) → answer ≡ Err number → number ≢ pos no_memory) → Held (commits_by p answer) p exchanges came new → Closes p answer came exchanges new
   unfolding Held
-  close_by (Err number) held = close_refused (Err number) (record { number = number; name = None }, held.1, held.0, held.2)
-  close_by (Ok false) held = subst (λ (r : Result Effect Failure). Closes p (Ok false) r exchanges new) (sym held.1) (held.0, refl, held.2)
-  close_by (Ok true) held = by_bytes (bytes_or _ _ held)
+  close_by (Err number) other held = close_denied (Err number) (record { number = number; name = None }, held.1, held.0, held.2, other number refl)
+  close_by (Ok false) other held = subst (λ (r : Result Effect Failure). Closes p (Ok false) r exchanges new) (sym held.1) (held.0, refl, held.2)
+  close_by (Ok true) other held = by_bytes (bytes_or _ _ held)
     where
-      by_bytes : Failed ⊎ Held (asks ops.Commit (where_ended (over (Ok (sending (unless_own p.is_own (transaction_committed p.txn.serial))))))) p exchanges came new → Closes p (Ok true) came exchanges new
-      by_bytes (inl failed) = close_refused (Ok true) failed
+      by_bytes : Denied ⊎ Held (asks ops.Commit (where_ended (over (Ok (sending (unless_own p.is_own (transaction_committed p.txn.serial))))))) p exchanges came new → Closes p (Ok true) came exchanges new
+      by_bytes (inl denied) = close_denied (Ok true) denied
       by_bytes (inr here) = close_asks here
 
-  pub close_held : (statement : Statement) → Held (commits_transaction statement) p exchanges came new → Closes p (commit_answer p.txn) came exchanges new
+  pub close_held : (name : Option (List ℕ)) → Held (commits_transaction name) p exchanges came new → Closes p (commit_answer p.txn) came exchanges new
   unfolding commits_transaction
-  close_held statement held = by_first (first_or statement (λ q. commits_by q (commit_answer q.txn)) held)
+  close_held name held = by_first (named_or name (λ q. commits_by q (commit_answer q.txn)) held)
     where
-      by_first : Failed ⊎ Held (commits_by p (commit_answer p.txn)) p exchanges came new → Closes p (commit_answer p.txn) came exchanges new
-      by_first (inl failed) = close_refused (commit_answer p.txn) failed
-      by_first (inr here) = close_by (commit_answer p.txn) here
+      by_first : Denied ⊎ Held (commits_by p (commit_answer p.txn)) p exchanges came new → Closes p (commit_answer p.txn) came exchanges new
+      by_first (inl denied) = close_denied (commit_answer p.txn) denied
+      by_first (inr here) = close_by (commit_answer p.txn) (commit_other p.txn) here
 
   -- ---- ROLLBACK
 
-  back_refused : (answer : Result BackKind ℤ) → Failed → RollsBack p answer came exchanges new
-  back_refused answer failed = subst (λ (r : Result Effect Failure). RollsBack p answer r exchanges new) (sym failed.1) (by_answer answer)
+  back_refused : (number : ℤ) → Failed → RollsBack p (Err number) came exchanges new
+  back_refused number failed = subst (λ (r : Result Effect Failure). RollsBack p (Err number) r exchanges new) (sym failed.1) (failed.2, failed.3)
+
+  back_denied : (answer : Result BackKind ℤ) → Denied → RollsBack p answer came exchanges new
+  back_denied answer denied = subst (λ (r : Result Effect Failure). RollsBack p answer r exchanges new) (sym denied.1) (by_answer answer)
     where
-      by_answer : (answer : Result BackKind ℤ) → RollsBack p answer (Err failed.0) exchanges new
-      by_answer (Ok Whole) = (failed.2, failed.3)
-      by_answer (Ok (Mark mark)) = (failed.2, failed.3)
-      by_answer (Err number) = (failed.2, failed.3)
+      by_answer : (answer : Result BackKind ℤ) → RollsBack p answer (Err denied.0) exchanges new
+      by_answer (Ok Whole) = ((denied.2, denied.3), denied.4)
+      by_answer (Ok (Mark mark)) = ((denied.2, denied.3), denied.4)
+      by_answer (Err number) = (denied.2, denied.3)
 
   whole_asks : Held (asks ops.Rollback (where_ended (over (Ok (sending (unless_own p.is_own (transaction_rolled_back p.txn.serial))))))) p exchanges came new → RollsBack p (Ok Whole) came exchanges new
   unfolding Held
@@ -188,8 +234,8 @@ module _ (p new : SessionProgress) (exchanges : List Exchange) (came : Result Ef
   unfolding rolls_back_whole
   whole_back held = by_bytes (bytes_or _ _ held)
     where
-      by_bytes : Failed ⊎ Held (asks ops.Rollback (where_ended (over (Ok (sending (unless_own p.is_own (transaction_rolled_back p.txn.serial))))))) p exchanges came new → RollsBack p (Ok Whole) came exchanges new
-      by_bytes (inl failed) = back_refused (Ok Whole) failed
+      by_bytes : Denied ⊎ Held (asks ops.Rollback (where_ended (over (Ok (sending (unless_own p.is_own (transaction_rolled_back p.txn.serial))))))) p exchanges came new → RollsBack p (Ok Whole) came exchanges new
+      by_bytes (inl denied) = back_denied (Ok Whole) denied
       by_bytes (inr here) = whole_asks here
 
   mark_back : (mark : ℕ) → Held (asks (ops.BackTo mark) (where_done (over (Ok no_effect)))) p exchanges came new → RollsBack p (Ok (Mark mark)) came exchanges new
@@ -212,24 +258,24 @@ module _ (p new : SessionProgress) (exchanges : List Exchange) (came : Result Ef
   back_by name (Err number) held = by_room (room_or _ held)
     where
       by_room : Failed ⊎ Held (over (Err (record { number = number; name = Some name }))) p exchanges came new → RollsBack p (Err number) came exchanges new
-      by_room (inl failed) = back_refused (Err number) failed
-      by_room (inr here) = back_refused (Err number) (record { number = number; name = Some name }, here.1, here.0, here.2)
+      by_room (inl failed) = back_refused number failed
+      by_room (inr here) = back_refused number (record { number = number; name = Some name }, here.1, here.0, here.2)
 
   back_to : (name : Option (List ℕ)) → Held (rolls_back_to name p) p exchanges came new → RollsBack p (back_for name p.txn) came exchanges new
   unfolding Held
   back_to None held = by_closed (is_closed p.txn) held
     where
       by_closed : (closed : Bool) → Held (if closed then fails nothing_open else rolls_back_whole p) p exchanges came new → RollsBack p (if closed then Err (pos nothing_open) else Ok Whole) came exchanges new
-      by_closed true was = back_refused (Err (pos nothing_open)) (plain nothing_open, was.1, was.0, was.2)
+      by_closed true was = back_refused (pos nothing_open) (plain nothing_open, was.1, was.0, was.2)
       by_closed false was = whole_back was
   back_to (Some name) held = back_by name (rollback_answer name p.txn) held
 
-  pub back_held : (statement : Statement) (name : Option (List ℕ)) → Held (rolls_back_transaction statement name) p exchanges came new → RollsBack p (back_for name p.txn) came exchanges new
+  pub back_held : (name : Option (List ℕ)) → Held (rolls_back_transaction name) p exchanges came new → RollsBack p (back_for name p.txn) came exchanges new
   unfolding rolls_back_transaction
-  back_held statement name held = by_first (first_or statement (λ q. rolls_back_to name q) held)
+  back_held name held = by_first (named_or name (rolls_back_to name) held)
     where
-      by_first : Failed ⊎ Held (rolls_back_to name p) p exchanges came new → RollsBack p (back_for name p.txn) came exchanges new
-      by_first (inl failed) = back_refused (back_for name p.txn) failed
+      by_first : Denied ⊎ Held (rolls_back_to name p) p exchanges came new → RollsBack p (back_for name p.txn) came exchanges new
+      by_first (inl denied) = back_denied (back_for name p.txn) denied
       by_first (inr here) = back_to name here
 
   -- ---- SAVE TRANSACTION
@@ -301,23 +347,23 @@ close_commits : (p new : SessionProgress) (exchanges : List Exchange) (answer : 
 close_commits p new exchanges (Ok true) (Ok effect) before closed = subst (CommitsBy (Ok true) (Ok effect) before) (sym closed.1.1) (refl, append-nil (commit_of (Net before.own)))
 close_commits p new exchanges (Ok false) (Ok effect) before closed = none_same before exchanges closed.0
 close_commits p new exchanges (Err number) (Ok effect) before closed = absurd closed
-close_commits p new exchanges (Ok true) (Err failure) before refused = none_same before exchanges refused.0
-close_commits p new exchanges (Ok false) (Err failure) before refused = none_same before exchanges refused.0
-close_commits p new exchanges (Err number) (Err failure) before refused = none_same before exchanges refused.0
+close_commits p new exchanges (Ok true) (Err failure) before denied = none_same before exchanges denied.0.0
+close_commits p new exchanges (Ok false) (Err failure) before denied = none_same before exchanges denied.0.0
+close_commits p new exchanges (Err number) (Err failure) before denied = none_same before exchanges denied.0.0
 
 pub commit_leaves : CommitLeaves
-commit_leaves statement old new exchanges came before held = let closed = close_held old new exchanges came statement held in (closed, close_commits old new exchanges (commit_answer old.txn) came before closed)
+commit_leaves name old new exchanges came before held = let closed = close_held old new exchanges came name held in (closed, close_commits old new exchanges (commit_answer old.txn) came before closed)
 
 back_leaves : (p new : SessionProgress) (exchanges : List Exchange) (answer : Result BackKind ℤ) (came : Result Effect Failure) (before : Stand) → RollsBack p answer came exchanges new → LeavesBack answer came before exchanges
 back_leaves p new exchanges (Ok Whole) (Ok effect) before back = subst (LeavesBack (Ok Whole) (Ok effect) before) (sym back.1.1) (refl, refl)
 back_leaves p new exchanges (Ok (Mark mark)) (Ok effect) before back = subst (LeavesBack (Ok (Mark mark)) (Ok effect) before) (sym back.0) (refl, refl, refl)
 back_leaves p new exchanges (Err number) (Ok effect) before back = absurd back
-back_leaves p new exchanges (Ok Whole) (Err failure) before refused = none_same before exchanges refused.0
-back_leaves p new exchanges (Ok (Mark mark)) (Err failure) before refused = none_same before exchanges refused.0
+back_leaves p new exchanges (Ok Whole) (Err failure) before denied = none_same before exchanges denied.0.0
+back_leaves p new exchanges (Ok (Mark mark)) (Err failure) before denied = none_same before exchanges denied.0.0
 back_leaves p new exchanges (Err number) (Err failure) before refused = none_same before exchanges refused.0
 
 pub rollback_leaves : RollbackLeaves
-rollback_leaves statement name old new exchanges came before held = let back = back_held old new exchanges came statement name held in (back, back_leaves old new exchanges (back_for name old.txn) came before back)
+rollback_leaves name old new exchanges came before held = let back = back_held old new exchanges came name held in (back, back_leaves old new exchanges (back_for name old.txn) came before back)
 
 save_all : (p new : SessionProgress) (exchanges : List Exchange) (name : List ℕ) (refusal : Option ℤ) (came : Result Effect Failure) (before : Stand) → Saves p name refusal came exchanges new → LeavesAll before exchanges
 save_all p new exchanges name None (Ok effect) before saved = subst (LeavesAll before) (sym saved.1.1) (refl, refl)

@@ -69,8 +69,8 @@ DoomedStrikes = (levels : ℕ) (around : Around) (statement : Statement) (old ne
 -- what a statement on transactions or cursors does
 abbrev pub work_named : Around → Statement → Layer → Option (Doing (Result Effect Failure))
 work_named around statement (Form-F.BeginTransaction name) = Some (begins_transaction statement name)
-work_named around statement (Form-F.Commit name) = Some (commits_transaction statement)
-work_named around statement (Form-F.Rollback name) = Some (rolls_back_transaction statement name)
+work_named around statement (Form-F.Commit name) = Some (commits_transaction name)
+work_named around statement (Form-F.Rollback name) = Some (rolls_back_transaction name)
 work_named around statement (Form-F.Save name) = Some (saves_transaction statement name)
 work_named around statement (Form-F.DeclareCursor name select) = Some (declares_cursor statement name select)
 work_named around statement (Form-F.OpenCursor name) = Some (opens_cursor around statement name)

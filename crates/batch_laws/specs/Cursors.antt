@@ -24,14 +24,15 @@ module _ (p : SessionProgress) where
   Steps step (Err fault) (Ok effect) new = ⊥
   Steps step answer (Err failure) new = new ≡ p
 
-  -- FETCH, by the row that comes next: behind the last one @@FETCH_STATUS is -1; the values of a row are to be assigned, and it is 0; a row is
-  -- fetched also where a value of it can't be assigned
+  -- FETCH, by the row that comes next: behind the last one @@FETCH_STATUS is -1; the values of a row are to be assigned, and it is 0. One that failed
+  -- has fetched a row only where a value of that can't be assigned; else the row is the next as before.
   abbrev pub Fetches : List ℕ → List (List ℕ) → Result (Option (List Value)) CursorFault → Result Effect Failure → SessionProgress → Type 0
-  Fetches name variables (Ok None) (Ok effect) new = (effect ≡ no_effect) × (new ≡ made (tells_fetch (negsuc 0)) (made (fetches name) p))
+  Fetches name variables (Ok None) (Ok effect) new = (effect ≡ no_effect) × (new ≡ made (tells_fetch (negsuc 0)) p)
   Fetches name variables (Ok (Some row)) (Ok effect) new =
       (sets : List Assigned) × (assigned_to p.vars variables row ≡ Ok sets) × (effect ≡ record { sets = sets; rows = 1; tokens = [] }) × (new ≡ made (tells_fetch (pos 0)) (made (fetches name) p))
   Fetches name variables (Err fault) (Ok effect) new = ⊥
-  Fetches name variables (Ok next) (Err failure) new = (new ≡ p) ⊎ (new ≡ made (fetches name) p)
+  Fetches name variables (Ok (Some row)) (Err failure) new = (new ≡ p) ⊎ ((assigned_to p.vars variables row ≡ Err failure) × (new ≡ made (fetches name) p))
+  Fetches name variables (Ok None) (Err failure) new = new ≡ p
   Fetches name variables (Err fault) (Err failure) new = new ≡ p
 
 -- ---- the laws

@@ -1,6 +1,6 @@
 -- Own: what BEGIN TRANSACTION, COMMIT, ROLLBACK and SAVE TRANSACTION have asked, what they tell, and what they make of their session; and what that
 -- leaves and commits.
-use Rattle.std.specs.Prelude.{◌≡◌, ◌⊎◌, ℕ, ℤ, pos, Bool, true, false, if◌then◌else◌, List, [], ◌∷◌, Option, None, Some, Result, Ok, Err}
+use Rattle.std.specs.Prelude.{◌≡◌, ◌≢◌, ◌⊎◌, ℕ, ℤ, pos, Bool, true, false, if◌then◌else◌, List, [], ◌∷◌, Option, None, Some, Result, Ok, Err}
 use Rattle.tsql_tree.specs.declared.statement.Statement.{Statement}
 use Rattle.step_model.specs.declared.op.Op.TheVariants as ops
 use Rattle.step_model.specs.declared.reply.Reply.TheVariants as replies
@@ -8,6 +8,7 @@ use Rattle.step_model.specs.Exchange.{Exchange}
 use Rattle.step_model.specs.Fits.{commit_of, commits_from}
 use Rattle.step_model.specs.Net.{Net}
 use Rattle.step_model.specs.Own.{Progress as Stand, none_open, own_at, progress_from}
+use Rattle.step_model.specs.Ranges.{no_memory}
 use Rattle.txn_rules.specs.declared.state.BackKind.{BackKind}
 use Rattle.txn_rules.specs.declared.state.BackKind.TheVariants.{Mark, Whole}
 use Rattle.txn_rules.specs.declared.state.TxnState.{TxnState}
@@ -26,6 +27,10 @@ module _ (p : SessionProgress) where
   abbrev pub IsRefused : List Exchange → SessionProgress → Type 0
   IsRefused exchanges new = (exchanges ≡ []) × (new ≡ p)
 
+  -- so it is where a transaction is not ended; memory was not wanting for that
+  abbrev pub IsDenied : Failure → List Exchange → SessionProgress → Type 0
+  IsDenied failure exchanges new = IsRefused exchanges new × (failure.number ≢ pos no_memory)
+
   -- BEGIN TRANSACTION, by whether a transaction is open: an inner one is counted, the outermost begun at the port
   abbrev pub Begins : Option (List ℕ) → Bool → Result Effect Failure → List Exchange → SessionProgress → Type 0
   Begins name true (Ok effect) exchanges new = (exchanges ≡ []) × (effect ≡ no_effect) × (new ≡ made (opens name) p)
@@ -37,14 +42,16 @@ module _ (p : SessionProgress) where
   Closes (Ok true) (Ok effect) exchanges new = (effect ≡ sending (unless_own p.is_own (transaction_committed p.txn.serial))) × ((place : ℕ) × (exchanges ≡ replied p.settings.manner ops.Commit (replies.Ended place) ∷ []) × (new ≡ asked ops.Commit (replies.Ended place) p))
   Closes (Ok false) (Ok effect) exchanges new = (exchanges ≡ []) × (effect ≡ no_effect) × (new ≡ made closes_one p)
   Closes (Err number) (Ok effect) exchanges new = ⊥
-  Closes answer (Err failure) exchanges new = IsRefused exchanges new
+  Closes answer (Err failure) exchanges new = IsDenied failure exchanges new
 
   -- ROLLBACK, by its answer: the whole of a transaction, or what is behind a mark
   abbrev pub RollsBack : Result BackKind ℤ → Result Effect Failure → List Exchange → SessionProgress → Type 0
   RollsBack (Ok Whole) (Ok effect) exchanges new = (effect ≡ sending (unless_own p.is_own (transaction_rolled_back p.txn.serial))) × ((place : ℕ) × (exchanges ≡ replied p.settings.manner ops.Rollback (replies.Ended place) ∷ []) × (new ≡ asked ops.Rollback (replies.Ended place) p))
   RollsBack (Ok (Mark mark)) (Ok effect) exchanges new = (exchanges ≡ replied p.settings.manner (ops.BackTo mark) replies.Done ∷ []) × (effect ≡ no_effect) × (new ≡ asked (ops.BackTo mark) replies.Done p)
   RollsBack (Err number) (Ok effect) exchanges new = ⊥
-  RollsBack answer (Err failure) exchanges new = IsRefused exchanges new
+  RollsBack (Ok Whole) (Err failure) exchanges new = IsDenied failure exchanges new
+  RollsBack (Ok (Mark mark)) (Err failure) exchanges new = IsDenied failure exchanges new
+  RollsBack (Err number) (Err failure) exchanges new = IsRefused exchanges new
 
   -- SAVE TRANSACTION, unless it is refused: a mark is set and named; where memory is wanting it may be set without a name
   abbrev pub Saves : List ℕ → Option ℤ → Result Effect Failure → List Exchange → SessionProgress → Type 0
@@ -83,12 +90,12 @@ BeginLeaves = (statement : Statement) (name : Option (List ℕ)) (old new : Sess
     → Held (begins_transaction statement name) old exchanges came new → Begins old name old.is_open came exchanges new × LeavesAll before exchanges
 
 abbrev pub CommitLeaves : Type 0
-CommitLeaves = (statement : Statement) (old new : SessionProgress) (exchanges : List Exchange) (came : Result Effect Failure) (before : Stand)
-    → Held (commits_transaction statement) old exchanges came new → Closes old (commit_answer old.txn) came exchanges new × CommitsBy (commit_answer old.txn) came before exchanges
+CommitLeaves = (name : Option (List ℕ)) (old new : SessionProgress) (exchanges : List Exchange) (came : Result Effect Failure) (before : Stand)
+    → Held (commits_transaction name) old exchanges came new → Closes old (commit_answer old.txn) came exchanges new × CommitsBy (commit_answer old.txn) came before exchanges
 
 abbrev pub RollbackLeaves : Type 0
-RollbackLeaves = (statement : Statement) (name : Option (List ℕ)) (old new : SessionProgress) (exchanges : List Exchange) (came : Result Effect Failure) (before : Stand)
-    → Held (rolls_back_transaction statement name) old exchanges came new → RollsBack old (back_for name old.txn) came exchanges new × LeavesBack (back_for name old.txn) came before exchanges
+RollbackLeaves = (name : Option (List ℕ)) (old new : SessionProgress) (exchanges : List Exchange) (came : Result Effect Failure) (before : Stand)
+    → Held (rolls_back_transaction name) old exchanges came new → RollsBack old (back_for name old.txn) came exchanges new × LeavesBack (back_for name old.txn) came before exchanges
 
 abbrev pub SaveLeaves : Type 0
 SaveLeaves = (statement : Statement) (name : List ℕ) (old new : SessionProgress) (exchanges : List Exchange) (came : Result Effect Failure) (before : Stand)

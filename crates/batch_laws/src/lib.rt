@@ -68,6 +68,7 @@ pub fn law_read()
 
 /// BEGIN TRANSACTION, SAVE TRANSACTION and ROLLBACK commit nothing; the first two leave what the transaction has, and the last
 /// nothing, or what it had at a mark. The outermost COMMIT commits all that the transaction has, and an inner one nothing.
+/// COMMIT, and a ROLLBACK that has what it goes back to, are refused by no want of memory.
 #[tactic(auto, using(crate::proofs::Transactions::begin_leaves))]
 pub fn law_transactions()
     ensures begins { BeginLeaves }
@@ -77,8 +78,8 @@ pub fn law_transactions()
 {}
 
 /// DECLARE of a cursor, FETCH, CLOSE and DEALLOCATE ask nothing, and change the cursors and `@@FETCH_STATUS` alone, by what is
-/// answered of the cursor that they name. OPEN only reads, and leaves its transaction as it was; where it fails it leaves the
-/// cursors, too.
+/// answered of the cursor that they name. A FETCH that failed has moved its cursor only where a value of the row can't be assigned.
+/// OPEN only reads, and leaves its transaction as it was; where it fails it leaves the cursors, too.
 #[tactic(auto, using(crate::proofs::Cursors::declare_moves, crate::proofs::Cursors::fetch_moves, crate::proofs::Cursors::close_moves, crate::proofs::Cursors::remove_moves, crate::proofs::Cursors::open_moves, crate::proofs::Cursors::open_leaves))]
 pub fn law_cursors()
     ensures declares { DeclareMoves }

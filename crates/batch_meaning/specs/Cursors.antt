@@ -18,9 +18,9 @@ use Rattle.batch_meaning.specs.declared.failure.Failure.{Failure}
 use Rattle.batch_meaning.specs.Raised.{Around}
 use Rattle.batch_meaning.specs.Progress.{SessionProgress, declares, fetches, fills, removes, shuts, tells_fetch}
 use Rattle.batch_meaning.specs.Doing.{Doing, over, makes}
-use Rattle.batch_meaning.specs.Values.{assigned_to, outside_limits}
+use Rattle.batch_meaning.specs.Values.{Assigned, assigned_to, outside_limits}
 use Rattle.batch_meaning.specs.Selecting.{Effect, no_effect}
-use Rattle.batch_meaning.specs.Asking.{◌>>=◌, comes_to, fails, fails_naming, with_room}
+use Rattle.batch_meaning.specs.Asking.{◌>>=◌, fails, fails_naming, with_room}
 use Rattle.batch_meaning.specs.Working.{answers, within}
 use Rattle.batch_meaning.specs.Transactions.{bound_first}
 
@@ -93,19 +93,19 @@ module _ (around : Around) where
 
 -- ---- FETCH: the next row, whose values are assigned to variables, in turn
 
--- Behind the last row @@FETCH_STATUS is -1, and the variables are left. A row is fetched also where a value of it can't be assigned, which
--- leaves all variables and @@FETCH_STATUS.
-abbrev pub assigns_row : SessionProgress → List (List ℕ) → Option (List Value) → Doing (Result Effect Failure)
-assigns_row p variables None = makes (tells_fetch (negsuc 0)) (over (Ok no_effect))
-assigns_row p variables (Some row) = comes_to (assigned_to p.vars variables row) >>= λ sets.
-    makes (tells_fetch (pos 0)) (over (Ok (record { sets = sets; rows = 1; tokens = [] })))
+-- a row that is fetched: where a value of it can't be assigned, all variables and @@FETCH_STATUS are left
+abbrev pub assigns_row : Result (List Assigned) Failure → Doing (Result Effect Failure)
+assigns_row (Ok sets) = makes (tells_fetch (pos 0)) (over (Ok (record { sets = sets; rows = 1; tokens = [] })))
+assigns_row (Err failure) = over (Err failure)
 
+-- Behind the last row @@FETCH_STATUS is -1, and the variables are left. Where memory is wanting for what a row assigns, it is the next as before.
 abbrev pub fetches_row : SessionProgress → List ℕ → List (List ℕ) → Option (List Value) → Doing (Result Effect Failure)
-fetches_row p name variables row = makes (fetches name) (assigns_row p variables row)
+fetches_row p name variables None = makes (tells_fetch (negsuc 0)) (over (Ok no_effect))
+fetches_row p name variables (Some row) = with_room (makes (fetches name) (assigns_row (assigned_to p.vars variables row)))
 
 abbrev pub fetches_into : SessionProgress → List ℕ → List (List ℕ) → List SqlType → Doing (Result Effect Failure)
 fetches_into p name variables kinds = if length variables == length kinds
-    then answered name (λ row. with_room (fetches_row p name variables row)) (next_of name p.cursors)
+    then answered name (fetches_row p name variables) (next_of name p.cursors)
     else fails other_count
 
 unfoldable pub fetches_cursor : Statement → List ℕ → List (List ℕ) → Doing (Result Effect Failure)

@@ -391,8 +391,8 @@ module _ (one : Statement → Meaning) where
   mean_form around statement (Form-F.Return value) = concludes around statement (λ status. succeeds statement no_effect (over (Return status))) (statuses around statement)
   mean_form around statement (Form-F.SetOption option) = sets_option around statement option
   mean_form around statement (Form-F.BeginTransaction name) = does around statement On (begins_transaction statement name)
-  mean_form around statement (Form-F.Commit name) = does around statement On (commits_transaction statement)
-  mean_form around statement (Form-F.Rollback name) = does around statement On (rolls_back_transaction statement name)
+  mean_form around statement (Form-F.Commit name) = does around statement On (commits_transaction name)
+  mean_form around statement (Form-F.Rollback name) = does around statement On (rolls_back_transaction name)
   mean_form around statement (Form-F.Save name) = does around statement On (saves_transaction statement name)
   mean_form around statement (Form-F.CreateTable table text) = does around statement On (creates_table around statement table.name text)
   mean_form around statement (Form-F.Drop kind name) = does around statement On (drops around statement kind name)

@@ -1,7 +1,8 @@
 -- Transact-SQL reference, "BEGIN TRANSACTION", "COMMIT TRANSACTION", "ROLLBACK TRANSACTION" and "SAVE TRANSACTION": what such a statement asks, and what it
--- tells. Each of them names nothing that is looked up; its own names are bound first.
+-- tells. Each of them names nothing that is looked up. A transaction is ended without memory: what COMMIT and ROLLBACK want of it was taken as that began.
 use Rattle.std.specs.Prelude.{ℕ, ℤ, ◌+◌, min, not, Bool, true, false, nat_le, if◌then◌else◌, List, [], ◌∷◌, Option, None, Some, Result, Ok, Err}
 use Rattle.tsql_tree.specs.declared.statement.Statement.{Statement}
+use Rattle.binder.specs.Statements.{is_maybe_long}
 use Rattle.step_model.specs.declared.op.Op.TheVariants as ops
 use Rattle.txn_rules.specs.declared.state.BackKind.{BackKind}
 use Rattle.txn_rules.specs.declared.state.BackKind.TheVariants.{Mark, Whole}
@@ -14,6 +15,7 @@ use Rattle.batch_meaning.specs.Tokens.{transaction_begun, transaction_committed,
 use Rattle.batch_meaning.specs.Progress.{SessionProgress, closes_one, opens, saves}
 use Rattle.batch_meaning.specs.Doing.{Doing, over, reads, makes, asks, ◌then◌}
 use Rattle.batch_meaning.specs.Selecting.{Effect, bound_over, no_effect, sending}
+use Rattle.batch_meaning.specs.Values.{outside_limits}
 use Rattle.batch_meaning.specs.Asking.{◌>>=◌, comes_to, fails, if_bytes_left, marked, unless_refused, where_begun, where_done, where_ended, with_room}
 
 -- ---- the numbers of its errors
@@ -88,14 +90,18 @@ bound_first statement go = do
   of ← (reads λ p. comes_to (bound_over [] p.vars statement))
   with_room (reads go)
 
+-- one that ends a transaction: only its name is looked at first
+abbrev pub named_first : Option (List ℕ) → (SessionProgress → Doing (Result Effect Failure)) → Doing (Result Effect Failure)
+named_first name go = if is_maybe_long name then fails outside_limits else reads go
+
 unfoldable pub begins_transaction : Statement → Option (List ℕ) → Doing (Result Effect Failure)
 begins_transaction statement name = bound_first statement (begins_over name)
 
-unfoldable pub commits_transaction : Statement → Doing (Result Effect Failure)
-commits_transaction statement = bound_first statement λ p. commits_by p (commit_answer p.txn)
+unfoldable pub commits_transaction : Option (List ℕ) → Doing (Result Effect Failure)
+commits_transaction name = named_first name λ p. commits_by p (commit_answer p.txn)
 
-unfoldable pub rolls_back_transaction : Statement → Option (List ℕ) → Doing (Result Effect Failure)
-rolls_back_transaction statement name = bound_first statement λ p. rolls_back_to name p
+unfoldable pub rolls_back_transaction : Option (List ℕ) → Doing (Result Effect Failure)
+rolls_back_transaction name = named_first name (rolls_back_to name)
 
 unfoldable pub saves_transaction : Statement → List ℕ → Doing (Result Effect Failure)
 saves_transaction statement name = bound_first statement λ p. saves_unless name (save_refusal p.txn)

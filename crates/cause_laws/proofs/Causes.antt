@@ -57,7 +57,8 @@ use Rattle.batch_meaning.specs.Values.{Assigned, is_message, outside_limits}
 use Rattle.batch_meaning.specs.Working.{asks_any, binds, composes, enters, known_by, leaves, relaxes, statuses, tests, works}
 use Rattle.batch_meaning.specs.Writes.{Written, change_bound, creates_definition, creates_table, drops, is_odd_procedure}
 use Rattle.cause_laws.specs.Causes as law
-use Rattle.cause_laws.specs.Causes.{BatchCauses, CallCauses, StatementCauses}
+use Rattle.cause_laws.specs.Causes.{AssignedFails, BatchCauses, CallCauses, StatementCauses}
+use Rattle.cause_laws.proofs.Usual.{no_want}
 use Rattle.cause_laws.proofs.UsualValues.{Anything, RefusedUsual, UsualOr, assigned_usual, call_usual, option_usual, read_usual}
 use Rattle.cause_laws.proofs.Watch.{CaughtBy, CaughtOther, Guard, IsOther, LeavesBy, LeavesOther, TellsBy, TellsNone, TellsOther, Watch}
 use Rattle.cause_laws.proofs.Locks.{caught_other, leaves_other, lock_watch, told_none}
@@ -407,8 +408,8 @@ module _ (error : Guard) where
       clean_form (Form-F.Return value) = clean_concludes {A = ℤ} Anything around statement (λ status. succeeds statement no_effect (over (Return status))) (statuses around statement) (clean_statuses error around statement) (λ status any. clean_succeeds statement no_effect (over (Return status)) tt tt)
       clean_form (Form-F.SetOption option) = clean_option around statement option
       clean_form (Form-F.BeginTransaction name) = clean_does around statement (begins_transaction statement name) (clean_begins error statement name)
-      clean_form (Form-F.Commit name) = clean_does around statement (commits_transaction statement) (clean_commits error statement)
-      clean_form (Form-F.Rollback name) = clean_does around statement (rolls_back_transaction statement name) (clean_rolls error statement name)
+      clean_form (Form-F.Commit name) = clean_does around statement (commits_transaction name) (clean_commits error name)
+      clean_form (Form-F.Rollback name) = clean_does around statement (rolls_back_transaction name) (clean_rolls error name)
       clean_form (Form-F.Save name) = clean_does around statement (saves_transaction statement name) (clean_saves error statement name)
       clean_form (Form-F.CreateTable table text) = clean_does around statement (creates_table around statement table.name text) (clean_create error around statement table.name text)
       clean_form (Form-F.Drop kind name) = clean_does around statement (drops around statement kind name) (clean_drops error around statement kind name)
@@ -639,3 +640,6 @@ call_causes error call read old new exchanges reads_so none held =
     let come = held_clean (lock_watch error) {A = Unit {0}} Anything statement_limit (runs_rpc (λ inner at. mean_of statement_limit inner at) call read then ends_rpc) (made counts (made (begins (rpc_vars call)) old)) new exchanges tt (λ enough. tt) (λ few q. tt)
     (clean_whole_call (lock_watch error) (λ failed. tt) call read (called_usual call.text read reads_so)) none held in
     subst (law.TellsNone error) (sym come.1.1) (told_none error come.1.0 come.1.2)
+
+pub assigned_fails : AssignedFails
+assigned_fails vars names values failure is = no_want failure.number (subst (UsualOr {A = List Assigned} Anything) is (assigned_usual vars names values))

@@ -11,6 +11,7 @@ use Rattle.tsql_tree.specs.declared.statement.Statement.{Statement}
 use Rattle.bound_tree.specs.declared.write.Bound.{Bound}
 use Rattle.bound_tree.specs.declared.write.Bound.TheVariants as bound
 use Rattle.binder.specs.Names.{looked_up}
+use Rattle.binder.specs.Statements.{is_maybe_long}
 use Rattle.clause_binder.specs.Scope.{is_long}
 use Rattle.session_cursors.specs.declared.cursor.Cursor.{Cursor}
 use Rattle.session_cursors.specs.declared.fault.CursorFault.{CursorFault}
@@ -32,19 +33,19 @@ use Rattle.batch_meaning.specs.Changing.{created, object_present, unknown_table}
 use Rattle.batch_meaning.specs.Cursors.{already_there, answered, assigns_row, closes_cursor, declares_cursor, fails_for_cursor, fetches_cursor, fetches_into, fetches_row, fills_with, kinds_of, no_such_cursor, opens_bound, opens_cursor, opens_kept, other_count, removes_cursor, select_statement}
 use Rattle.batch_meaning.specs.Doing.{Doing, asks, makes, over, reads, ◌then◌}
 use Rattle.batch_meaning.specs.Failures.{naming, plain}
-use Rattle.batch_meaning.specs.Progress.{SessionProgress, declares, fills, opens, removes, saves, shuts}
+use Rattle.batch_meaning.specs.Progress.{SessionProgress, declares, fetches, fills, opens, removes, saves, shuts}
 use Rattle.batch_meaning.specs.Raised.{Around}
 use Rattle.batch_meaning.specs.Selecting.{Effect, bound_over, no_effect, sending}
 use Rattle.batch_meaning.specs.Settings.{outside_profile}
 use Rattle.batch_meaning.specs.Tokens.{transaction_begun, transaction_committed, transaction_rolled_back}
-use Rattle.batch_meaning.specs.Transactions.{begins_outermost, begins_over, begins_transaction, bound_first, commits_by, commits_transaction, goes_back, next_serial, nothing_open, rolls_back_to, rolls_back_transaction, rolls_back_whole, saves_transaction, saves_unless, unless_own}
+use Rattle.batch_meaning.specs.Transactions.{begins_outermost, begins_over, begins_transaction, bound_first, commits_by, commits_transaction, goes_back, named_first, next_serial, nothing_open, rolls_back_to, rolls_back_transaction, rolls_back_whole, saves_transaction, saves_unless, unless_own}
 use Rattle.batch_meaning.specs.Values.{Assigned, assigned_to, outside_limits}
 use Rattle.batch_meaning.specs.Working.{answers, asks_any, known_by, own, within}
 use Rattle.batch_meaning.specs.Writes.{creates, creates_definition, creates_table, inserted, is_odd_list, puts_definition, unless_objects, where_table}
 use Rattle.cause_laws.proofs.Usual.{UsualIf}
-use Rattle.cause_laws.proofs.UsualValues.{Anything, AnswersUsual, assigned_usual, commit_usual, rollback_usual, save_usual}
+use Rattle.cause_laws.proofs.UsualValues.{Anything, AnswersUsual, UsualOr, assigned_usual, commit_usual, rollback_usual, save_usual}
 use Rattle.cause_laws.proofs.Watch.{Guard, IsOther, Says, TellsNone, TellsOther}
-use Rattle.cause_laws.proofs.Clean.{Clean, OtherOr, clean_begun, clean_bind, clean_comes, clean_done, clean_ended, clean_if, clean_marked, clean_naming, clean_refused, clean_room, usual_other, wants_other}
+use Rattle.cause_laws.proofs.Clean.{Clean, OtherOr, clean_begun, clean_bind, clean_done, clean_ended, clean_if, clean_marked, clean_naming, clean_refused, clean_room, usual_other, wants_other}
 use Rattle.cause_laws.proofs.CleanParts.{EffectOther, Effects, Parts, clean_answers, clean_binds, clean_bound, clean_left, clean_look, clean_own, clean_within}
 
 -- ---- faults of cursors
@@ -148,9 +149,12 @@ module _ (error : Guard) where
   own_other true token other = tt
   own_other false token other = (other, tt)
 
-  pub clean_commits : (statement : Statement) → Effects error (commits_transaction statement)
+  clean_named : (name : Option (List ℕ)) (go : SessionProgress → Doing (Result Effect Failure)) → ((p : SessionProgress) → Effects error (go p)) → Effects error (named_first name go)
+  clean_named name go clean = clean_if error (OtherOr error (EffectOther error)) (is_maybe_long name) (fails outside_limits) (reads go) (usual_other error (pos 49007) refl) (λ p at. clean p)
+
+  pub clean_commits : (name : Option (List ℕ)) → Effects error (commits_transaction name)
   unfolding commits_transaction
-  clean_commits statement = clean_first statement (λ p. commits_by p (commit_answer p.txn)) (λ p. by_answer p (commit_answer p.txn) (commit_usual p.txn))
+  clean_commits name = clean_named name (λ p. commits_by p (commit_answer p.txn)) (λ p. by_answer p (commit_answer p.txn) (commit_usual p.txn))
     where
       by_answer : (p : SessionProgress) (answer : Result Bool ℤ) → AnswersUsual answer → Effects error (commits_by p answer)
       by_answer p (Err number) usual = usual_other error number usual
@@ -163,9 +167,9 @@ module _ (error : Guard) where
   clean_whole p = clean_left error (EffectOther error) (unless_own p.is_own (transaction_rolled_back p.txn.serial)) _
       (λ reply says. clean_ended error (OtherOr error (EffectOther error)) (over (Ok (sending (unless_own p.is_own (transaction_rolled_back p.txn.serial))))) (own_other p.is_own (transaction_rolled_back p.txn.serial) tt) reply)
 
-  pub clean_rolls : (statement : Statement) (name : Option (List ℕ)) → Effects error (rolls_back_transaction statement name)
+  pub clean_rolls : (name : Option (List ℕ)) → Effects error (rolls_back_transaction name)
   unfolding rolls_back_transaction
-  clean_rolls statement name = clean_first statement (λ p. rolls_back_to name p) (by_name name)
+  clean_rolls name = clean_named name (rolls_back_to name) (by_name name)
     where
       by_answer : (called : List ℕ) (p : SessionProgress) (answer : Result BackKind ℤ) → AnswersUsual answer → Effects error (goes_back called p answer)
       by_answer called p (Err number) usual = clean_room error (EffectOther error) (over (Err (record { number = number; name = Some called }))) (usual_other error number usual)
@@ -214,15 +218,19 @@ module _ (error : Guard) where
   clean_opens around statement name = clean_first statement (λ p. answered name (opens_kept around statement name p) (list.query_of name p.cursors)) (λ p. clean_answered name (opens_kept around statement name p) (list.query_of name p.cursors) (known_in (λ cursor. Ok cursor.query) (list.cursor_of name p.cursors) (λ cursor. tt))
       (λ select. clean_answered name (λ done. within around (select_statement statement select) (opens_bound around name)) (list.fill_answer name p.cursors) (known_in (λ cursor. list.fill_on cursor.answer) (list.cursor_of name p.cursors) (λ cursor. known_on cursor.answer)) (λ done. clean_within error (EffectOther error) around (select_statement statement select) (opens_bound around name) (clean_filled around name))))
 
-  clean_row : (p : SessionProgress) (variables : List (List ℕ)) (row : Option (List Value)) → Effects error (assigns_row p variables row)
-  clean_row p variables None = (tt, tt)
-  clean_row p variables (Some row) = clean_bind error {A = List Assigned} Anything (EffectOther error) (comes_to (assigned_to p.vars variables row)) _ (clean_comes error Anything (assigned_to p.vars variables row) (assigned_usual p.vars variables row)) (λ sets any. (tt, tt))
+  clean_row : (p : SessionProgress) (name : List ℕ) (variables : List (List ℕ)) (row : Option (List Value)) → Effects error (fetches_row p name variables row)
+  clean_row p name variables None = (tt, tt)
+  clean_row p name variables (Some row) = clean_room error (EffectOther error) (makes (fetches name) (assigns_row (assigned_to p.vars variables row))) (tt, by_sets (assigned_to p.vars variables row) (assigned_usual p.vars variables row))
+    where
+      by_sets : (sets : Result (List Assigned) Failure) → UsualOr Anything sets → Effects error (assigns_row sets)
+      by_sets (Ok sets) usual = (tt, tt)
+      by_sets (Err failure) usual = usual_other error failure.number usual
 
   pub clean_fetches : (statement : Statement) (name : List ℕ) (variables : List (List ℕ)) → Effects error (fetches_cursor statement name variables)
   unfolding fetches_cursor
   clean_fetches statement name variables = clean_first statement (λ p. answered name (fetches_into p name variables) (list.kinds_of name p.cursors)) (λ p. clean_answered name (fetches_into p name variables) (list.kinds_of name p.cursors) (known_in (λ cursor. list.given_by (λ left. left.kinds) cursor.answer) (list.cursor_of name p.cursors) (λ cursor. known_given (λ left. left.kinds) cursor.answer))
       (λ kinds. clean_if error (OtherOr error (EffectOther error)) (length variables == length kinds) _ (fails other_count)
-      (clean_answered name (λ row. with_room (fetches_row p name variables row)) (list.next_of name p.cursors) (known_in (λ cursor. list.given_by list.first_row cursor.answer) (list.cursor_of name p.cursors) (λ cursor. known_given list.first_row cursor.answer)) (λ row. clean_room error (EffectOther error) (fetches_row p name variables row) (tt, clean_row p variables row))) (usual_other error (pos 49012) refl)))
+      (clean_answered name (fetches_row p name variables) (list.next_of name p.cursors) (known_in (λ cursor. list.given_by list.first_row cursor.answer) (list.cursor_of name p.cursors) (λ cursor. known_given list.first_row cursor.answer)) (clean_row p name variables)) (usual_other error (pos 49012) refl)))
 
   pub clean_shuts : (statement : Statement) (name : List ℕ) → Effects error (closes_cursor statement name)
   unfolding closes_cursor

@@ -1,18 +1,21 @@
--- Own: `StatementCauses`, `BatchCauses` and `CallCauses`. A client is told ERROR 1205 only where the engine has replied Victim, and ERROR 1222 only where it has
+-- Own: `StatementCauses`, `BatchCauses`, `CallCauses` and `AssignedFails`. A client is told ERROR 1205 only where the engine has replied Victim, and ERROR 1222 only where it has
 -- replied TimedOut. Whatever else a statement fails by has another number.
-use Rattle.std.specs.Prelude.{◌≡◌, ◌≢◌, ℕ, ℤ, pos, Bool, true, false, List, ◌++◌, Option, None, Some}
+use Rattle.std.specs.Prelude.{◌≡◌, ◌≢◌, ℕ, ℤ, pos, Bool, true, false, List, ◌++◌, Option, None, Some, Err}
 use Rattle.std.specs.List.{AllByRecursion}
+use Rattle.value_types.specs.declared.value.Value.{Value}
+use Rattle.session_vars.specs.declared.Variable.{Variable}
 use Rattle.tsql_tree.specs.declared.statement.Statement.{Statement}
 use Rattle.step_model.specs.declared.reply.Reply.{Reply}
 use Rattle.step_model.specs.declared.reply.Reply.TheVariants.{TimedOut, Victim}
 use Rattle.step_model.specs.Exchange.{Exchange}
-use Rattle.step_model.specs.Ranges.{deadlock, lock_timeout}
+use Rattle.step_model.specs.Ranges.{deadlock, lock_timeout, no_memory}
 use Rattle.tds_tokens.specs.declared.token.Token.{Token}
 use Rattle.tds_tokens.specs.declared.token.Token.TheVariants.{Error}
 use Rattle.batch_meaning.specs.Rpc.{ReadsFor, rpc}
 use Rattle.batch_meaning.specs.declared.errand.Errand.{Errand}
 use Rattle.batch_meaning.specs.declared.exit.Exit.{Exit}
 use Rattle.batch_meaning.specs.declared.exit.Exit.TheVariants.{Raise, RaiseUp}
+use Rattle.batch_meaning.specs.declared.failure.Failure.{Failure}
 use Rattle.batch_meaning.specs.declared.form.ReadText.{ReadText}
 use Rattle.batch_meaning.specs.declared.raised.Raised.{Raised}
 use Rattle.batch_meaning.specs.Doing.{Held}
@@ -20,6 +23,7 @@ use Rattle.batch_meaning.specs.Meaning.{batch, mean_of}
 use Rattle.batch_meaning.specs.Progress.{SessionProgress}
 use Rattle.batch_meaning.specs.Raised.{Around}
 use Rattle.batch_meaning.specs.Statements.{ReadsAs}
+use Rattle.batch_meaning.specs.Values.{assigned_to}
 
 -- ---- errors of locks
 
@@ -88,3 +92,10 @@ BatchCauses = (error : LockError) (text : List ℕ) (read : ReadText) (old new :
 abbrev pub CallCauses : Type 0
 CallCauses = (error : LockError) (call : Errand) (read : ReadText) (old new : SessionProgress) (exchanges : List Exchange)
     → ReadsFor call.text read → NeverAnswered error exchanges → Held (rpc call read) old exchanges tt new → TellsNone error new.tokens
+
+-- ---- assignments
+
+-- A value that can't be assigned is no want of memory. So a FETCH that is told that has not moved (`law_cursors` of `batch_laws`).
+abbrev pub AssignedFails : Type 0
+AssignedFails = (vars : List Variable) (names : List (List ℕ)) (values : List Value) (failure : Failure)
+    → assigned_to vars names values ≡ Err failure → failure.number ≢ pos no_memory

@@ -1,6 +1,7 @@
 //! A cursor, and the answer that it goes through.
 
 ghost use Rattle.std.specs.Prelude.{◌≡◌};
+ghost use Rattle.std.specs.Option.{option_copied};
 ghost use Rattle.std.specs.Result.{result_map_both};
 ghost use Rattle.session_cursors.specs.Cursors as spec;
 
@@ -40,6 +41,13 @@ impl Answer {
         ensures { result.now ≡ self.now.kinds }
     {
         self.kinds.as_slice()
+    }
+
+    /// The first of the rows that are still to come.
+    fn first_row(&self) -> Option<&Row>
+        ensures { option_copied result ≡ spec.first_row self.now }
+    {
+        self.rows.front()
     }
 
     /// Takes the first of the rows that are still to come.
@@ -84,6 +92,16 @@ impl<Q: Drop> Cursor<Q> {
                 self.answer = Some(Answer::new(kinds, rows));
                 Ok(())
             }
+        }
+    }
+
+    /// Its next row, which stays the next.
+    pub(crate) fn peek(&self) -> Result<Option<&Row>, CursorFault>
+        ensures { result_map_both option_copied (λ fault. fault) result ≡ spec.given_by spec.first_row self.now.answer }
+    {
+        match &self.answer {
+            Some(answer) => Ok(answer.first_row()),
+            None => Err(CursorFault::NotFilled),
         }
     }
 

@@ -1,6 +1,7 @@
 //! The cursors of a connection.
 
 ghost use Rattle.std.specs.Prelude.{◌≡◌, [], All, OnErr, OnOk, option_map};
+ghost use Rattle.std.specs.Option.{option_copied};
 ghost use Rattle.std.specs.Result.{result_map_both};
 ghost use Rattle.session_cursors.specs.Answers.{HasKinds};
 ghost use Rattle.session_cursors.specs.Cursors as spec;
@@ -99,6 +100,17 @@ impl<Q: Drop> Cursors<Q> {
     {
         match self.find(name) {
             Some(cursor) => cursor.kinds(),
+            None => Err(CursorFault::NoSuch),
+        }
+    }
+
+    /// The next row of the open cursor of this name, which stays the next, or `None` past the last. Refused by
+    /// `NoSuch` where there is none, and by `NotFilled` where it is not open.
+    pub fn peek(&self, name: &Units) -> Result<Option<&Row>, CursorFault>
+        ensures { result_map_both option_copied (λ fault. fault) result ≡ spec.next_of name.now self.now }
+    {
+        match self.find(name) {
+            Some(cursor) => cursor.peek(),
             None => Err(CursorFault::NoSuch),
         }
     }

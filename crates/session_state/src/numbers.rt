@@ -6,6 +6,9 @@ pub const UNKNOWN_TABLE: u16 = 208;
 /// The error where memory was wanting for a statement.
 pub const NO_MEMORY: u16 = 701;
 
+/// The same, as the number of a failure.
+pub const WANTING: i32 = 701;
+
 /// The error of a session that fell as a deadlock's victim.
 pub const DEADLOCK: u16 = 1205;
 

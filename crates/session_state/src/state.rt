@@ -1,9 +1,11 @@
 //! How far a session has come, and what it asks of its port.
 
-ghost use Rattle.std.specs.Prelude.{◌≡◌, ◌<◌, ◌≤◌, ◌-◌, ◌==◌, min, nat_le, nat_lt, [], true, false, All, Ok, IfOk, IfErr, None};
+ghost use Rattle.std.specs.Prelude.{◌≡◌, ◌<◌, ◌≤◌, ◌-◌, ◌==◌, ℕ, min, nat_le, nat_lt, [], true, false, All, Ok, IfOk, IfErr, None, Some};
 ghost use Rattle.session_cursors.specs.Answers.{HasKinds};
 ghost use Rattle.session_cursors.specs.Cursors as list;
 ghost use Rattle.session_cursors.specs.Faults.{Gives};
+ghost use Rattle.step_model.specs.declared.op.Op.TheVariants.{Commit, Rollback};
+ghost use Rattle.step_model.specs.declared.reply.Reply.TheVariants.{Ended};
 ghost use Rattle.step_model.specs.Exchange.{MayCome, CanReply};
 ghost use Rattle.session_vars.specs.Variables.{FitsAt, HasItsType};
 ghost use Rattle.tds_tokens.specs.Fit.{FitTokens};
@@ -11,10 +13,13 @@ ghost use Rattle.txn_rules.specs.State.{commit_answer, count_limit, is_closed, r
 ghost use Rattle.batch_meaning.specs.Doing.{Exchanged};
 ghost use Rattle.batch_meaning.specs.Progress.{Ready, first_progress, made, asked, assigns, begins, closes_one, counts, declares, dooms, fetches, fills, fired_from, fires_from, stands_with, unless_ended, is_open_after, opens, removes, saves, sends, sets, shuts, size_of, tells_error, tells_fetch, tells_rows, touched_after, touches, txn_after};
 ghost use Rattle.batch_meaning.specs.Firing.{has_mark};
-ghost use Rattle.batch_meaning.specs.Transactions.{next_serial};
+ghost use Rattle.batch_meaning.specs.Tokens.{transaction_committed, transaction_rolled_back};
+ghost use Rattle.batch_meaning.specs.Transactions.{next_serial, unless_own};
+ghost use Rattle.session_state.specs.Ending.{KeepsEndings, begun_serial, ended_all};
 ghost use Rattle.session_state.specs.Parts.{SetsFit, assigned_all, cut_to};
 ghost use Rattle.session_state.specs.Sendable.{IsFit};
 
+use crate::endings::Endings;
 use crate::sendable::TokenList;
 use batch_meaning::Settings;
 use dml_exec::Level;
@@ -68,6 +73,7 @@ pub struct SessionState {
     is_own: bool,
     stands: bool,
     touched: bool,
+    endings: Option<Endings>,
 }
 
 impl Model for SessionState {
@@ -75,6 +81,7 @@ impl Model for SessionState {
     ghost use Rattle.tsql_tree.specs.contracts.query.Select as select;
     ghost use Rattle.std.specs.Coded.{codes};
     ghost use Rattle.batch_meaning.specs.Progress.{SessionProgress};
+    ghost use Rattle.session_state.specs.Ending.{KeepsEndings};
     ghost use Rattle.session_state.specs.Sendable.{IsFit};
 
     ghost Value = { SessionProgress };
@@ -83,7 +90,7 @@ impl Model for SessionState {
 
     ghost view = { λ s. record { tokens = s.tokens.items; bytes_left = s.bytes_left; statements_left = s.statements_left; vars = s.vars; row_count = s.row_count; error = s.error; fetch_status = s.fetch_status; cursors = s.cursors; settings = s.settings; txn = s.txn; is_open = s.is_open; is_own = s.is_own; stands = s.stands; touched = s.touched } };
 
-    ghost invariant = { λ s. IsFit s.tokens.items × (s.txn.count ≤ 2147483647) × (s.row_count ≤ 2147483647) × (s.stands ≡ true → s.is_open ≡ true) };
+    ghost invariant = { λ s. IsFit s.tokens.items × (s.txn.count ≤ 2147483647) × (s.row_count ≤ 2147483647) × (s.stands ≡ true → s.is_open ≡ true) × KeepsEndings s.txn s.is_own s.endings };
 }
 
 impl SessionState {
@@ -106,6 +113,7 @@ impl SessionState {
             is_own: false,
             stands: false,
             touched: false,
+            endings: None,
         }
     }
 
@@ -143,18 +151,50 @@ impl SessionState {
         self.is_own = unless_ended(self.is_own, reply);
         self.stands = unless_ended(self.stands, reply);
         self.touched = touched_after(self.touched, op);
-        self.note_txn(op, reply);
+        note_txn(&mut self.txn, op, reply);
     }
 
-    /// What an exchange makes of the transaction's savepoints and counts.
-    fn note_txn(&mut self, op: &Op, reply: &Reply)
-        ensures { self.new ≡ record self.old { txn = txn_after self.old.txn op.now reply.now } }
+    /// Commits the open transaction, and gives what is told of that: nothing of a statement's own.
+    pub fn commit<P: Port>(&mut self, alloc: Global, port: &mut P) -> TokenList
+        requires ready { Ready self.old (P.past port.old) }
+        requires counted { is_closed self.old.txn ≡ false }
+        ensures asked { (place : ℕ) × Exchanged (P.past port.old) (P.past port.new) Commit self.old (Ended place) self.new }
+        ensures tokens { result ≡ unless_own self.old.is_own (transaction_committed self.old.txn.serial) }
+        ensures ready { Ready self.new (P.past port.new) }
     {
-        match (op, reply) {
-            (_, Reply::Ended { .. }) => self.txn.ended(),
-            (Op::BackTo { mark }, Reply::Done) => self.txn.cut(*mark),
-            _ => {}
+        let is_own = self.is_own();
+        match port.ask(&Op::Commit, self.settings().manner) {
+            Reply::Ended { .. } => committed_tokens(alloc, is_own, self.end()),
+            _ => unreachable!(),
         }
+    }
+
+    /// Rolls the open transaction back, and gives what is told of that: nothing of a statement's own.
+    pub fn roll_back<P: Port>(&mut self, alloc: Global, port: &mut P) -> TokenList
+        requires ready { Ready self.old (P.past port.old) }
+        requires counted { is_closed self.old.txn ≡ false }
+        ensures asked { (place : ℕ) × Exchanged (P.past port.old) (P.past port.new) Rollback self.old (Ended place) self.new }
+        ensures tokens { result ≡ unless_own self.old.is_own (transaction_rolled_back self.old.txn.serial) }
+        ensures ready { Ready self.new (P.past port.new) }
+    {
+        let is_own = self.is_own();
+        match port.ask(&Op::Rollback, self.settings().manner) {
+            Reply::Ended { .. } => rolled_back_tokens(alloc, is_own, self.end()),
+            _ => unreachable!(),
+        }
+    }
+
+    /// The open transaction has ended. Gives what was kept for that.
+    fn end(&mut self) -> Option<Endings>
+        ensures ended { self.new ≡ ended_all self.old }
+        ensures kept { KeepsEndings self.old.txn self.old.is_own result }
+    {
+        self.is_open = false;
+        self.is_own = false;
+        self.stands = false;
+        self.touched = false;
+        self.txn.ended();
+        self.endings.take()
     }
 
     // ---- what it has come to
@@ -219,6 +259,34 @@ impl SessionState {
         ensures { result ≡ nat_lt self.now.bytes_left (size_of tokens.now) }
     {
         u64::from(self.bytes_left) < bytes_of_tokens(tokens.as_slice())
+    }
+
+    /// Whether what is told of a commit is more bytes than the batch may still send.
+    pub fn is_commit_full(&self, alloc: Global) -> bool
+        requires { is_closed self.now.txn ≡ false }
+        ensures { result ≡ nat_lt self.now.bytes_left (size_of (unless_own self.now.is_own (transaction_committed self.now.txn.serial))) }
+    {
+        if self.is_own {
+            return self.is_full(&TokenList::none(alloc));
+        }
+        match &self.endings {
+            Some(endings) => self.is_full(endings.committed()),
+            None => unreachable!(),
+        }
+    }
+
+    /// Whether what is told of a rollback is.
+    pub fn is_rollback_full(&self, alloc: Global) -> bool
+        requires { is_closed self.now.txn ≡ false }
+        ensures { result ≡ nat_lt self.now.bytes_left (size_of (unless_own self.now.is_own (transaction_rolled_back self.now.txn.serial))) }
+    {
+        if self.is_own {
+            return self.is_full(&TokenList::none(alloc));
+        }
+        match &self.endings {
+            Some(endings) => self.is_full(endings.rolled_back()),
+            None => unreachable!(),
+        }
     }
 
     /// The variables of the batch.
@@ -314,6 +382,17 @@ impl SessionState {
         ensures { result ≡ next_serial self.now.txn }
     {
         self.txn.serial.saturating_add(1)
+    }
+
+    /// The number of the transaction that is open behind a BEGIN.
+    pub fn begun_serial(&self) -> u64
+        ensures { result ≡ begun_serial self.now.txn }
+    {
+        if self.txn.count == 0 {
+            self.next_serial()
+        } else {
+            self.txn.serial
+        }
     }
 
     /// What a COMMIT does: whether it is the outermost, or the number of its error.
@@ -429,12 +508,14 @@ impl SessionState {
         self.settings = settings;
     }
 
-    /// BEGIN TRANSACTION begins or counts one.
-    pub fn open(&mut self, name: Option<Units>)
-        requires { self.old.txn.count < count_limit }
+    /// BEGIN TRANSACTION begins or counts one, with what is told at its end.
+    pub fn open(&mut self, name: Option<Units>, endings: Endings)
+        requires most { self.old.txn.count < count_limit }
+        requires number { endings ≡ begun_serial self.old.txn }
         ensures { self.new ≡ made (opens name) self.old }
     {
         self.txn.begin(name);
+        self.endings = Some(endings);
     }
 
     /// COMMIT counts one less.
@@ -552,6 +633,43 @@ impl SessionState {
         ensures removed { self.new ≡ made (removes name.now) self.old }
     {
         self.cursors.remove(name)
+    }
+}
+
+/// What an exchange makes of a transaction's savepoints and counts.
+fn note_txn(txn: &mut TxnState, op: &Op, reply: &Reply)
+    ensures { txn.new ≡ txn_after txn.old op.now reply.now }
+{
+    match (op, reply) {
+        (_, Reply::Ended { .. }) => txn.ended(),
+        (Op::BackTo { mark }, Reply::Done) => txn.cut(*mark),
+        _ => {}
+    }
+}
+
+/// What is told of a commit: nothing of a statement's own transaction.
+fn committed_tokens(alloc: Global, is_own: bool, endings: Option<Endings>) -> TokenList
+    ensures { (serial : ℕ) → (is_own ≡ false → endings ≡ Some serial) → result ≡ unless_own is_own (transaction_committed serial) }
+{
+    if is_own {
+        return TokenList::none(alloc);
+    }
+    match endings {
+        Some(endings) => endings.into_committed(),
+        None => TokenList::none(alloc),
+    }
+}
+
+/// What is told of a rollback: nothing of a statement's own transaction.
+fn rolled_back_tokens(alloc: Global, is_own: bool, endings: Option<Endings>) -> TokenList
+    ensures { (serial : ℕ) → (is_own ≡ false → endings ≡ Some serial) → result ≡ unless_own is_own (transaction_rolled_back serial) }
+{
+    if is_own {
+        return TokenList::none(alloc);
+    }
+    match endings {
+        Some(endings) => endings.into_rolled_back(),
+        None => TokenList::none(alloc),
     }
 }
 

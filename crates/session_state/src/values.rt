@@ -12,7 +12,7 @@ ghost use Rattle.session_vars.specs.Variables.{FitsAt};
 
 use crate::effect::Effect;
 use crate::failures::no_memory;
-use crate::numbers::{OUTSIDE_LIMITS, OUTSIDE_PROFILE};
+use crate::numbers::{OUTSIDE_LIMITS, OUTSIDE_PROFILE, WANTING};
 use crate::sendable::TokenList;
 use batch_meaning::{Failure, Raised};
 use convert_rules::{cast, error_of, type_of};
@@ -28,9 +28,6 @@ const ANY_TEXT: SqlType = SqlType::NText(4_000);
 
 /// The number of what RAISERROR raises, and the least number of THROW.
 const RAISERROR_NUMBER: i32 = 50_000;
-
-/// The number of the error where memory was wanting.
-const WANTING: i32 = 701;
 
 /// The class of what THROW raises.
 const THROW_CLASS: u8 = 16;

@@ -20,7 +20,7 @@ use Rattle.batch_meaning.specs.Progress.{SessionProgress}
 use Rattle.batch_meaning.specs.Raised.{Around}
 use Rattle.batch_meaning.specs.Selecting.{Effect, bound_over, no_effect}
 use Rattle.batch_meaning.specs.Transactions.{bound_first}
-use Rattle.batch_meaning.specs.Values.{assigned_to}
+use Rattle.batch_meaning.specs.Values.{Assigned, assigned_to}
 use Rattle.batch_meaning.specs.Working.{answers, asks_any, binds, enters, known_by, own, prepares, within}
 use Rattle.statement_paths.proofs.Only.{AnyStep, only_bind, only_comes, only_if, only_naming, only_room, only_then}
 use Rattle.sound_laws.proofs.Preparing.{prepares_read}
@@ -51,13 +51,17 @@ pub declares_still : (statement : Statement) (name : List ℕ) (select : Select)
 unfolding declares_cursor
 declares_still statement name select = first_still statement _ (λ p. answer_still name (λ done. makes (step.declares name select) (over (Ok no_effect))) (declare_answer name p.cursors) (λ done. (tt, tt)))
 
-row_still : (p : SessionProgress) (variables : List (List ℕ)) (row : Option (List Value)) → WritesNothing (assigns_row p variables row)
-row_still p variables None = (tt, tt)
-row_still p variables (Some row) = only_bind AnyStep IsStill (comes_to (assigned_to p.vars variables row)) _ (only_comes AnyStep IsStill (assigned_to p.vars variables row)) (λ sets. (tt, tt))
+row_still : (p : SessionProgress) (name : List ℕ) (variables : List (List ℕ)) (row : Option (List Value)) → WritesNothing (fetches_row p name variables row)
+row_still p name variables None = (tt, tt)
+row_still p name variables (Some row) = only_room AnyStep IsStill (makes (step.fetches name) (assigns_row (assigned_to p.vars variables row))) (tt, by_sets (assigned_to p.vars variables row))
+  where
+    by_sets : (sets : Result (List Assigned) Failure) → WritesNothing (assigns_row sets)
+    by_sets (Ok sets) = (tt, tt)
+    by_sets (Err failure) = tt
 
 into_still : (p : SessionProgress) (name : List ℕ) (variables : List (List ℕ)) (kinds : List SqlType) → WritesNothing (fetches_into p name variables kinds)
-into_still p name variables kinds = only_if AnyStep IsStill (length variables == length kinds) (answered name (λ row. with_room (fetches_row p name variables row)) (next_of name p.cursors)) (fails other_count)
-    (answer_still name (λ row. with_room (fetches_row p name variables row)) (next_of name p.cursors) (λ row. only_room AnyStep IsStill (fetches_row p name variables row) (tt, row_still p variables row))) tt
+into_still p name variables kinds = only_if AnyStep IsStill (length variables == length kinds) (answered name (fetches_row p name variables) (next_of name p.cursors)) (fails other_count)
+    (answer_still name (fetches_row p name variables) (next_of name p.cursors) (row_still p name variables)) tt
 
 pub fetches_still : (statement : Statement) (name : List ℕ) (variables : List (List ℕ)) → WritesNothing (fetches_cursor statement name variables)
 unfolding fetches_cursor

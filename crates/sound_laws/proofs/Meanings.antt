@@ -13,6 +13,7 @@ use Rattle.tsql_tree.specs.declared.statement.Form.{Form-F}
 use Rattle.tsql_tree.specs.declared.statement.Statement.{Statement}
 use Rattle.bound_tree.specs.declared.write.Bound.{Bound}
 use Rattle.binder.specs.Names.{Layer, form_of, looked_up}
+use Rattle.binder.specs.Statements.{is_maybe_long}
 use Rattle.error_table.specs.declared.action.Action.{Action}
 use Rattle.error_table.specs.declared.action.Action.TheVariants as action
 use Rattle.session_vars.specs.declared.Variable.{Variable}
@@ -54,7 +55,7 @@ use Rattle.batch_meaning.specs.Selecting.{Effect, bound_over, no_effect, result_
 use Rattle.batch_meaning.specs.Settings.{outside_profile, set_option}
 use Rattle.batch_meaning.specs.Statements.{vars_of}
 use Rattle.batch_meaning.specs.Tokens.{done_kind, procedure_done, transaction_begun, transaction_committed, transaction_rolled_back}
-use Rattle.batch_meaning.specs.Transactions.{begins_outermost, begins_over, begins_transaction, commits_by, commits_transaction, goes_back, next_serial, nothing_open, rolls_back_to, rolls_back_transaction, rolls_back_whole, saves_transaction, saves_unless, unless_own}
+use Rattle.batch_meaning.specs.Transactions.{begins_outermost, begins_over, begins_transaction, commits_by, commits_transaction, goes_back, named_first, next_serial, nothing_open, rolls_back_to, rolls_back_transaction, rolls_back_whole, saves_transaction, saves_unless, unless_own}
 use Rattle.batch_meaning.specs.Values.{is_message, outside_limits}
 use Rattle.batch_meaning.specs.Working.{asks_any, binds, composes, enters, known_by, leaves, own, relaxes, statuses, tests, works}
 use Rattle.batch_meaning.specs.Writes.{Written, change_bound, creates_definition, creates_table, drops, is_odd_procedure}
@@ -95,9 +96,12 @@ begins_still statement name = first_still statement (begins_over name)
     (λ p. only_if AnyStep IsStill (not p.is_open) (begins_outermost name (next_serial p.txn)) (if nat_le count_limit p.txn.count then fails outside_profile else makes (step.opens name) (over (Ok no_effect)))
     (outermost_still name (next_serial p.txn)) (only_if AnyStep IsStill (nat_le count_limit p.txn.count) (fails outside_profile) (makes (step.opens name) (over (Ok no_effect))) tt (tt, tt)))
 
-commits_still : (statement : Statement) → WritesNothing (commits_transaction statement)
+named_still : (name : Option (List ℕ)) (go : SessionProgress → Doing (Result Effect Failure)) → ((p : SessionProgress) → WritesNothing (go p)) → WritesNothing (named_first name go)
+named_still name go still = only_if AnyStep IsStill (is_maybe_long name) (fails outside_limits) (reads go) tt still
+
+commits_still : (name : Option (List ℕ)) → WritesNothing (commits_transaction name)
 unfolding commits_transaction
-commits_still statement = first_still statement (λ p. commits_by p (commit_answer p.txn)) (λ p. by_answer p (commit_answer p.txn))
+commits_still name = named_still name (λ p. commits_by p (commit_answer p.txn)) (λ p. by_answer p (commit_answer p.txn))
   where
     by_answer : (p : SessionProgress) (answer : Result Bool ℤ) → WritesNothing (commits_by p answer)
     by_answer p (Err number) = tt
@@ -119,9 +123,9 @@ to_still : (name : Option (List ℕ)) (p : SessionProgress) → WritesNothing (r
 to_still None p = only_if AnyStep IsStill (is_closed p.txn) (fails nothing_open) (rolls_back_whole p) tt (whole_still p)
 to_still (Some name) p = back_still name p (rollback_answer name p.txn)
 
-rolls_still : (statement : Statement) (name : Option (List ℕ)) → WritesNothing (rolls_back_transaction statement name)
+rolls_still : (name : Option (List ℕ)) → WritesNothing (rolls_back_transaction name)
 unfolding rolls_back_transaction
-rolls_still statement name = first_still statement (λ p. rolls_back_to name p) (λ p. to_still name p)
+rolls_still name = named_still name (rolls_back_to name) (to_still name)
 
 saves_still : (statement : Statement) (name : List ℕ) → WritesNothing (saves_transaction statement name)
 unfolding saves_transaction
@@ -490,8 +494,8 @@ module _ (one : Statement → Meaning) (around : Around) (statement : Statement)
       (λ status. carries_still (succeeds statement no_effect (over (Return status))) (succeeds_still statement no_effect (over (Return status)) tt))
   form_carry carry (Form-F.SetOption option) is back each self = carries_still (sets_option around statement option) (option_still around statement option)
   form_carry carry (Form-F.BeginTransaction name) is back each self = does_carry around statement On (begins_transaction statement name) (carries_still (begins_transaction statement name) (begins_still statement name))
-  form_carry carry (Form-F.Commit name) is back each self = does_carry around statement On (commits_transaction statement) (carries_still (commits_transaction statement) (commits_still statement))
-  form_carry carry (Form-F.Rollback name) is back each self = does_carry around statement On (rolls_back_transaction statement name) (carries_still (rolls_back_transaction statement name) (rolls_still statement name))
+  form_carry carry (Form-F.Commit name) is back each self = does_carry around statement On (commits_transaction name) (carries_still (commits_transaction name) (commits_still name))
+  form_carry carry (Form-F.Rollback name) is back each self = does_carry around statement On (rolls_back_transaction name) (carries_still (rolls_back_transaction name) (rolls_still name))
   form_carry carry (Form-F.Save name) is back each self = does_carry around statement On (saves_transaction statement name) (carries_still (saves_transaction statement name) (saves_still statement name))
   form_carry carry (Form-F.CreateTable table text) is back each self = does_carry around statement On (creates_table around statement table.name text) (creates_carry around statement table text is back)
   form_carry carry (Form-F.Drop kind name) is back each self = does_carry around statement On (drops around statement kind name) (drops_carry around statement kind name is)

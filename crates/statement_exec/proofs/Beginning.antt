@@ -15,6 +15,7 @@ use Rattle.bound_tree.specs.declared.write.Bound.{Bound}
 use Rattle.bound_tree.specs.declared.write.Bound.TheVariants as bound
 use Rattle.bound_tree.specs.declared.write.BoundWrite.{BoundWrite}
 use Rattle.binder.specs.Names.{Layer, form_of, looked_up}
+use Rattle.binder.specs.Statements.{is_maybe_long}
 use Rattle.table_rows.specs.Definitions.{is_objects}
 use Rattle.step_model.specs.declared.change.Planned.{Planned}
 use Rattle.step_model.specs.declared.op.Op.{Op}
@@ -50,7 +51,7 @@ use Rattle.batch_meaning.specs.Asking.{KnownNames, ◌>>=◌, ◌gives◌, appli
 use Rattle.batch_meaning.specs.Working.{answers, assigns_rows, asks_any, binds, closes, composes, composes_bound, computes, enters, given_in, if_it_fits, known_by, leaves, own, prepares, relaxes, select_bound, selects, selects_into, status_bound, statuses, tests, tests_bound, values_bound, within, works, works_bound}
 use Rattle.batch_meaning.specs.Writes.{change_bound, changes, creates, creates_definition, creates_table, drops, drops_definition, drops_found, drops_table, inserted, puts_definition, unless_objects, where_table}
 use Rattle.batch_meaning.specs.Cursors.{answered, fails_for_cursor, fills_with, opens_bound, opens_cursor, opens_kept}
-use Rattle.batch_meaning.specs.Transactions.{begins_outermost, begins_over, begins_transaction, bound_first, commits_by, commits_transaction, goes_back, rolls_back_to, rolls_back_transaction, rolls_back_whole, saves_transaction, saves_unless}
+use Rattle.batch_meaning.specs.Transactions.{begins_outermost, begins_over, begins_transaction, bound_first, commits_by, commits_transaction, goes_back, named_first, rolls_back_to, rolls_back_transaction, rolls_back_whole, saves_transaction, saves_unless}
 
 -- a step that leaves how many statements may begin
 abbrev pub IsPlain : SessionStep → Type 0
@@ -446,6 +447,9 @@ none_definition (Trigger trigger) text = none_roomed _ (none_own _ _ (none_bind 
 pub none_first : (statement : Statement) (go : SessionProgress → Doing (Result Effect Failure)) → ((p : SessionProgress) → BeginsNone (go p)) → BeginsNone (bound_first statement go)
 none_first statement go none = none_bind _ _ (none_comes _) (λ of. none_roomed _ (none_reads go none))
 
+pub none_named : (name : Option (List ℕ)) (go : SessionProgress → Doing (Result Effect Failure)) → ((p : SessionProgress) → BeginsNone (go p)) → BeginsNone (named_first name go)
+none_named name go none = none_if (is_maybe_long name) _ _ (none_over _) (none_reads go none)
+
 pub none_begins : (name : Option (List ℕ)) (p : SessionProgress) → BeginsNone (begins_over name p)
 unfolding begins_outermost
 none_begins name p = none_if _ _ _ (none_afforded _ _ (none_roomed _ (none_asks _ _ (none_refused _ (none_begun _ (none_makes _ _ tt (none_over _))))))) (none_if _ _ _ (none_over _) (none_makes _ _ tt (none_over _)))
@@ -527,13 +531,13 @@ module _ {before after : PortPast} {p new : SessionProgress} where
   unfolding begins_transaction
   begins_left statement name did = did_none _ (none_first statement _ (none_begins name)) did
 
-  pub commits_left : (statement : Statement) {result : Result (Result Effect Failure) Memory} → Did before after (commits_transaction statement) p result new → new.statements_left ≡ p.statements_left
+  pub commits_left : (name : Option (List ℕ)) {result : Result (Result Effect Failure) Memory} → Did before after (commits_transaction name) p result new → new.statements_left ≡ p.statements_left
   unfolding commits_transaction
-  commits_left statement did = did_none _ (none_first statement _ (λ q. none_commits q _)) did
+  commits_left name did = did_none _ (none_named name _ (λ q. none_commits q _)) did
 
-  pub rolls_left : (statement : Statement) (name : Option (List ℕ)) {result : Result (Result Effect Failure) Memory} → Did before after (rolls_back_transaction statement name) p result new → new.statements_left ≡ p.statements_left
+  pub rolls_left : (name : Option (List ℕ)) {result : Result (Result Effect Failure) Memory} → Did before after (rolls_back_transaction name) p result new → new.statements_left ≡ p.statements_left
   unfolding rolls_back_transaction
-  rolls_left statement name did = did_none _ (none_first statement _ (λ q. none_rolls name q)) did
+  rolls_left name did = did_none _ (none_named name _ (λ q. none_rolls name q)) did
 
   pub saves_left : (statement : Statement) (name : List ℕ) {result : Result (Result Effect Failure) Memory} → Did before after (saves_transaction statement name) p result new → new.statements_left ≡ p.statements_left
   unfolding saves_transaction

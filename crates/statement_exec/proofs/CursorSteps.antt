@@ -1,6 +1,6 @@
 -- The statements on cursors: what is answered of a cursor, what a refusal leaves, and the rows that a cursor is given.
-use Rattle.std.proofs.Common.{◌≡◌, ◌≢◌, ℕ, ◌==◌, inl, inr, Bool, true, false, if◌then◌else◌, cond, All, List, [], ◌∷◌, length, Option, None, Some, Result, Ok, Err, refl, sym, ap, ◌∙◌, subst}
-use Rattle.std.specs.Prelude.{find, option_map}
+use Rattle.std.proofs.Common.{◌≡◌, ◌≢◌, ℕ, pos, ◌==◌, inl, inr, Bool, true, false, if◌then◌else◌, cond, All, List, [], ◌∷◌, length, Option, None, Some, Result, Ok, Err, refl, sym, ap, subst}
+use Rattle.std.specs.Prelude.{find}
 use Rattle.std.specs.Result.{IsErr, IsErrAnd}
 use Rattle.std.proofs.lemmas.List.Elements.{All-cons, All-nil}
 use Rattle.value_types.specs.declared.memory.Memory.{Memory}
@@ -27,17 +27,17 @@ use Rattle.batch_meaning.specs.Failures.{plain}
 use Rattle.batch_meaning.specs.Raised.{Around}
 use Rattle.batch_meaning.specs.Selecting.{Effect, bound_over}
 use Rattle.batch_meaning.specs.Progress.{SessionProgress, fetches, made, removes, shuts}
-use Rattle.batch_meaning.specs.Doing.{Doing, Did, Held, reads, ◌then◌}
-use Rattle.batch_meaning.specs.Asking.{◌>>=◌, comes_to, fails, fails_naming, on_ok, with_room}
+use Rattle.batch_meaning.specs.Doing.{Doing, Did, Held, makes, reads, ◌then◌}
+use Rattle.batch_meaning.specs.Asking.{fails, fails_naming, on_ok, with_room}
 use Rattle.batch_meaning.specs.Transactions.{bound_first}
-use Rattle.batch_meaning.specs.Values.{outside_limits}
+use Rattle.batch_meaning.specs.Values.{Assigned, outside_limits}
 use Rattle.batch_meaning.specs.Cursors.{already_there, answered, assigns_row, fails_for_cursor, fetches_into, fetches_row, no_such_cursor, opens_bound, opens_kept, other_count, select_statement}
 use Rattle.batch_meaning.specs.Working.{within}
 use Rattle.statement_exec.specs.Selected.{BoundSo, IsBoundFirst}
 use Rattle.statement_exec.specs.CursorAnswers.{IsCounted, IsKept, IsOfCursor, IsRefused, counted_as, kept_as}
 use Rattle.session_state.specs.Parts.{IsNamed, IsOrMemory, Stepped}
 use Rattle.statement_exec.proofs.Parts.{does_made}
-use Rattle.session_state.proofs.Stepping.{does_stepped, meant_ok, stepped_made, stepped_no, stepped_reads, stepped_room, stepped_yes}
+use Rattle.session_state.proofs.Stepping.{does_stepped, meant_ok, stepped_made, stepped_makes, stepped_no, stepped_reads, stepped_room, stepped_yes}
 use Rattle.statement_exec.proofs.BoundFirst.{bound_on, does_go}
 
 -- ---- a refusal leaves the cursors
@@ -55,12 +55,6 @@ module _ {Q : Type 0} (name : List ℕ) where
         | true ↦ λ so. ap (λ (c : Cursor Q). c ∷ rest) (so cursor refl)
         | false ↦ λ so. ap (λ (others : List (Cursor Q)). cursor ∷ others) (with_same becomes rest so)
       ] same
-
-  pub fetched_same : (cursors : List (Cursor Q)) (fault : CursorFault) → list.next_of name cursors ≡ Err fault → list.fetched name cursors ≡ cursors
-  fetched_same cursors fault is = with_same list.advanced cursors (λ cursor found. by_answer cursor (not_open (Option (List Value)) list.first_row fault cursor.answer (rw found at is)))
-    where
-      by_answer : (cursor : Cursor Q) → cursor.answer ≡ None → list.advanced cursor ≡ cursor
-      by_answer cursor none = ap (λ (a : Option AnswerLeft). record cursor { answer = option_map list.behind_first a }) none ∙ ap (λ (a : Option AnswerLeft). record cursor { answer = a }) (sym none)
 
   pub closed_same : (cursors : List (Cursor Q)) (fault : CursorFault) → list.close_answer name cursors ≡ Err fault → list.closed name cursors ≡ cursors
   closed_same cursors fault is = with_same list.shut cursors (λ cursor found. ap (λ (a : Option AnswerLeft). record cursor { answer = a }) (sym (not_open (Unit {0}) (λ left. tt) fault cursor.answer (rw found at is))))
@@ -200,9 +194,6 @@ opens_other around name shapes bound.Plain other is = does_made is
 
 -- ---- steps that change nothing
 
-pub fetches_same : (name : List ℕ) (fault : CursorFault) (p : SessionProgress) → list.next_of name p.cursors ≡ Err fault → made (fetches name) p ≡ p
-fetches_same name fault p is = ap (λ (cursors : List (Cursor Select)). record p { cursors = cursors }) (fetched_same name p.cursors fault is)
-
 pub shuts_same : (name : List ℕ) (fault : CursorFault) (p : SessionProgress) → list.close_answer name p.cursors ≡ Err fault → made (shuts name) p ≡ p
 shuts_same name fault p is = ap (λ (cursors : List (Cursor Select)). record p { cursors = cursors }) (closed_same name p.cursors fault is)
 
@@ -218,7 +209,7 @@ stepped_kept {tree = tree} {p = p} {result = result} same was = subst (λ (q : S
 module _ (p : SessionProgress) (name : List ℕ) (variables : List (List ℕ)) where
   -- the cursor has so many columns
   pub fetches_on : (kinds : Result (List SqlType) CursorFault) {q new : SessionProgress} {result : Result Effect Failure} → IsCounted name (length variables) kinds (Ok tt)
-      → Stepped (answered name (λ row. with_room (fetches_row p name variables row)) (list.next_of name p.cursors)) q (Ok result) new → Stepped (answered name (fetches_into p name variables) kinds) q (Ok result) new
+      → Stepped (answered name (fetches_row p name variables) (list.next_of name p.cursors)) q (Ok result) new → Stepped (answered name (fetches_into p name variables) kinds) q (Ok result) new
   fetches_on (Ok kinds) is was = stepped_yes (length variables == length kinds) _ _ (by_count (length variables == length kinds) is) was
     where
       by_count : (same : Bool) → Ok tt ≡ counted_as same → same ≡ true
@@ -240,26 +231,25 @@ module _ (p : SessionProgress) (name : List ℕ) (variables : List (List ℕ)) w
   fetches_fails kinds failure (Ok effect) err same is = absurd (let never : false ≡ true = err in cc)
   fetches_fails kinds failure (Err x) {q = q} err same is = subst (λ (f : Failure). Stepped {A = Result Effect Failure} (answered name (fetches_into p name variables) kinds) q (Ok (Err f)) q) (sym same) (fetches_not kinds failure is)
 
--- the row is assigned with the variables as they are
-pub assigns_same : (name : List ℕ) (p q : SessionProgress) (variables : List (List ℕ)) (row : List Value) {new : SessionProgress} {result : Result (Result Effect Failure) Memory} → q ≡ made (fetches name) p
-    → Stepped (assigns_row q variables (Some row)) q result new → Stepped (assigns_row p variables (Some row)) q result new
-assigns_same name p q variables row {new = new} {result = result} same was = subst (λ (x : SessionProgress). Stepped (assigns_row x variables (Some row)) q result new) same was
+-- the row that comes next is passed
+module _ (name : List ℕ) (meant : Result (List Assigned) Failure) {p q : SessionProgress} where
+  -- it is assigned
+  pub passes_row : (sets : List Assigned) {new : SessionProgress} {result : Result Effect Failure} → IsOrMemory meant (Ok sets) → q ≡ made (fetches name) p → Stepped (assigns_row (Ok sets)) q (Ok result) new
+      → Stepped (with_room (makes (fetches name) (assigns_row meant))) p (Ok result) new
+  passes_row sets {new = new} {result = result} is moved was =
+      stepped_room true (stepped_makes moved (subst (λ (m : Result (List Assigned) Failure). Stepped (assigns_row m) q (Ok result) new) (sym (meant_ok meant sets is)) was))
 
-module _ {A B : Type 0} (meant : Result A Failure) (go : A → Doing (Result B Failure)) where
-  -- what wants memory goes on
-  pub stepped_comes : (a : A) {p new : SessionProgress} {result : Result (Result B Failure) Memory} → IsOrMemory meant (Ok a) → Stepped (go a) p result new → Stepped (comes_to meant >>= go) p result new
-  unfolding ◌then◌
-  stepped_comes a {p = p} {new = new} {result = result} is was = stepped_room true (subst (λ (m : Result A Failure). Stepped (on_ok go m) p result new) (sym (meant_ok meant a is)) was)
+  -- or a value of it can't be assigned
+  pub passes_failed : (failure : Failure) → failure.number ≢ pos 701 → IsOrMemory meant (Err failure) → q ≡ made (fetches name) p → Stepped (with_room (makes (fetches name) (assigns_row meant))) p (Ok (Err failure)) q
+  passes_failed failure other (inl same) moved =
+      stepped_room true (stepped_makes moved (subst (λ (m : Result (List Assigned) Failure). Stepped (assigns_row m) q (Ok (Err failure)) q) same (stepped_made refl)))
+  passes_failed failure other (inr none) moved =
+      let is : failure ≡ plain 701 = cc in
+      absurd (other (ap (λ (f : Failure). f.number) is))
 
-  -- or does not
-  stepped_comes_not : (failure : Failure) {p : SessionProgress} → IsOrMemory meant (Err failure) → Stepped (comes_to meant >>= go) p (Ok (Err failure)) p
-  unfolding ◌then◌
-  stepped_comes_not failure {p = p} (inl same) = stepped_room true (subst (λ (m : Result A Failure). Stepped (on_ok go m) p (Ok (Err failure)) p) same (stepped_made refl))
-  stepped_comes_not failure (inr none) = stepped_room false (stepped_made (let is : failure ≡ plain 701 = cc in ap Err is))
-
-  pub stepped_fails : (failure : Failure) (result : Result B Failure) {p : SessionProgress} → IsErr result → IsErrAnd result (λ x. x ≡ failure) → IsOrMemory meant (Err failure) → Stepped (comes_to meant >>= go) p (Ok result) p
-  stepped_fails failure (Ok b) err same is = absurd (let never : false ≡ true = err in cc)
-  stepped_fails failure (Err x) {p = p} err same is = subst (λ (f : Failure). Stepped {A = Result B Failure} (comes_to meant >>= go) p (Ok (Err f)) p) (sym same) (stepped_comes_not failure is)
+-- memory was wanting for what it assigns
+pub passes_none : (name : List ℕ) (meant : Result (List Assigned) Failure) (failure : Failure) {p : SessionProgress} → failure ≡ plain 701 → Stepped (with_room (makes (fetches name) (assigns_row meant))) p (Ok (Err failure)) p
+passes_none name meant failure none = stepped_room false (stepped_made (ap Err none))
 
 -- ---- the rows of a cursor
 

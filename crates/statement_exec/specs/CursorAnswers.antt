@@ -11,8 +11,13 @@ use Rattle.session_cursors.specs.Cursors as list
 use Rattle.step_model.specs.Ranges.{no_memory}
 use Rattle.batch_meaning.specs.declared.failure.Failure.{Failure}
 use Rattle.batch_meaning.specs.Failures.{plain}
-use Rattle.batch_meaning.specs.Cursors.{already_open, already_there, no_such_cursor, not_open, other_count, select_statement}
-use Rattle.session_state.specs.Parts.{IsNamed}
+use Rattle.batch_meaning.specs.Asking.{with_room}
+use Rattle.batch_meaning.specs.Cursors.{already_open, already_there, assigns_row, no_such_cursor, not_open, other_count, select_statement}
+use Rattle.batch_meaning.specs.Doing.{makes}
+use Rattle.batch_meaning.specs.Progress.{SessionProgress, fetches}
+use Rattle.batch_meaning.specs.Selecting.{Effect}
+use Rattle.batch_meaning.specs.Values.{Assigned}
+use Rattle.session_state.specs.Parts.{IsNamed, IsOrMemory, Stepped}
 
 -- why a statement on the cursor of this name is refused, as its error
 abbrev pub IsRefused : List ℕ → CursorFault → Failure → Type 0
@@ -47,3 +52,7 @@ abbrev pub IsCounted : List ℕ → ℕ → Result (List SqlType) CursorFault �
 IsCounted name count (Ok kinds) result = result ≡ counted_as (count == length kinds)
 IsCounted name count (Err fault) (Ok done) = ⊥
 IsCounted name count (Err fault) (Err failure) = IsRefused name fault failure
+
+-- the row that comes next is passed by what it assigns, which this is, unless memory was wanting
+abbrev pub Passes : List ℕ → Result (List Assigned) Failure → SessionProgress → Result Effect Failure → SessionProgress → Type 0
+Passes name sets old result new = (meant : Result (List Assigned) Failure) → IsOrMemory meant sets → Stepped (with_room (makes (fetches name) (assigns_row meant))) old (Ok result) new

@@ -8,4 +8,4 @@ pub mod Named  -- known_so: what a name stands for, as the code has it
 pub mod Created  -- creates_trigger: what CREATE TRIGGER asks within its transaction
 pub mod Dropped  -- drops_in: what DROP asks within its transaction
 pub mod Slots  -- AreSlots: definitions of which some triggers were taken out
-pub mod CursorAnswers  -- IsKept, IsRefused: what is answered of a cursor, or why a statement on it is refused
+pub mod CursorAnswers  -- IsKept, IsRefused, Passes: what is answered of a cursor, or why a statement on it is refused; how a row is passed

@@ -1,17 +1,18 @@
 //! The statements on cursors.
 
-ghost use Rattle.std.specs.Prelude.{◌≡◌, [], map, true, All, Ok, IfOk, Some};
+ghost use Rattle.std.specs.Prelude.{◌≡◌, [], map, true, All, Ok, IfOk};
 ghost use Rattle.bound_tree.specs.declared.write.Bound.TheVariants.{Query};
+ghost use Rattle.dml_exec.specs.Asking.{seen};
 ghost use Rattle.session_cursors.specs.Answers.{HasKinds};
 ghost use Rattle.session_cursors.specs.Cursors as list;
 ghost use Rattle.batch_meaning.specs.Asking.{with_room};
-ghost use Rattle.batch_meaning.specs.Cursors.{assigns_row, closes_cursor, declares_cursor, fetches_cursor, fills_with, kinds_of, opens_bound, opens_cursor, removes_cursor, select_statement};
+ghost use Rattle.batch_meaning.specs.Cursors.{closes_cursor, declares_cursor, fetches_cursor, fills_with, kinds_of, opens_bound, opens_cursor, removes_cursor, select_statement};
 ghost use Rattle.batch_meaning.specs.Doing.{Did, makes, over};
 ghost use Rattle.batch_meaning.specs.Progress.{Ready, fills};
 ghost use Rattle.batch_meaning.specs.Selecting.{no_effect};
 ghost use Rattle.batch_meaning.specs.Working.{given_in, within};
 ghost use Rattle.statement_exec.specs.Selected.{IsBoundOver, IsSelect, asks_bound};
-ghost use Rattle.statement_exec.specs.CursorAnswers.{IsCounted, IsKept, IsRefused};
+ghost use Rattle.statement_exec.specs.CursorAnswers.{IsCounted, IsKept, IsRefused, Passes};
 ghost use Rattle.session_state.specs.Parts.{SetsFit, Stepped};
 
 use crate::discard::discard;
@@ -23,7 +24,7 @@ use bound_tree::{Bound, BoundQuery, Item};
 use session_cursors::CursorFault;
 use session_state::{
     Around, CURSOR_OPEN, CURSOR_PRESENT, CURSOR_SHUT, Effect, NO_SUCH_CURSOR, OTHER_COUNT,
-    OUTSIDE_LIMITS, SessionState, TokenList, naming, no_memory, sets_of,
+    OUTSIDE_LIMITS, SessionState, TokenList, WANTING, naming, no_memory, sets_of,
 };
 use sqlite_items::Boxed;
 use std::alloc::Global;
@@ -280,8 +281,11 @@ pub fn fetch(
 {
     bind_first(alloc, session, statement)?;
     check_count(alloc, session, name, variables.len())?;
-    match session.fetch_next(name) {
-        Ok(Some(row)) => assign_row(alloc, session, variables, row.as_slice()),
+    match session.cursors().peek(name) {
+        Ok(Some(row)) => {
+            let sets = sets_of(alloc, session.vars(), variables, row.as_slice());
+            pass_row(alloc, session, name, sets)
+        }
         Ok(None) => {
             session.tell_fetch(PAST_LAST);
             Ok(Effect::none(alloc))
@@ -306,24 +310,35 @@ fn check_count(
     }
 }
 
-/// The values of a row are assigned to variables, in turn.
-fn assign_row(
+/// The next row is passed by what it assigns, or why a value of it can't be assigned. Where memory was wanting for
+/// that it stays the next.
+fn pass_row(
     alloc: Global,
     session: &mut SessionState,
-    variables: &[Units],
-    row: &[Value],
+    name: &Units,
+    sets: Result<Vec<(u16, Value)>, Failure>,
 ) -> Result<Effect, Failure>
-    ensures came { Stepped (assigns_row session.old variables.now (Some row.now)) session.old (Ok result) session.new }
-    ensures only { session.new ≡ record session.old { fetch_status = session.new.fetch_status } }
+    requires fits { IfOk sets (λ sets. SetsFit session.old.vars sets.items) }
+    ensures came { Passes name.now (seen sets) session.old result session.new }
+    ensures only { session.new ≡ record session.old { fetch_status = session.new.fetch_status; cursors = session.new.cursors } }
     ensures fits { IfOk result (λ effect. SetsFit session.new.vars effect.sets) }
 {
-    let sets = sets_of(alloc, session.vars(), variables, row)?;
-    session.tell_fetch(FETCHED);
-    Ok(Effect {
-        sets,
-        rows: 1,
-        tokens: TokenList::none(alloc),
-    })
+    match sets {
+        Ok(sets) => {
+            let _ = session.fetch_next(name);
+            session.tell_fetch(FETCHED);
+            Ok(Effect {
+                sets,
+                rows: 1,
+                tokens: TokenList::none(alloc),
+            })
+        }
+        Err(failure) if failure.number == WANTING => Err(no_memory()),
+        Err(failure) => {
+            let _ = session.fetch_next(name);
+            Err(failure)
+        }
+    }
 }
 
 // ---- CLOSE and DEALLOCATE

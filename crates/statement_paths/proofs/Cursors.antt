@@ -22,7 +22,7 @@ use Rattle.batch_meaning.specs.Doing.{Doing, makes, over, reads}
 use Rattle.batch_meaning.specs.Progress.{SessionProgress, SessionStep, declares, fetches, fills, removes, shuts, tells_fetch, touches}
 use Rattle.batch_meaning.specs.Selecting.{Effect, bound_over, no_effect}
 use Rattle.batch_meaning.specs.Transactions.{bound_first}
-use Rattle.batch_meaning.specs.Values.{assigned_to}
+use Rattle.batch_meaning.specs.Values.{Assigned, assigned_to}
 use Rattle.batch_meaning.specs.Working.{answers, within}
 use Rattle.statement_paths.proofs.Only.{IsTouch, Only, only_bind, only_comes, only_if, only_mono, only_naming, only_room}
 use Rattle.statement_paths.proofs.Still.{Reads}
@@ -83,13 +83,17 @@ pub removes_silent : (statement : Statement) (name : List ℕ) → Silent (remov
 unfolding removes_cursor
 removes_silent statement name = only_step IsCursorStep NoOp statement name (removes name) (λ p. list.remove_answer name p.cursors) tt
 
-row_silent : (p : SessionProgress) (variables : List (List ℕ)) (row : Option (List Value)) → Silent (assigns_row p variables row)
-row_silent p variables None = (tt, tt)
-row_silent p variables (Some row) = only_bind IsCursorStep NoOp (comes_to (assigned_to p.vars variables row)) _ (only_comes IsCursorStep NoOp (assigned_to p.vars variables row)) (λ sets. (tt, tt))
+row_silent : (p : SessionProgress) (name : List ℕ) (variables : List (List ℕ)) (row : Option (List Value)) → Silent (fetches_row p name variables row)
+row_silent p name variables None = (tt, tt)
+row_silent p name variables (Some row) = only_room IsCursorStep NoOp (makes (fetches name) (assigns_row (assigned_to p.vars variables row))) (tt, by_sets (assigned_to p.vars variables row))
+  where
+    by_sets : (sets : Result (List Assigned) Failure) → Silent (assigns_row sets)
+    by_sets (Ok sets) = (tt, tt)
+    by_sets (Err failure) = tt
 
 into_silent : (p : SessionProgress) (name : List ℕ) (variables : List (List ℕ)) (kinds : List SqlType) → Silent (fetches_into p name variables kinds)
-into_silent p name variables kinds = only_if IsCursorStep NoOp (length variables == length kinds) (answered name (λ row. with_room (fetches_row p name variables row)) (list.next_of name p.cursors)) (fails other_count)
-    (only_answered IsCursorStep NoOp name (λ row. with_room (fetches_row p name variables row)) (list.next_of name p.cursors) (λ row. only_room IsCursorStep NoOp (fetches_row p name variables row) (tt, row_silent p variables row))) tt
+into_silent p name variables kinds = only_if IsCursorStep NoOp (length variables == length kinds) (answered name (fetches_row p name variables) (list.next_of name p.cursors)) (fails other_count)
+    (only_answered IsCursorStep NoOp name (fetches_row p name variables) (list.next_of name p.cursors) (row_silent p name variables)) tt
 
 pub fetches_silent : (statement : Statement) (name : List ℕ) (variables : List (List ℕ)) → Silent (fetches_cursor statement name variables)
 unfolding fetches_cursor

@@ -2,7 +2,7 @@
 
 /// The steps: each is a statement, or a batch of some. The first line of one has those that it comes behind, by their numbers; the
 /// name of what the tables have behind it; how many commits the log has then; and the DONE of the statement where memory was
-/// wanting for it. The second is the text. Behind `=> told` stands what it tells, behind `=> refused` how else it is told that
+/// wanting for it, or `-` where none may be, or it is told otherwise. The second is the text. Behind `=> told` stands what it tells, behind `=> refused` how else it is told that
 /// memory was wanting, and behind `=> caught` what is told where that was caught. A line `no memory` is the error 701.
 pub(crate) const STEPS: &str = "- orders 1 DONE(03,0,0)
 CREATE TABLE orders (id INT NOT NULL PRIMARY KEY, customer NVARCHAR(20) NOT NULL)
@@ -79,7 +79,7 @@ DELETE FROM orders WHERE id = 3
 DONE(11,C4,1)
 DONE(00,0,0)
 ---
-1.2.3.4.8.9.10.11.12 four 4 DONE(03,0,0)
+1.2.3.4.8.9.10.11.12 four 4 -
 ROLLBACK TRAN a
 => told
 DONE(00,0,0)
@@ -91,7 +91,7 @@ ERROR 2627 class 14 state 1 line 1: Violation of constraint 'PK_orders'. Duplica
 DONE(03,C3,0)
 DONE(00,0,0)
 ---
-1.2.3.4.8.9 four 5 DONE(03,0,0)
+1.2.3.4.8.9 four 5 -
 COMMIT
 => told
 ENVCHANGE 9
@@ -102,12 +102,12 @@ BEGIN TRAN
 => told
 DONE(00,0,0)
 ---
-1.2.3.4.8.16 filled 4 DONE(03,0,0)
+1.2.3.4.8.16 filled 4 -
 COMMIT
 => told
 DONE(00,0,0)
 ---
-1.2.3.4.8.9 filled 4 DONE(03,0,0)
+1.2.3.4.8.9 filled 4 -
 ROLLBACK
 => told
 ENVCHANGE 10
@@ -188,6 +188,31 @@ DONE(00,0,0)
 => caught
 COL(e INT)
 ROW(701)
+DONE(11,C1,1)
+DONE(00,0,0)
+---
+1.2.3.4 filled 4 DONE(03,0,0)
+DECLARE c CURSOR FOR SELECT customer FROM orders ORDER BY id
+=> told
+DONE(00,0,0)
+---
+1.2.3.4.24 filled 4 DONE(03,0,0)
+OPEN c
+=> told
+DONE(00,0,0)
+---
+1.2.3.4.24.25 filled 4 DONE(03,C1,0)
+DECLARE @s NVARCHAR(20) BEGIN TRY FETCH NEXT FROM c INTO @s END TRY BEGIN CATCH FETCH NEXT FROM c INTO @s END CATCH SELECT @s AS s
+=> told
+COL(s NVARCHAR(20))
+ROW('Ann')
+DONE(11,C1,1)
+DONE(00,0,0)
+=> refused
+no memory
+DONE(03,0,0)
+COL(s NVARCHAR(20))
+ROW('Ann')
 DONE(11,C1,1)
 DONE(00,0,0)
 ";

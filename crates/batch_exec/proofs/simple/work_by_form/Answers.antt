@@ -9,7 +9,7 @@ pub returns-in-BeginTransaction-clause-does : goal.returns-in-BeginTransaction-c
 returns-in-BeginTransaction-clause-does g c = does_effect _ _ _ (is_BeginTransaction _ _ c.in-BeginTransaction.is) (rw c.as_ref.ensures.value at c.begin_transaction.ensures.does)
 
 pub returns-in-Commit-clause-does : goal.returns-in-Commit-clause-does
-returns-in-Commit-clause-does g c = does_effect _ _ _ (is_Commit _ _ c.in-Commit.is) (c.commit_transaction.ensures.does)
+returns-in-Commit-clause-does g c = does_effect _ _ _ (is_Commit _ _ c.in-Commit.is) (rw c.as_ref-in-Commit.ensures.value at c.commit_transaction.ensures.does)
 
 pub returns-in-Rollback-clause-does : goal.returns-in-Rollback-clause-does
 returns-in-Rollback-clause-does g c = does_effect _ _ _ (is_Rollback _ _ c.in-Rollback.is) (rw c.as_ref-in-Rollback.ensures.value at c.roll_back_transaction.ensures.does)
@@ -48,7 +48,7 @@ pub returns-in-Commit-clause-left : goal.returns-in-Commit-clause-left
 returns-in-Commit-clause-left g c = commits_left _ c.commit_transaction.ensures.does
 
 pub returns-in-Rollback-clause-left : goal.returns-in-Rollback-clause-left
-returns-in-Rollback-clause-left g c = rolls_left _ _ c.roll_back_transaction.ensures.does
+returns-in-Rollback-clause-left g c = rolls_left _ c.roll_back_transaction.ensures.does
 
 pub returns-in-Save-clause-left : goal.returns-in-Save-clause-left
 returns-in-Save-clause-left g c = saves_left _ _ c.save_transaction.ensures.does

@@ -18,10 +18,15 @@ pub returns-then-is_nested_most-clause-does : goal.returns-then-is_nested_most-c
 unfolding begins_transaction
 returns-then-is_nested_most-clause-does g c = bound_on c.args.statement.now _ c.in_ok-bind_first.ensures (does_go _ _ (begins_most _ c.args.session.now (sym c.if-not-in_transaction.ensures) (sym c.if-is_nested_most.ensures)) (does_room true (does_made (ap Err c.plain.ensures))))
 
-pub returns-in-Ok-clause-does : goal.returns-in-Ok-clause-does
-unfolding begins_transaction
-returns-in-Ok-clause-does g c = bound_on c.args.statement.now _ c.in_ok-bind_first.ensures (does_go _ _ (begins_inner _ c.args.session.now (sym c.if-not-in_transaction.ensures) (sym c.if-is_nested_most.ensures)) (does_room true (does_makes (rw c.in-Ok.ensures at c.open.ensures) (does_made (ap Ok c.none.ensures)))))
+pub open-requires-clause-number : goal.open-requires-clause-number
+open-requires-clause-number g c = c.in-Ok.ensures.number
 
-pub returns-in-Err-clause-does : goal.returns-in-Err-clause-does
+pub returns-in_default-clause-does : goal.returns-in_default-clause-does
 unfolding begins_transaction
-returns-in-Err-clause-does g c = bound_on c.args.statement.now _ c.in_ok-bind_first.ensures (does_room false (does_made (ap Err c.no_memory.ensures)))
+returns-in_default-clause-does g c = bound_on c.args.statement.now _ c.in_ok-bind_first.ensures (does_room false (does_made (ap Err c.no_memory.ensures)))
+
+pub returns-clause-does : goal.returns-clause-does
+unfolding begins_transaction
+returns-clause-does g c =
+    let named = c.in-Ok.ensures.name in
+    bound_on c.args.statement.now _ c.in_ok-bind_first.ensures (does_go _ _ (begins_inner _ c.args.session.now (sym c.if-not-in_transaction.ensures) (sym c.if-is_nested_most.ensures)) (does_room true (does_makes (rw named at c.open.ensures) (does_made (ap Ok c.none.ensures)))))

@@ -1,13 +1,11 @@
-use Rattle.std.proofs.Common.{true, Ok, ap, ◌∙◌}
+use Rattle.std.proofs.Common.{Ok, Err, ap, sym, ◌∙◌}
 use Rattle.batch_meaning.specs.Selecting.{sending}
-use Rattle.batch_meaning.proofs.Composed.{does_asks, does_room}
-use Rattle.batch_exec.proofs.Affording.{does_unaffordable}
+use Rattle.batch_meaning.proofs.Composed.{does_asks, does_no, does_reads, does_yes}
 use Rattle.statement_exec.proofs.Parts.{does_made}
-use Rattle.batch_exec.proofs.TxnSteps.{does_afforded}
 use Rattle.batch_exec.proofs.transactions.commit_outermost.Goals as goal
 
-pub returns-in_err-tokens-clause-does : goal.returns-in_err-tokens-clause-does
-returns-in_err-tokens-clause-does g c = does_unaffordable _ _ _ _ _ c.from_residual.ensures.0 c.from_residual.ensures.1 c.committed_tokens.ensures c.in_err-tokens.ensures
+pub returns-then-is_commit_full-clause-does : goal.returns-then-is_commit_full-clause-does
+returns-then-is_commit_full-clause-does g c = does_reads (does_yes _ _ _ (sym c.if-is_commit_full.ensures) (does_made (ap Err c.plain.ensures)))
 
 pub returns-clause-does : goal.returns-clause-does
-returns-clause-does g c = does_room true (does_afforded _ _ _ c.committed_tokens.ensures c.in_ok-tokens.ensures (λ is. does_asks c.in-Ended.ensures.asked (does_made (ap Ok (c.sending.ensures ∙ ap sending is)))))
+returns-clause-does g c = does_reads (does_no _ _ _ (sym c.if-is_commit_full.ensures) (does_asks c.commit-tokens.ensures.asked.1 (does_made (ap Ok (c.sending.ensures ∙ ap sending c.commit-tokens.ensures.tokens)))))
