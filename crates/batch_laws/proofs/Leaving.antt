@@ -34,9 +34,9 @@ use Rattle.dml_exec.specs.Reading.{GivenRows, behind_gone, images_of, none_given
 use Rattle.dml_exec.specs.Writing.{writes}
 use Rattle.statement_paths.specs.Asked.{AskOnly, IsFetch}
 use Rattle.write_laws.proofs.Parts.{from_both}
-use Rattle.write_laws.proofs.Writes.{whole_adds}
+use Rattle.write_laws.proofs.Writes.{applied_adds}
 use Rattle.batch_meaning.specs.Asking.{KnownNames, is_table, with_found}
-use Rattle.batch_meaning.specs.Changing.{created, whole}
+use Rattle.batch_meaning.specs.Changing.{created, definition_erased, whole}
 use Rattle.batch_meaning.specs.Progress.{SessionProgress, values_of}
 use Rattle.batch_meaning.specs.Raised.{Around, around_batch}
 use Rattle.batch_meaning.specs.Selecting.{Effect, no_effect}
@@ -186,10 +186,10 @@ defined_fetch manner (x ∷ later) start so_far all is =
     by_reply (replies.End at) goes adds = subst (AskOnly IsFetch) (sym adds.0) tt
     by_reply reply goes adds = absurd adds
 
-wrote_applied : (stand : Stand) (manner : Manner) (shapes : List TableTree) (planned : List Planned) (exchanges : List Exchange) → AreApplied manner shapes planned exchanges → Wrote stand exchanges planned
-wrote_applied stand manner shapes planned exchanges applied =
-    wrote_quiet stand exchanges planned (says_held IsQuiet manner (writes shapes planned) exchanges (Ok (written.Done applied.mark)) (says_quiet IsQuiet (writes shapes planned) (λ op quiet. quiet)) applied.whole)
-    (whole_adds manner shapes planned applied.mark exchanges applied.whole stand)
+wrote_applied : (stand : Stand) (manner : Manner) (shapes : List TableTree) (plan planned : List Planned) (exchanges : List Exchange) → AreApplied manner shapes plan planned exchanges → Wrote stand exchanges planned
+wrote_applied stand manner shapes plan planned exchanges applied =
+    wrote_quiet stand exchanges planned (says_held IsQuiet manner (writes shapes plan) exchanges (Ok (written.Done applied.mark)) (says_quiet IsQuiet (writes shapes plan) (λ op quiet. quiet)) applied.whole)
+    (applied_adds manner shapes plan planned exchanges applied stand)
 
 wrote_parts : (stand : Stand) (exchanges defined read applied : List Exchange) (planned : List Planned) → exchanges ≡ defined ++ (read ++ applied) → AskOnly IsFetch defined → ((s : Stand) → Wrote s read []) → ((s : Stand) → Wrote s applied planned) → Wrote stand exchanges planned
 wrote_parts stand exchanges defined read applied planned parts fetches reads applies =
@@ -219,7 +219,7 @@ module _ (stand : Stand) (around : Around) (p : SessionProgress) where
   wrote_change [] of planned done exchanges is = absurd is
   wrote_change (shape ∷ shapes) (bound.Write write) planned done exchanges w =
       wrote_parts stand exchanges w.defined w.read w.applied planned w.parts (defined_fetch p.settings.manner w.defined First [] w.definitions w.defines)
-      (λ s. wrote_images s p.settings.manner (given_in around.fired) (shape ∷ shapes) p.settings.level (values_of p.vars) (bound.Write write) w.read w.images w.reads) (λ s. wrote_applied s p.settings.manner (tables_of w.definitions) planned w.applied w.applies)
+      (λ s. wrote_images s p.settings.manner (given_in around.fired) (shape ∷ shapes) p.settings.level (values_of p.vars) (bound.Write write) w.read w.images w.reads) (λ s. wrote_applied s p.settings.manner (tables_of w.definitions) w.plan planned w.applied w.applies)
   wrote_change (shape ∷ shapes) (bound.Query query) planned done exchanges is = absurd is
   wrote_change (shape ∷ shapes) (bound.Assign query places) planned done exchanges is = absurd is
   wrote_change (shape ∷ shapes) bound.Plain planned done exchanges is = absurd is
@@ -227,12 +227,12 @@ module _ (stand : Stand) (around : Around) (p : SessionProgress) where
   wrote_table : (shape : TableTree) (name : List ℕ) (planned : List Planned) (effect : Effect) (exchanges : List Exchange) → IsTableDropped around p shape name planned effect exchanges → Wrote stand exchanges planned
   wrote_table shape name planned effect exchanges d =
       wrote_parts stand exchanges d.defined d.read d.applied planned d.parts (defined_fetch p.settings.manner d.defined First [] d.definitions d.defines)
-      (λ s. wrote_images s p.settings.manner none_given (shape ∷ []) Serializable [] (bound.Write (whole name)) d.read d.images d.reads) (λ s. wrote_applied s p.settings.manner [] planned d.applied d.applies)
+      (λ s. wrote_images s p.settings.manner none_given (shape ∷ []) Serializable [] (bound.Write (whole name)) d.read d.images d.reads) (λ s. wrote_applied s p.settings.manner [] d.plan planned d.applied d.applies)
 
   wrote_drop : (kind : DropKind) (name : List ℕ) (found : Option Definition) (planned : List Planned) (effect : Effect) (exchanges : List Exchange) → IsDrop around p kind name found planned effect exchanges → Wrote stand exchanges planned
   wrote_drop drop.Table name (Some (Table table)) planned effect exchanges d = wrote_table table name planned effect exchanges d.1
-  wrote_drop drop.Procedure name (Some (Procedure procedure)) planned effect exchanges d = wrote_applied stand p.settings.manner [] planned exchanges d.1.applies
-  wrote_drop drop.Trigger name (Some (Trigger trigger)) planned effect exchanges d = wrote_applied stand p.settings.manner [] planned exchanges d.1.applies
+  wrote_drop drop.Procedure name (Some (Procedure procedure)) planned effect exchanges d = wrote_applied stand p.settings.manner [] (definition_erased name ∷ []) planned exchanges d.1.applies
+  wrote_drop drop.Trigger name (Some (Trigger trigger)) planned effect exchanges d = wrote_applied stand p.settings.manner [] (definition_erased name ∷ []) planned exchanges d.1.applies
   wrote_drop kind name found planned effect exchanges is = absurd is
 
   wrote_created : (name text : List ℕ) (planned : List Planned) (effect : Effect) (exchanges : List Exchange) → IsCreated around p name text planned effect exchanges → Wrote stand exchanges planned

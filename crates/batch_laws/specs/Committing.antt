@@ -16,10 +16,11 @@ use Rattle.step_model.specs.declared.reply.Reply.TheVariants.{Ended}
 use Rattle.step_model.specs.Exchange.{Exchange}
 use Rattle.step_model.specs.Fits.{commit_of, commits_from}
 use Rattle.step_model.specs.Net.{Net}
-use Rattle.step_model.specs.Own.{Progress as Stand, none_open, progress_from, progress_of}
+use Rattle.step_model.specs.Own.{Progress as Stand, is_insert, is_own, none_open, progress_from, progress_of}
 use Rattle.dml_exec.specs.declared.refusal.Refusal.{Refusal}
 use Rattle.dml_exec.specs.declared.written.Written.{Written}
 use Rattle.dml_exec.specs.declared.written.Written.TheVariants as written
+use Rattle.dml_exec.specs.Planning.{as_found}
 use Rattle.txn_rules.specs.declared.state.TxnState.{TxnState}
 use Rattle.txn_rules.specs.State.{after_end, is_closed}
 use Rattle.tds_tokens.specs.declared.token.DoneKind.{DoneKind}
@@ -39,11 +40,16 @@ use Rattle.statement_paths.specs.Paths.{HasDone, HasFailed, HasReturned, IsFired
 
 -- ---- the changes of a write
 
--- what stays of changes: all of them where they were made and checked, and else none
-abbrev pub put_by : Result Written Refusal → List Planned → List Planned
-put_by (Ok (written.Done mark)) changes = changes
-put_by (Ok (written.Refused number name)) changes = []
-put_by (Err refusal) changes = []
+-- Of changes that were asked one after another these are the writes: all of them, but for insertions into index parts where a row was there.
+abbrev pub AreWritesOf : List Planned → List Planned → Type 0
+AreWritesOf [] more = more ≡ []
+AreWritesOf (change ∷ changes) more = ((rest : List Planned) × (more ≡ change ∷ rest) × AreWritesOf changes rest) ⊎ ((is_own change ≡ false) × (is_insert change.deed ≡ true) × AreWritesOf changes more)
+
+-- what stays of a plan: where it was made and checked, all its changes, as index rows were found; and else none
+abbrev pub ArePut : Result Written Refusal → List Planned → List Planned → Type 0
+ArePut (Ok (written.Done mark)) plan more = (found : List Bool) × AreWritesOf (as_found plan found) more
+ArePut (Ok (written.Refused number name)) plan more = more ≡ []
+ArePut (Err refusal) plan more = more ≡ []
 
 -- ---- what is left
 

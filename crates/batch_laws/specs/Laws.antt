@@ -35,12 +35,12 @@ use Rattle.batch_meaning.specs.Statements.{vars_of}
 use Rattle.batch_meaning.specs.Tokens.{batch_done}
 use Rattle.batch_meaning.specs.Working.{composes, statuses, tests}
 use Rattle.statement_paths.specs.Paths.{HasDone, HasFailed, HasPut, HasPutFailed, IsFired, is_write, work_of}
-use Rattle.batch_laws.specs.Committing.{behind_effect, put_by, is_plain, Agrees, ArePlain, DoneBy, Ends, Fires, InTurn, IsBehind, IsIdle, IsWithin, Leaves, LeftRuns, NoneFires, Runs, Stays, Strikes, StrikesAt}
+use Rattle.batch_laws.specs.Committing.{behind_effect, is_plain, Agrees, ArePlain, ArePut, DoneBy, Ends, Fires, InTurn, IsBehind, IsIdle, IsWithin, Leaves, LeftRuns, NoneFires, Runs, Stays, Strikes, StrikesAt}
 
 -- the changes of a write stand behind what its transaction had written, or that is as it was
 abbrev pub WritesWhole : Type 0
-WritesWhole = (shapes : List TableTree) (changes : List Planned) (manner : Manner) (exchanges : List Exchange) (result : Result Written Refusal) (before : Progress)
-    → dialog.Held manner (writes shapes changes) exchanges result → (progress_from before exchanges).own ≡ before.own ++ put_by result changes
+WritesWhole = (shapes : List TableTree) (plan : List Planned) (manner : Manner) (exchanges : List Exchange) (result : Result Written Refusal) (before : Progress)
+    → dialog.Held manner (writes shapes plan) exchanges result → (more : List Planned) × ArePut result plan more × ((progress_from before exchanges).own ≡ before.own ++ more)
 
 -- a statement that came to its effect has done its work, and its changes are left
 abbrev pub WorkLeaves : Type 0

@@ -19,8 +19,7 @@ ghost use Rattle.batch_laws.specs.Settled.{BatchSettles, CallSettles, StatementS
 ghost use Rattle.batch_laws.specs.Transactions.{BeginLeaves, CommitLeaves, RollbackLeaves, SaveLeaves};
 
 /// The changes of a write stay whole or not at all: where they were made and checked they stand behind what the
-/// transaction had written, and else that is as it was.
-#[tactic(auto, using(crate::proofs::Writes::writes_whole))]
+/// transaction had written, those of index rows as these were found; and else that is as it was.
 pub fn law_writes()
     ensures { WritesWhole }
 {}

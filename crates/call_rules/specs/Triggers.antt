@@ -1,6 +1,6 @@
 -- Transact-SQL reference, "CREATE TRIGGER" and "Use the inserted and deleted tables": the triggers that a statement fires, in the order of
 -- their names (own), and the rows that they see: those that the statement took away, and those that it put. A row that is replaced is
--- one of each. Both are in the order of the table's key. The code finds the keys in an ordered set.
+-- one of each. Changes of index parts are none of them. Both are in the order of the table's key. The code finds the keys in an ordered set.
 use Rattle.std.specs.Prelude.{ℕ, Bool, true, false, ◌&&◌, if◌then◌else◌, List, [], ◌∷◌, map, filter, filter_map, Option, Some, None, option_map}
 use Rattle.std.specs.List.{enumerate_from, list_any}
 use Rattle.std.specs.Ordering.{eq_by_cmp}
@@ -18,7 +18,7 @@ use Rattle.group_rows.specs.Ordered.{in_order}
 use Rattle.step_model.specs.declared.change.Deed.{Deed}
 use Rattle.step_model.specs.declared.change.Deed.TheVariants as deed
 use Rattle.step_model.specs.declared.change.Planned.{Planned}
-use Rattle.step_model.specs.Own.{row_of}
+use Rattle.step_model.specs.Own.{is_own, row_of}
 
 -- ---- the order of keys
 
@@ -61,9 +61,13 @@ takes_away deed.Erase = true
 takes_away (deed.Replace row) = true
 takes_away (deed.Insert row) = false
 
+-- an own row of the table
+abbrev pub takes_own : Planned → Bool
+takes_own change = is_own change && takes_away change.deed
+
 -- keys that compare equal are one key
 abbrev pub takes_at : List Value → Planned → Bool
-takes_at key change = takes_away change.deed && eq_by_cmp key_cmp change.key key
+takes_at key change = takes_own change && eq_by_cmp key_cmp change.key key
 
 abbrev pub is_taken : List Planned → List Value × List Value → Bool
 is_taken changes row = list_any (takes_at row.0) changes
@@ -76,9 +80,13 @@ keyed places row = (map (value_at row) places, row)
 abbrev pub deleted : List ℕ → List (List Value) → List Planned → List (List Value)
 deleted places rows changes = in_key_order (filter (is_taken changes) (map (keyed places) rows))
 
--- a row that is put, beside its key
+-- the own row of the table that is put
+abbrev pub own_put : Planned → Option (List Value)
+own_put change = if is_own change then row_of change.deed else None
+
+-- beside its key
 abbrev pub put_at : Planned → Option (List Value × List Value)
-put_at change = option_map (λ row. (change.key, row)) (row_of change.deed)
+put_at change = option_map (λ row. (change.key, row)) (own_put change)
 
 -- The rows that changes put: those that are replaced or inserted.
 abbrev pub inserted : List Planned → List (List Value)

@@ -17,7 +17,8 @@ use value_types::{Key, Memory, Row, Value};
 
 /// The images `deleted` and `inserted` of a write: of these rows of its table, whose key has the columns of
 /// these places, those that its changes take away, and the rows that they put. Both are in the order of
-/// their keys. Of an INSERT no rows are asked, of a DELETE none are put.
+/// their keys. Of an INSERT no rows are asked, of a DELETE none are put. Changes of index parts are none
+/// of them.
 ///
 /// Transact-SQL reference, "Use the inserted and deleted tables".
 pub fn trigger_images(
@@ -61,11 +62,18 @@ fn taken_keys(alloc: Global, changes: &[Planned]) -> Result<BTreeSet<Key>, Memor
 {
     let mut keys = BTreeSet::new(alloc);
     for change in changes {
-        if takes_away(&change.deed) {
+        if takes_own(change) {
             keys.insert(change.key.copy(alloc)?)?;
         }
     }
     Ok(keys)
+}
+
+/// Whether an own row of the table stands at the key no more.
+fn takes_own(change: &Planned) -> bool
+    ensures { result ≡ spec.takes_own change.now }
+{
+    change.is_own() && takes_away(&change.deed)
 }
 
 /// Whether what stood at the key stands there no more.
@@ -145,10 +153,21 @@ fn inserted(alloc: Global, changes: &[Planned]) -> Result<Vec<Row>, Memory>
 fn add_put(alloc: Global, put: &mut Vec<(Key, Row)>, change: &Planned) -> Result<(), Memory>
     ensures { IfOk result (λ _. put.new.items ≡ put.old.items ++ option_to_list (spec.put_at change.now)) }
 {
-    if let Some(row) = row_of(&change.deed) {
+    if let Some(row) = own_put(change) {
         put.push((change.key.copy(alloc)?, row.copy(alloc)?))?;
     }
     Ok(())
+}
+
+/// The own row of the table that a change puts.
+fn own_put(change: &Planned) -> Option<&Row>
+    ensures { option_map (λ row. row.now) result ≡ spec.own_put change.now }
+{
+    if change.is_own() {
+        row_of(&change.deed)
+    } else {
+        None
+    }
 }
 
 /// The row that a change puts.

@@ -1,5 +1,5 @@
 -- Rows that fit a table are of the types of its columns.
-use Rattle.std.proofs.Common.{◌≡◌, refl, sym, subst, true, false, ◌&&◌, nat_eq, List, [], ◌∷◌, length, Option, IsTrue, All}
+use Rattle.std.proofs.Common.{◌≡◌, refl, sym, subst, true, false, List, [], ◌∷◌, length, Option, IsTrue, All}
 use Rattle.std.proofs.lemmas.Bool.{and_parts, le-leb, leb-true}
 use Rattle.std.proofs.lemmas.List.Elements.{All-head, All-tail}
 use Rattle.std.specs.Ordering.{eq_by_cmp}
@@ -64,9 +64,7 @@ columns_typed (column ∷ columns) (value ∷ row) h =
     (value_typed column.kind value parts.0, columns_typed columns row parts.1)
 
 pub row_typed : RowTyped
-row_typed shape part key row h =
-    let fits = and_parts (nat_eq part 0) (has_columns shape.columns row && eq_by_cmp key_cmp (key_of shape row) key) h in
-    columns_typed shape.columns row (and_parts (has_columns shape.columns row) (eq_by_cmp key_cmp (key_of shape row) key) fits.1).0
+row_typed shape key row h = columns_typed shape.columns row (and_parts (has_columns shape.columns row) (eq_by_cmp key_cmp (key_of shape row) key) h).0
 
 rows_typed : (columns : List ColumnTree) (rows : List (List Value)) → All (λ row. IsTrue (has_columns columns row)) rows → RowsOf (kinds columns) rows
 rows_typed columns [] all = tt

@@ -19,7 +19,7 @@ ValueOfType = (kind : SqlType) (value : Value) → IsTrue (is_value_of kind valu
 
 -- a row that fits has exactly a value for each column, of its type
 abbrev pub RowTyped : Type 0
-RowTyped = (shape : TableTree) (part : ℕ) (key row : List Value) → IsTrue (row_fits shape part key row) → AreExactly (kinds shape.columns) row
+RowTyped = (shape : TableTree) (key row : List Value) → IsTrue (row_fits shape 0 key row) → AreExactly (kinds shape.columns) row
 
 -- an image whose rows have the columns of the table of that name is one of its columns' types
 abbrev pub ImageTyped : Type 0

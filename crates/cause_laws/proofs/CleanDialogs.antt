@@ -1,12 +1,12 @@
 -- The dialogs of reading tables and of writing changes fail by another error than one that is looked for.
 use Rattle.std.proofs.Common.{refl, ℕ, zero, suc, ℤ, pos, List, [], ◌∷◌, ◌++◌, Option, Some, None, Bool, true, false, Result, Ok, Err, if◌then◌else◌}
-use Rattle.lock_modes.specs.declared.KeyPart.TheVariants.{S}
+use Rattle.lock_modes.specs.declared.KeyPart.TheVariants.{S, U}
 use Rattle.value_types.specs.declared.table_name.TableName.{TableName}
 use Rattle.value_types.specs.declared.value.Value.{Value}
 use Rattle.tsql_tree.specs.declared.definition.TableTree.{TableTree}
 use Rattle.bound_tree.specs.declared.write.Bound.{Bound}
 use Rattle.table_rows.specs.Definitions.{is_objects, name_in}
-use Rattle.table_rows.specs.Rows.{shape_of}
+use Rattle.table_rows.specs.Rows.{part_shape, shape_of}
 use Rattle.step_model.specs.declared.change.Deed.{Deed}
 use Rattle.step_model.specs.declared.change.Deed.TheVariants as deed
 use Rattle.step_model.specs.declared.change.Planned.{Planned}
@@ -15,10 +15,13 @@ use Rattle.step_model.specs.declared.op.Op.{Op}
 use Rattle.step_model.specs.declared.op.Op.TheVariants as ops
 use Rattle.step_model.specs.declared.range.KeyRange.{KeyRange}
 use Rattle.step_model.specs.declared.range.Start.{Start}
+use Rattle.step_model.specs.declared.range.Start.TheVariants.{At}
+use Rattle.step_model.specs.declared.range.Stop.TheVariants.{Within}
 use Rattle.step_model.specs.declared.reply.Reply.{Reply}
 use Rattle.step_model.specs.declared.reply.Reply.TheVariants as replies
 use Rattle.step_model.specs.Dialog as said
 use Rattle.step_model.specs.Dialog.{Dialog, tries}
+use Rattle.step_model.specs.Own.{is_own}
 use Rattle.step_model.specs.Ranges.{Keeps, Rows, range_limit}
 use Rattle.constraint_check.specs.declared.check_read.CheckRead.{CheckRead}
 use Rattle.constraint_check.specs.Judged.{duplicate, judge}
@@ -29,9 +32,10 @@ use Rattle.dml_exec.specs.declared.refusal.Refusal.TheVariants.{Memory}
 use Rattle.dml_exec.specs.declared.written.Attempt.{Attempt}
 use Rattle.dml_exec.specs.declared.written.Written.{Written}
 use Rattle.dml_exec.specs.declared.written.Written.TheVariants as written
-use Rattle.dml_exec.specs.Asking.{with_room, with_room_if}
+use Rattle.dml_exec.specs.Asking.{with_room, with_room_if, ◌>>=◌}
 use Rattle.dml_exec.specs.Reading.{GivenRows, TableRead, behind_gone, fetch_of, fetches, fits, from, images_from, images_of, is_one_key, is_short, key_width, read_by, reads_of, reads_on, reads_range, reads_table, rows_from, rows_in, table_fetch, unless_given}
-use Rattle.dml_exec.specs.Writing.{asks_deed, attempts, broken, broken_by, checks_all, checks_one, checks_range, done_by, ends, halted, marked, no_room, object_present, or_nameless, outcome, present, primary_name, rows_checked, told, where_done, works, writes_all, writes_one}
+use Rattle.dml_exec.specs.Planning.{as_found, is_asked}
+use Rattle.dml_exec.specs.Writing.{asks_deed, asks_key, asks_keys, attempts, behind_keys, broken, broken_by, checks_all, checks_one, checks_range, done_by, ends, halted, marked, no_room, object_present, or_nameless, outcome, present, primary_name, row_told, rows_checked, told, where_done, works, writes_all, writes_one}
 use Rattle.batch_meaning.specs.Asking.{number_of}
 use Rattle.cause_laws.proofs.Usual.{UsualIf}
 use Rattle.cause_laws.proofs.UsualChanges.{usual_judged}
@@ -75,10 +79,11 @@ module _ (error : Guard) where
       by_came next (more, None) = tt
       by_came next (more, Some start) = next more start
 
-  clean_range : (shape : Option TableTree) (one : Bool) (fetch : Op) → Reads (rows_in shape one fetch)
+  clean_range : (shape : Option TableTree) (part : ℕ) (one : Bool) (fetch : Op) → Reads (rows_in shape part one fetch)
   unfolding rows_in
-  clean_range shape true fetch = dialog_bind error OtherRefusal (fetches (key_width shape) (fits shape) fetch []) (λ came. said.over (Ok came.0)) (clean_fetches (key_width shape) (fits shape) fetch []) (λ came. tt)
-  clean_range shape false fetch = clean_rows (key_width shape) (fits shape) range_limit fetch []
+  clean_range shape part true fetch =
+      dialog_bind error OtherRefusal (fetches (key_width shape part) (fits shape part) fetch []) (λ came. said.over (Ok came.0)) (clean_fetches (key_width shape part) (fits shape part) fetch []) (λ came. tt)
+  clean_range shape part false fetch = clean_rows (key_width shape part) (fits shape part) range_limit fetch []
 
   module _ (given : GivenRows) (shapes : List TableTree) (level : Level) where
     clean_table : (read : TableRead) → Reads (reads_table given shapes level read)
@@ -86,7 +91,7 @@ module _ (error : Guard) where
     clean_table read = by_given (given read.0.table)
       where
         by_given : (found : Option Rows) → Reads (unless_given found (reads_range (shape_of read.0.table shapes) level read))
-        by_given None = clean_range (shape_of read.0.table shapes) (is_one_key (key_width (shape_of read.0.table shapes)) read.0.start read.0.stop) (table_fetch level read)
+        by_given None = clean_range (shape_of read.0.table shapes) 0 (is_one_key (key_width (shape_of read.0.table shapes) 0) read.0.start read.0.stop) (table_fetch level read)
         by_given (Some rows) = dialog_room error OtherRefusal Memory (said.over (Ok rows)) (λ other. other) tt
 
     clean_from : (images : List Rows) (reads : List TableRead) → Reads (images_from given shapes level images reads)
@@ -116,7 +121,11 @@ module _ (error : Guard) where
 
   clean_by : (shapes : List TableTree) (change : Planned) (reply : Reply) → Says error reply → CleanDialog error (FineOr error (λ why. OtherWritten (outcome why))) (done_by shapes change reply)
   clean_by shapes change replies.Done says = tt
-  clean_by shapes change replies.Exists says = dialog_room error (λ why. OtherWritten (outcome why)) no_room (said.over (Err (present shapes change.table change.key))) (λ other. other) (present_other shapes change.table change.key)
+  clean_by shapes change replies.Exists says = by_own (is_own change)
+    where
+      by_own : (own : Bool) → CleanDialog error {A = Result (Unit {0}) _} (FineOr error (λ why. OtherWritten (outcome why))) (if own then with_room no_room (said.over (Err (present shapes change.table change.key))) else said.over (Ok tt))
+      by_own true = dialog_room error (λ why. OtherWritten (outcome why)) no_room (said.over (Err (present shapes change.table change.key))) (λ other. other) (present_other shapes change.table change.key)
+      by_own false = tt
   clean_by shapes change replies.Missing says = error.watch.missing says
   clean_by shapes change replies.Memory says = error.watch.memory says
   clean_by shapes change (replies.TimedOut holder held wanted on) says = error.watch.timed holder held wanted on says
@@ -146,8 +155,8 @@ module _ (error : Guard) where
   clean_checked : (shapes : List TableTree) (range : KeyRange) → CleanDialog error (FineOr error (λ why. OtherWritten (outcome why))) (rows_checked shapes range)
   unfolding rows_checked
   clean_checked shapes range = dialog_room error (λ why. OtherWritten (outcome why)) no_room _ (λ other. other)
-      (dialog_then error (FineOr error OtherRefusal) (FineOr error (λ why. OtherWritten (outcome why))) (checks_range (shape_of range.table shapes) range) halted
-      (clean_range (shape_of range.table shapes) (is_one_key (key_width (shape_of range.table shapes)) range.start range.stop) (fetch_of range hold.Range S)) by_came)
+      (dialog_then error (FineOr error OtherRefusal) (FineOr error (λ why. OtherWritten (outcome why))) (checks_range (part_shape range.table shapes) range) halted
+      (clean_range (part_shape range.table shapes) range.table.part (is_one_key (key_width (part_shape range.table shapes) range.table.part) range.start range.stop) (fetch_of range hold.Range S)) by_came)
     where
       by_came : (came : Result Rows Refusal) → FineOr error OtherRefusal came → CleanDialog error (FineOr error (λ why. OtherWritten (outcome why))) (halted came)
       by_came (Ok rows) fine = tt
@@ -164,9 +173,37 @@ module _ (error : Guard) where
       (dialog_bind error (λ why. OtherWritten (outcome why)) (rows_checked shapes read.range) (λ found. broken_by read (judge read found)) (clean_checked shapes read.range) (λ found. clean_broken read (judge read found) (usual_judged read found)))
       (λ done. clean_checks shapes reads)
 
-  clean_works : (shapes : List TableTree) (changes : List Planned) → CleanDialog error (FineOr error (λ why. OtherWritten (outcome why))) (works shapes changes)
+  clean_told : (reply : Reply) → Says error reply → Reads (row_told reply)
+  clean_told (replies.Row key row at) says = tt
+  clean_told (replies.Gone key at) says = tt
+  clean_told (replies.End at) says = tt
+  clean_told replies.Memory says = error.watch.memory says
+  clean_told (replies.TimedOut holder held wanted on) says = error.watch.timed holder held wanted on says
+  clean_told (replies.Victim cycle) says = error.watch.victim cycle says
+  clean_told reply says = tt
+
+  clean_key : (table : TableName) (key : List Value) → Reads (asks_key table key)
+  unfolding asks_key tries
+  clean_key table key = by_room
+    where
+      by_room : (enough : Bool) → error.watch.May enough → Reads (if enough then said.asks (ops.Fetch table (At key) (Within key) hold.Range U) tt row_told else row_told replies.Memory)
+      by_room true may = clean_told
+      by_room false may = clean_told replies.Memory (error.watch.lacks may)
+
+  clean_keys : (changes : List Planned) (so_far : List Bool) → Reads (asks_keys changes so_far)
+  unfolding asks_keys
+  clean_keys [] so_far = tt
+  clean_keys (change ∷ changes) so_far = by_asked (is_asked change) (clean_keys changes)
+    where
+      by_asked : (asked : Bool) → ((so_far : List Bool) → Reads (asks_keys changes so_far))
+          → Reads (if asked then (asks_key change.table change.key >>= λ there. with_room Memory (asks_keys changes (so_far ++ there ∷ []))) else asks_keys changes so_far)
+      by_asked true rest = dialog_bind error OtherRefusal (asks_key change.table change.key) (λ there. with_room Memory (asks_keys changes (so_far ++ there ∷ []))) (clean_key change.table change.key)
+          (λ there. dialog_room error OtherRefusal Memory (asks_keys changes (so_far ++ there ∷ [])) (λ other. other) (rest (so_far ++ there ∷ [])))
+      by_asked false rest = rest so_far
+
+  clean_works : (shapes : List TableTree) (changes : List Planned) (found : List Bool) → CleanDialog error (FineOr error (λ why. OtherWritten (outcome why))) (works shapes changes found)
   unfolding works
-  clean_works shapes changes = dialog_bind error (λ why. OtherWritten (outcome why)) (writes_all shapes changes) (λ done. with_room no_room (checks_all shapes (reads_for changes shapes))) (clean_writes shapes changes)
+  clean_works shapes changes found = dialog_bind error (λ why. OtherWritten (outcome why)) (writes_all shapes (as_found changes found)) (λ done. with_room no_room (checks_all shapes (reads_for changes shapes))) (clean_writes shapes (as_found changes found))
       (λ done. dialog_room error (λ why. OtherWritten (outcome why)) no_room (checks_all shapes (reads_for changes shapes)) (λ other. other) (clean_checks shapes (reads_for changes shapes)))
 
   abbrev pub OtherAttempt : Attempt → Type 0
@@ -182,9 +219,13 @@ module _ (error : Guard) where
 
   pub clean_attempts : (shapes : List TableTree) (changes : List Planned) → CleanDialog error OtherAttempt (attempts shapes changes)
   unfolding attempts
-  clean_attempts shapes changes = λ reply says. by_reply reply says
+  clean_attempts shapes changes = dialog_then error (FineOr error OtherRefusal) OtherAttempt (asks_keys changes []) (behind_keys shapes changes) (clean_keys changes []) by_came
     where
-      by_reply : (reply : Reply) → Says error reply → CleanDialog error OtherAttempt (marked shapes changes reply)
-      by_reply (replies.Marked mark) says = dialog_then error (FineOr error (λ why. OtherWritten (outcome why))) OtherAttempt (works shapes changes) (ends mark) (clean_works shapes changes) (clean_ends mark)
-      by_reply replies.Memory says = error.watch.memory says
-      by_reply reply says = tt
+      by_reply : (found : List Bool) (reply : Reply) → Says error reply → CleanDialog error OtherAttempt (marked shapes changes found reply)
+      by_reply found (replies.Marked mark) says = dialog_then error (FineOr error (λ why. OtherWritten (outcome why))) OtherAttempt (works shapes changes found) (ends mark) (clean_works shapes changes found) (clean_ends mark)
+      by_reply found replies.Memory says = error.watch.memory says
+      by_reply found reply says = tt
+
+      by_came : (came : Result (List Bool) Refusal) → FineOr error OtherRefusal came → CleanDialog error OtherAttempt (behind_keys shapes changes came)
+      by_came (Ok found) fine = λ reply says. by_reply found reply says
+      by_came (Err refusal) fine = fine

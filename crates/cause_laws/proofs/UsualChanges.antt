@@ -43,7 +43,7 @@ use Rattle.constraint_check.specs.Local.{broken_among, check_fault, conflict, fi
 use Rattle.dml_exec.specs.declared.rewritten.Rewritten.{Rewritten}
 use Rattle.dml_exec.specs.declared.rewritten.Rewritten.TheVariants.{Inserted, Set, Erased}
 use Rattle.dml_exec.specs.Filling.{Given, Row, filled, null_row, stored, stored_as, stored_at, with_given}
-use Rattle.dml_exec.specs.Planning.{Chg, Plan, changes_of, checked, has_key, new_rows, outside_limits, rewritten, row_set, rows_added, rows_deleted, rows_updated, table_written, unless_wrong, values_given, values_selected, values_set}
+use Rattle.dml_exec.specs.Planning.{Chg, Plan, all_changes, checked, has_keys, new_rows, outside_limits, rewritten, row_set, rows_added, rows_deleted, rows_updated, table_written, unless_wrong, values_given, values_selected, values_set}
 use Rattle.cause_laws.proofs.Usual.{IsUsual, Usual, UsualIf, usual_after, usual_answer, usual_each, usual_error, usual_inner, usual_inner_rows, usual_outcome, usual_truth, usual_value, usual_where}
 
 -- ---- faults
@@ -173,14 +173,14 @@ usual_local found shape tests = usual_or (first_given (null_fault shape) found) 
 
 -- the changes of a write
 pub usual_plan : (vars system : List Value) (shape : TableTree) (checks : List BoundTest) (of : BoundWrite) (images : List (List Row)) → UsualPlan (Chg vars system shape checks of images)
-usual_plan vars system shape checks of images = by_key (has_key (key_places (Some shape)))
+usual_plan vars system shape checks of images = by_key (has_keys shape)
   where
     by_fault : (fault : Option EvalFault) (changes : List Planned) → UsualMaybe fault → UsualPlan (unless_wrong fault changes)
     by_fault None changes usual = tt
     by_fault (Some fault) changes usual = usual
 
     by_rows : (came : Outcome Rewritten) → Usual came → UsualPlan (checked (table_written of) shape checks came)
-    by_rows (Ok made) usual = by_fault (first_local (new_rows made) shape checks) (changes_of (table_written of) (key_places (Some shape)) made) (usual_local (new_rows made) shape checks)
+    by_rows (Ok made) usual = by_fault (first_local (new_rows made) shape checks) (all_changes (table_written of) shape made) (usual_local (new_rows made) shape checks)
     by_rows (Err number) usual = usual
 
     by_key : (b : Bool) → UsualPlan (if b then checked (table_written of) shape checks (rewritten vars system shape of images) else Err (Number outside_limits))

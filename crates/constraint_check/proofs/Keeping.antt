@@ -1,5 +1,5 @@
 -- Changes that pass all checks keep the constraints of all tables.
-use Rattle.std.proofs.Common.{◌≡◌, refl, sym, ap, ◌∙◌, subst, ◌⊎◌, inl, inr, ℕ, Bool, true, false, not, ◌&&◌, ◌||◌, List, [], ◌∷◌, ◌++◌, map, filter, filter_map, Option, Some, None, IsSome, IsTrue, is_some, if◌then◌else◌, Ok, Err}
+use Rattle.std.proofs.Common.{◌≡◌, refl, sym, ap, ◌∙◌, subst, ◌⊎◌, inl, inr, ℕ, Bool, true, false, nat_eq, not, ◌&&◌, ◌||◌, List, [], ◌∷◌, ◌++◌, map, filter, filter_map, Option, Some, None, IsSome, IsTrue, is_some, if◌then◌else◌, Ok, Err}
 use Rattle.std.proofs.lemmas.Bool.{and_parts, and_from}
 use Rattle.std.proofs.lemmas.List.{map-append}
 use Rattle.std.specs.List.{AllByRecursion, cons_option, flat_map}
@@ -25,11 +25,12 @@ use Rattle.step_model.specs.declared.range.Start.TheVariants.{At}
 use Rattle.step_model.specs.declared.range.Stop.TheVariants.{Within}
 use Rattle.step_model.specs.Database.{Database, With, is_at}
 use Rattle.step_model.proofs.Databases.{With-append}
-use Rattle.step_model.specs.Own.{change_of, is_insert, row_of}
+use Rattle.step_model.specs.Own.{change_of, is_insert, is_own, row_of}
 use Rattle.table_rows.specs.Rows.{has_columns, key_of, places_of, row_fits, rows_table, shape_of, values_at}
 use Rattle.constraint_check.specs.declared.check_read.CheckRead.{CheckRead}
 use Rattle.constraint_check.specs.Local.{broken_among, check_fault, first_given, null_fault, null_in, row_setting}
-use Rattle.constraint_check.specs.Reads.{all_rows, child_read, child_reads, child_where, is_again, is_erase, is_gone, of_both, of_key, of_row, parent_read, parent_reads, parent_reads_of, is_key, row_at, unique_read, unique_reads}
+use Rattle.constraint_check.specs.Meant.{key_meant, parent_meant, parents_meant, parents_meant_of, unique_meant, uniques_meant}
+use Rattle.constraint_check.specs.Reads.{all_rows, child_read, child_reads, child_where, is_again, is_erase, is_gone, of_both, of_row, is_key, row_at}
 use Rattle.constraint_check.specs.Judged.{agrees}
 use Rattle.constraint_check.specs.Integrity.{AreKept, HasParents, IsKept, IsUnique, Stands, comes_false, has_false}
 use Rattle.constraint_check.specs.Laws.{Checked, CheckedKept, KeysAreOne, Passes, behind}
@@ -80,12 +81,12 @@ of_written P row [] all none = absurd none
 -- ---- what passes
 
 -- UNIQUE: two rows with the values of a row that was read for are one
-unique_at : (db : Database) (shape : TableTree) (own : List Value) (unique : KeyTree) → Passes db (unique_read shape own unique) → (key other row and_row : List Value) → Stands db shape key row → Stands db shape other and_row
-    → agrees (unique_read shape own unique) row ≡ true → agrees (unique_read shape own unique) and_row ≡ true → same key other ≡ true
+unique_at : (db : Database) (shape : TableTree) (own : List Value) (unique : KeyTree) → Passes db (unique_meant shape own unique) → (key other row and_row : List Value) → Stands db shape key row → Stands db shape other and_row
+    → agrees (unique_meant shape own unique) row ≡ true → agrees (unique_meant shape own unique) and_row ≡ true → same key other ≡ true
 unique_at db shape own unique passes key other row and_row stands also agree and_agree = passes key other row and_row (refl, stands, agree) (refl, also, and_agree)
 
 -- a parent's rows: none has the values of a key that is gone
-parent_left : (db : Database) (gone : List Value) (child : TableTree) (foreign : ForeignTree) → Passes db (parent_read gone child foreign) → (key row : List Value) → Stands db child key row
+parent_left : (db : Database) (gone : List Value) (child : TableTree) (foreign : ForeignTree) → Passes db (parent_meant gone child foreign) → (key row : List Value) → Stands db child key row
     → same (values_at (places_of child foreign.columns) row) gone ≡ true → ⊥
 parent_left db gone child foreign passes key row stands agree = passes key row (refl, stands, agree)
 
@@ -236,20 +237,20 @@ module _ (db : Database) (tests : TableTree → List BoundTest) (shapes : List T
   of_written_table : AllByRecursion (λ (change : Planned). change.table ≡ rows_table shape.name) written
   of_written_table = all_right (λ (change : Planned). change.table ≡ rows_table shape.name) erased written checked.of_table
 
-  uniques_pass : AllByRecursion (λ (change : Planned). AllByRecursion (Passes after) (of_row unique_reads shapes change)) written
+  uniques_pass : AllByRecursion (λ (change : Planned). AllByRecursion (Passes after) (of_row uniques_meant shapes change)) written
   uniques_pass =
       all_right _ erased written
-      (all_flat (Passes after) (of_row unique_reads shapes) changes (all_left (Passes after) (flat_map (of_row unique_reads shapes) changes) _ checked.passes))
+      (all_flat (Passes after) (of_row uniques_meant shapes) changes (all_left (Passes after) (flat_map (of_row uniques_meant shapes) changes) _ checked.passes))
 
   children_pass : AllByRecursion (λ (change : Planned). AllByRecursion (Passes after) (of_row (child_reads shapes) shapes change)) written
   children_pass =
       all_right _ erased written
-      (all_flat (Passes after) (of_row (child_reads shapes) shapes) changes (all_left (Passes after) (flat_map (of_row (child_reads shapes) shapes) changes) _ (all_right (Passes after) (flat_map (of_row unique_reads shapes) changes) _ checked.passes)))
+      (all_flat (Passes after) (of_row (child_reads shapes) shapes) changes (all_left (Passes after) (flat_map (of_row (child_reads shapes) shapes) changes) _ (all_right (Passes after) (flat_map (of_row uniques_meant shapes) changes) _ checked.passes)))
 
-  parents_pass : AllByRecursion (λ (change : Planned). AllByRecursion (Passes after) (of_key shapes changes change)) erased
+  parents_pass : AllByRecursion (λ (change : Planned). AllByRecursion (Passes after) (key_meant shapes changes change)) erased
   parents_pass =
       all_left _ erased written
-      (all_flat (Passes after) (of_key shapes changes) changes (all_right (Passes after) (flat_map (of_row (child_reads shapes) shapes) changes) _ (all_right (Passes after) (flat_map (of_row unique_reads shapes) changes) _ checked.passes)))
+      (all_flat (Passes after) (key_meant shapes changes) changes (all_right (Passes after) (flat_map (of_row (child_reads shapes) shapes) changes) _ (all_right (Passes after) (flat_map (of_row uniques_meant shapes) changes) _ checked.passes)))
 
   -- of a row that is written
   row_passes : (reads : TableTree → List Value → List CheckRead) → AllByRecursion (λ (change : Planned). AllByRecursion (Passes after) (of_row reads shapes change)) written → (row : List Value) → Wrote row → AllByRecursion (Passes after) (reads shape row)
@@ -266,10 +267,10 @@ module _ (db : Database) (tests : TableTree → List BoundTest) (shapes : List T
 
   own_unique : AllByRecursion (IsUnique after shape) shape.uniques
   own_unique =
-      all_two (IsUnique db shape) (λ unique. (own : Written) → Passes after (unique_read shape own.0 unique)) (IsUnique after shape) step shape.uniques own_kept.unique
-      (all_given (λ (own : Written) unique. Passes after (unique_read shape own.0 unique)) shape.uniques (λ own. all_map (Passes after) (unique_read shape own.0) shape.uniques (row_passes unique_reads uniques_pass own.0 own.1)))
+      all_two (IsUnique db shape) (λ unique. (own : Written) → Passes after (unique_meant shape own.0 unique)) (IsUnique after shape) step shape.uniques own_kept.unique
+      (all_given (λ (own : Written) unique. Passes after (unique_meant shape own.0 unique)) shape.uniques (λ own. all_map (Passes after) (unique_meant shape own.0) shape.uniques (row_passes uniques_meant uniques_pass own.0 own.1)))
     where
-      step : (unique : KeyTree) → IsUnique db shape unique → ((own : Written) → Passes after (unique_read shape own.0 unique)) → IsUnique after shape unique
+      step : (unique : KeyTree) → IsUnique db shape unique → ((own : Written) → Passes after (unique_meant shape own.0 unique)) → IsUnique after shape unique
       step unique before passes key other row and_row stands also agree =
           let values : List Value → List Value = λ row. values_at (places_of shape unique.columns) row in
           elim (comes key row stands) [
@@ -315,7 +316,7 @@ module _ (db : Database) (tests : TableTree → List BoundTest) (shapes : List T
 
   -- a key that is erased and not inserted again
   abbrev Gone : Type 0
-  Gone = (key : List Value) × AllByRecursion (Passes after) (parent_reads shapes (rows_table shape.name) key)
+  Gone = (key : List Value) × AllByRecursion (Passes after) (parents_meant shapes (rows_table shape.name) key)
 
   split : (table : TableName) (key : List Value) → after table key ≡ behind (behind db erased) written table key
   split table key = ap (λ (list : List Change). With db list table key) (map-append change_of erased written) ∙ (λ i. With-append db (map change_of erased) (map change_of written) i table key)
@@ -323,10 +324,10 @@ module _ (db : Database) (tests : TableTree → List BoundTest) (shapes : List T
   -- where a row stood and none does, its key is gone
   is_gone_key : (key : List Value) → IsSome (db (rows_table shape.name) key) → after (rows_table shape.name) key ≡ None → (gone : Gone) × (same gone.0 key ≡ true)
   is_gone_key key some none =
-      from_among (λ (change : Planned). ((change.table ≡ rows_table shape.name) × (is_erase change.deed ≡ true)) × (AllByRecursion (Passes after) (of_key shapes changes change) × (same change.key key ≡ true))) ((gone : Gone) × (same gone.0 key ≡ true)) step erased
-      (among_both (λ (change : Planned). (change.table ≡ rows_table shape.name) × (is_erase change.deed ≡ true)) (λ change. AllByRecursion (Passes after) (of_key shapes changes change) × (same change.key key ≡ true)) erased
+      from_among (λ (change : Planned). ((change.table ≡ rows_table shape.name) × (is_erase change.deed ≡ true)) × (AllByRecursion (Passes after) (key_meant shapes changes change) × (same change.key key ≡ true))) ((gone : Gone) × (same gone.0 key ≡ true)) step erased
+      (among_both (λ (change : Planned). (change.table ≡ rows_table shape.name) × (is_erase change.deed ≡ true)) (λ change. AllByRecursion (Passes after) (key_meant shapes changes change) × (same change.key key ≡ true)) erased
       (all_two (λ (change : Planned). change.table ≡ rows_table shape.name) (λ change. is_erase change.deed ≡ true) (λ change. (change.table ≡ rows_table shape.name) × (is_erase change.deed ≡ true)) (λ change a b. (a, b)) erased of_erased checked.erases)
-      (among_both (λ (change : Planned). AllByRecursion (Passes after) (of_key shapes changes change)) (λ change. same change.key key ≡ true) erased parents_pass (erased_at shape.name erased of_erased db key some behind_erased)))
+      (among_both (λ (change : Planned). AllByRecursion (Passes after) (key_meant shapes changes change)) (λ change. same change.key key ≡ true) erased parents_pass (erased_at shape.name erased of_erased db key some behind_erased)))
     where
       of_erased : AllByRecursion (λ (change : Planned). change.table ≡ rows_table shape.name) erased
       of_erased = all_left (λ (change : Planned). change.table ≡ rows_table shape.name) erased written checked.of_table
@@ -366,24 +367,26 @@ module _ (db : Database) (tests : TableTree → List BoundTest) (shapes : List T
             | inr later ↦ absurd (unwritten (among_more (λ (other : Planned). (other.table ≡ rows_table shape.name) × ((is_insert other.deed && is_at (change_of other) change.table change.key) ≡ true)) (λ other. same other.key key ≡ true) at_key written (among_both (λ (other : Planned). other.table ≡ rows_table shape.name) (λ other. (is_insert other.deed && is_at (change_of other) change.table change.key) ≡ true) written of_written_table later)))
           ]
 
-      step : (change : Planned) → ((change.table ≡ rows_table shape.name) × (is_erase change.deed ≡ true)) × (AllByRecursion (Passes after) (of_key shapes changes change) × (same change.key key ≡ true)) → (gone : Gone) × (same gone.0 key ≡ true)
+      step : (change : Planned) → ((change.table ≡ rows_table shape.name) × (is_erase change.deed ≡ true)) × (AllByRecursion (Passes after) (key_meant shapes changes change) × (same change.key key ≡ true)) → (gone : Gone) × (same gone.0 key ≡ true)
       step change h =
-          let gone : is_gone changes change ≡ true = and_from (is_erase change.deed) (not (is_again changes change)) h.0.1 (ap not (not_again change h.0.0 h.1.1)) in
-          let reads : AllByRecursion (Passes after) (parent_reads shapes change.table change.key) = subst (λ (b : Bool). AllByRecursion (Passes after) (if b then parent_reads shapes change.table change.key else [])) gone h.1.0 in
-          ((change.key, subst (λ (t : TableName). AllByRecursion (Passes after) (parent_reads shapes t change.key)) h.0.0 reads), h.1.1)
+          let own : is_own change ≡ true = ap (λ (t : TableName). nat_eq t.part 0) h.0.0 in
+          let left : (is_erase change.deed && not (is_again changes change)) ≡ true = and_from (is_erase change.deed) (not (is_again changes change)) h.0.1 (ap not (not_again change h.0.0 h.1.1)) in
+          let gone : is_gone changes change ≡ true = and_from (is_own change) (is_erase change.deed && not (is_again changes change)) own left in
+          let reads : AllByRecursion (Passes after) (parents_meant shapes change.table change.key) = subst (λ (b : Bool). AllByRecursion (Passes after) (if b then parents_meant shapes change.table change.key else [])) gone h.1.0 in
+          ((change.key, subst (λ (t : TableName). AllByRecursion (Passes after) (parents_meant shapes t change.key)) h.0.0 reads), h.1.1)
 
   -- what is read for each key that is gone, of each table and each of its FOREIGN KEYs
   abbrev LeftBy : TableTree → ForeignTree → Type 0
-  LeftBy child foreign = (gone : Gone) → same_units foreign.parent shape.name ≡ true → Passes after (parent_read gone.0 child foreign)
+  LeftBy child foreign = (gone : Gone) → same_units foreign.parent shape.name ≡ true → Passes after (parent_meant gone.0 child foreign)
 
   left_by : AllByRecursion (λ (child : TableTree). AllByRecursion (LeftBy child) child.foreigns) shapes
   left_by =
-      all_more (λ (child : TableTree). (gone : Gone) → AllByRecursion (λ foreign. same_units foreign.parent shape.name ≡ true → Passes after (parent_read gone.0 child foreign)) child.foreigns) (λ child. AllByRecursion (LeftBy child) child.foreigns)
-      (λ child reads. all_given (λ (gone : Gone) foreign. same_units foreign.parent shape.name ≡ true → Passes after (parent_read gone.0 child foreign)) child.foreigns reads) shapes
-      (all_given (λ (gone : Gone) (child : TableTree). AllByRecursion (λ foreign. same_units foreign.parent shape.name ≡ true → Passes after (parent_read gone.0 child foreign)) child.foreigns) shapes (λ gone.
-      all_more (λ (child : TableTree). AllByRecursion (Passes after) (parent_reads_of (rows_table shape.name) gone.0 child)) (λ child. AllByRecursion (λ foreign. same_units foreign.parent shape.name ≡ true → Passes after (parent_read gone.0 child foreign)) child.foreigns)
-      (λ child reads. all_filter (λ foreign. Passes after (parent_read gone.0 child foreign)) (λ foreign. same_units foreign.parent shape.name) child.foreigns (all_map (Passes after) (parent_read gone.0 child) (filter (λ foreign. same_units foreign.parent shape.name) child.foreigns) reads)) shapes
-      (all_flat (Passes after) (parent_reads_of (rows_table shape.name) gone.0) shapes gone.1)))
+      all_more (λ (child : TableTree). (gone : Gone) → AllByRecursion (λ foreign. same_units foreign.parent shape.name ≡ true → Passes after (parent_meant gone.0 child foreign)) child.foreigns) (λ child. AllByRecursion (LeftBy child) child.foreigns)
+      (λ child reads. all_given (λ (gone : Gone) foreign. same_units foreign.parent shape.name ≡ true → Passes after (parent_meant gone.0 child foreign)) child.foreigns reads) shapes
+      (all_given (λ (gone : Gone) (child : TableTree). AllByRecursion (λ foreign. same_units foreign.parent shape.name ≡ true → Passes after (parent_meant gone.0 child foreign)) child.foreigns) shapes (λ gone.
+      all_more (λ (child : TableTree). AllByRecursion (Passes after) (parents_meant_of (rows_table shape.name) gone.0 child)) (λ child. AllByRecursion (λ foreign. same_units foreign.parent shape.name ≡ true → Passes after (parent_meant gone.0 child foreign)) child.foreigns)
+      (λ child reads. all_filter (λ foreign. Passes after (parent_meant gone.0 child foreign)) (λ foreign. same_units foreign.parent shape.name) child.foreigns (all_map (Passes after) (parent_meant gone.0 child) (filter (λ foreign. same_units foreign.parent shape.name) child.foreigns) reads)) shapes
+      (all_flat (Passes after) (parents_meant_of (rows_table shape.name) gone.0) shapes gone.1)))
 
   -- a parent that stood still stands, if a row refers to it
   parent_stays : (child : TableTree) (foreign : ForeignTree) → LeftBy child foreign → (key row : List Value) → Stands after child key row

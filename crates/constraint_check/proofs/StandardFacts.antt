@@ -17,7 +17,8 @@ use Rattle.scalar_eval.specs.declared.fault.EvalFault.TheVariants.{Named}
 use Rattle.constraint_check.specs.declared.check_read.Check.TheVariants.{Unique, Child, Parent}
 use Rattle.constraint_check.specs.declared.check_read.CheckRead.{CheckRead}
 use Rattle.constraint_check.specs.Local.{null_fault}
-use Rattle.table_rows.specs.Rows.{rows_table}
+use Rattle.table_rows.specs.Rows.{index_part, rows_table}
+use Rattle.constraint_check.specs.Meant.{reads_meant}
 use Rattle.constraint_check.specs.Reads.{all_rows, reads_for}
 use Rattle.constraint_check.specs.Judged.{judge}
 
@@ -50,8 +51,15 @@ a = codes "a"
 
 -- ---- what is read
 
+-- in the part of the UNIQUE, which is the first
 abbrev unique : List ℕ → CheckRead
-unique n = record { check = Unique; range = all_rows (codes "t"); columns = 1 ∷ []; wanted = Text n ∷ []; name = codes "UQ_t_1" }
+unique n = record {
+  check = Unique;
+  range = record { table = index_part t 1; start = At (Text n ∷ []); stop = Within (Text n ∷ []) };
+  columns = 0 ∷ [];
+  wanted = Text n ∷ [];
+  name = codes "UQ_t_1";
+}
 
 abbrev child : ℕ → CheckRead
 child p = record {
@@ -62,8 +70,15 @@ child p = record {
   name = codes "FK_t_1";
 }
 
+-- in the part of the FOREIGN KEY, behind that
 abbrev parent : ℕ → CheckRead
-parent k = record { check = Parent; range = all_rows (codes "t"); columns = 2 ∷ []; wanted = number k ∷ []; name = codes "FK_t_1" }
+parent k = record {
+  check = Parent;
+  range = record { table = index_part t 2; start = At (number k ∷ []); stop = Within (number k ∷ []) };
+  columns = 0 ∷ [];
+  wanted = number k ∷ [];
+  name = codes "FK_t_1";
+}
 
 -- a row that is inserted has its UNIQUE; with a NULL it has no parent
 inserted_alone : reads_for (change 1 (Insert (row 1 a Null)) ∷ []) (t ∷ []) ≡ unique a ∷ []
@@ -96,17 +111,28 @@ moved = refl
 without_shape : reads_for (change 1 Erase ∷ change 3 (Insert (row 3 a Null)) ∷ []) [] ≡ []
 without_shape = refl
 
+-- what the checks say is of all rows
+unique_of_all : reads_meant (change 1 (Insert (row 1 a Null)) ∷ []) (t ∷ []) ≡ record { check = Unique; range = all_rows (codes "t"); columns = 1 ∷ []; wanted = Text a ∷ []; name = codes "UQ_t_1" } ∷ []
+unique_of_all = refl
+
+parent_of_all : reads_meant (change 1 Erase ∷ []) (t ∷ []) ≡ record { check = Parent; range = all_rows (codes "t"); columns = 2 ∷ []; wanted = number 1 ∷ []; name = codes "FK_t_1" } ∷ []
+parent_of_all = refl
+
 -- ---- what the rows say
 
+-- the index row of one with this value and key
+abbrev index : Value → ℕ → List Value
+index value k = value ∷ number k ∷ []
+
 -- the row itself alone is no duplicate, another one with spaces at its end is
-alone : judge (unique a) (row 1 a Null ∷ row 2 (codes "b") Null ∷ []) ≡ None
+alone : judge (unique a) (index (Text a) 1 ∷ index (Text (codes "b")) 2 ∷ []) ≡ None
 alone = refl
 
-twice : judge (unique a) (row 1 a Null ∷ row 2 (codes "a ") Null ∷ []) ≡ Some (pos 2627)
+twice : judge (unique a) (index (Text a) 1 ∷ index (Text (codes "a ")) 2 ∷ []) ≡ Some (pos 2627)
 twice = refl
 
 -- two NULLs are one value to UNIQUE
-two_nulls : judge (record (unique a) { wanted = Null ∷ [] }) ((number 1 ∷ Null ∷ []) ∷ (number 2 ∷ Null ∷ []) ∷ []) ≡ Some (pos 2627)
+two_nulls : judge (record (unique a) { wanted = Null ∷ [] }) (index Null 1 ∷ index Null 2 ∷ []) ≡ Some (pos 2627)
 two_nulls = refl
 
 orphan : judge (child 1) [] ≡ Some (pos 547)
@@ -115,10 +141,10 @@ orphan = refl
 with_parent : judge (child 1) (row 1 a Null ∷ []) ≡ None
 with_parent = refl
 
-left_behind : judge (parent 1) (row 2 a (number 1) ∷ []) ≡ Some (pos 547)
+left_behind : judge (parent 1) (index (number 1) 2 ∷ []) ≡ Some (pos 547)
 left_behind = refl
 
-none_left : judge (parent 1) (row 2 a Null ∷ row 3 a (number 2) ∷ []) ≡ None
+none_left : judge (parent 1) (index Null 2 ∷ index (number 2) 3 ∷ []) ≡ None
 none_left = refl
 
 -- ---- NULLs

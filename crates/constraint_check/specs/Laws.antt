@@ -17,7 +17,8 @@ use Rattle.constraint_check.specs.declared.check_read.Check.{Check}
 use Rattle.constraint_check.specs.declared.check_read.Check.TheVariants.{Unique, Child, Parent}
 use Rattle.constraint_check.specs.declared.check_read.CheckRead.{CheckRead}
 use Rattle.constraint_check.specs.Local.{first_local}
-use Rattle.constraint_check.specs.Reads.{is_erase, reads_for}
+use Rattle.constraint_check.specs.Meant.{reads_meant}
+use Rattle.constraint_check.specs.Reads.{is_erase}
 use Rattle.constraint_check.specs.Judged.{agrees, judge}
 use Rattle.constraint_check.specs.Integrity.{AreKept}
 
@@ -49,7 +50,7 @@ abbrev pub behind : Database → List Planned → Database
 behind db changes = With db (map change_of changes)
 
 -- Changes of one of the tables pass all checks: rows are erased, and then rows that fit are written; these are right by
--- themselves; and what is read behind all changes gives no error.
+-- themselves; and what the checks say behind all changes is so.
 pub record Checked (db : Database) (tests : TableTree → List BoundTest) (shapes : List TableTree) (shape : TableTree) (erased written : List Planned) : Type 0 where
   pub one_key : KeysAreOne db
   pub one_name : AllByRecursion (λ of. shape_of (rows_table of.name) shapes ≡ Some of) shapes
@@ -60,7 +61,7 @@ pub record Checked (db : Database) (tests : TableTree → List BoundTest) (shape
   pub writes : AllByRecursion (λ change. is_erase change.deed ≡ false) written
   pub fit : AllByRecursion (λ change. ForSome (row_of change.deed) (λ row. IsTrue (row_fits shape 0 change.key row))) written
   pub alone : first_local (filter_map (λ change. row_of change.deed) written) shape (tests shape) ≡ None
-  pub passes : AllByRecursion (Passes (behind db (erased ++ written))) (reads_for (erased ++ written) shapes)
+  pub passes : AllByRecursion (Passes (behind db (erased ++ written))) (reads_meant (erased ++ written) shapes)
 
 abbrev pub CheckedKept : Type 0
 CheckedKept = (db : Database) (tests : TableTree → List BoundTest) (shapes : List TableTree) (shape : TableTree) (erased written : List Planned)

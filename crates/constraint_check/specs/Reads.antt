@@ -1,8 +1,8 @@
 -- Transact-SQL reference, "CREATE TABLE": UNIQUE and FOREIGN KEY, which say something of rows beside a row. Own: what is read
--- behind the changes of a statement to check them: UNIQUE of each row that is written; the parent of each such row; the
--- rows that refer to each row that is gone. A FOREIGN KEY with a NULL has no parent, and a key that the statement
--- inserts again is not gone.
-use Rattle.std.specs.Prelude.{ℕ, Bool, true, false, not, ◌&&◌, nat_le, if◌then◌else◌, List, [], ◌∷◌, ◌++◌, length, map, filter, Option, Some, None}
+-- behind the changes of a statement to check them: UNIQUE of each row that is written, in the constraint's index part; the
+-- parent of each such row; the rows that refer to each row that is gone, in the index parts of their FOREIGN KEYs. A
+-- FOREIGN KEY with a NULL has no parent, and a key that the statement inserts again is not gone.
+use Rattle.std.specs.Prelude.{ℕ, zero, suc, Bool, true, false, not, ◌&&◌, nat_le, if◌then◌else◌, List, [], ◌∷◌, ◌++◌, length, Option, Some, None}
 use Rattle.std.specs.List.{flat_map, list_any}
 use Rattle.value_types.specs.Units.{same_units}
 use Rattle.value_types.specs.declared.table_name.TableName.{TableName}
@@ -20,8 +20,8 @@ use Rattle.step_model.specs.declared.range.KeyRange.{KeyRange}
 use Rattle.step_model.specs.declared.range.Start.TheVariants.{First, At}
 use Rattle.step_model.specs.declared.range.Stop.TheVariants.{Last, Within}
 use Rattle.step_model.specs.Database.{is_at}
-use Rattle.step_model.specs.Own.{change_of, is_insert, row_of}
-use Rattle.table_rows.specs.Rows.{places_of, rows_table, shape_of, values_at}
+use Rattle.step_model.specs.Own.{change_of, is_insert, is_own, row_of}
+use Rattle.table_rows.specs.Rows.{index_part, places_of, rows_table, shape_of, values_at}
 use Rattle.constraint_check.specs.declared.check_read.Check.TheVariants.{Unique, Child, Parent}
 use Rattle.constraint_check.specs.declared.check_read.CheckRead.{CheckRead}
 
@@ -39,14 +39,30 @@ is_key values = nat_le 1 (length values) && nat_le (length values) key_limit
 abbrev pub row_at : List ℕ → List Value → KeyRange
 row_at name key = if is_key key then (record { table = rows_table name; start = At key; stop = Within key }) else all_rows name
 
+-- the rows of an index part that begin with these values; for what can be no key, all of them
+abbrev pub index_rows : TableTree → ℕ → List Value → KeyRange
+index_rows shape part values =
+    if is_key values then (record { table = index_part shape part; start = At values; stop = Within values }) else (record { table = index_part shape part; start = First; stop = Last })
+
+-- so many places, from the first on: those of a constraint's columns in its index rows
+abbrev pub first_places : ℕ → List ℕ
+first_places zero = []
+first_places (suc count) = first_places count ++ count ∷ []
+
 -- ---- UNIQUE, of a row that is written
 
-abbrev pub unique_read : TableTree → List Value → KeyTree → CheckRead
-unique_read shape row key = let places = places_of shape key.columns in
-    record { check = Unique; range = all_rows shape.name; columns = places; wanted = values_at places row; name = key.name }
+abbrev pub unique_read : TableTree → List Value → ℕ → KeyTree → CheckRead
+unique_read shape row part key = let places = places_of shape key.columns in
+    record { check = Unique; range = index_rows shape part (values_at places row); columns = first_places (length places); wanted = values_at places row; name = key.name }
 
+-- of UNIQUEs whose parts follow one another, from this one on
+abbrev pub unique_reads_from : TableTree → List Value → ℕ → List KeyTree → List CheckRead
+unique_reads_from shape row part [] = []
+unique_reads_from shape row part (key ∷ keys) = unique_read shape row part key ∷ unique_reads_from shape row (suc part) keys
+
+-- their parts begin with 1
 abbrev pub unique_reads : TableTree → List Value → List CheckRead
-unique_reads shape row = map (unique_read shape row) shape.uniques
+unique_reads shape row = unique_reads_from shape row 1 shape.uniques
 
 -- ---- FOREIGN KEY, of a row that is written: its parent is the row at the key that the row's values are
 
@@ -68,17 +84,27 @@ child_reads shapes shape row = flat_map (λ foreign. child_where shapes foreign 
 
 -- ---- FOREIGN KEYs that refer to a row that is gone: of each table, in the order in which the tables are given
 
-abbrev pub parent_read : List Value → TableTree → ForeignTree → CheckRead
-parent_read key child foreign = record {
+abbrev pub parent_read : List Value → TableTree → ℕ → ForeignTree → CheckRead
+parent_read key child part foreign = record {
   check = Parent;
-  range = all_rows child.name;
-  columns = places_of child foreign.columns;
+  range = index_rows child part key;
+  columns = first_places (length (places_of child foreign.columns));
   wanted = key;
   name = foreign.name;
 }
 
+-- of those FOREIGN KEYs that refer to the table, where their parts follow one another, from this one on
+abbrev pub parent_reads_from : TableName → List Value → TableTree → ℕ → List ForeignTree → List CheckRead
+parent_reads_from table key child part [] = []
+parent_reads_from table key child part (foreign ∷ foreigns) =
+    if same_units foreign.parent table.object then parent_read key child part foreign ∷ parent_reads_from table key child (suc part) foreigns else parent_reads_from table key child (suc part) foreigns
+
+-- their parts begin behind those of the UNIQUEs
+abbrev pub first_foreign : TableTree → ℕ
+first_foreign shape = suc (length shape.uniques)
+
 abbrev pub parent_reads_of : TableName → List Value → TableTree → List CheckRead
-parent_reads_of table key child = map (parent_read key child) (filter (λ foreign. same_units foreign.parent table.object) child.foreigns)
+parent_reads_of table key child = parent_reads_from table key child (first_foreign child) child.foreigns
 
 abbrev pub parent_reads : List TableTree → TableName → List Value → List CheckRead
 parent_reads shapes table key = flat_map (parent_reads_of table key) shapes
@@ -104,9 +130,9 @@ is_erase (Insert row) = false
 abbrev pub is_again : List Planned → Planned → Bool
 is_again changes change = list_any (λ other. is_insert other.deed && is_at (change_of other) change.table change.key) changes
 
--- the rows that are gone: erased, and not inserted again
+-- the tables' own rows that are gone: erased, and not inserted again
 abbrev pub is_gone : List Planned → Planned → Bool
-is_gone changes change = is_erase change.deed && not (is_again changes change)
+is_gone changes change = is_own change && (is_erase change.deed && not (is_again changes change))
 
 abbrev pub of_key : List TableTree → List Planned → Planned → List CheckRead
 of_key shapes changes change = if is_gone changes change then parent_reads shapes change.table change.key else []

@@ -33,11 +33,11 @@ impl<'a> Inserted<'a> {
         Ok(Inserted { changes, spots })
     }
 
-    /// Whether a change erases a row that no change inserts again.
+    /// Whether a change erases an own row of a table that no change inserts again.
     pub(crate) fn is_gone(&self, change: &'a Planned) -> bool
         ensures { result ≡ spec.is_gone self.now.changes.now change.now }
     {
-        matches!(change.deed, Deed::Erase) && !self.is_again(change)
+        change.is_own() && matches!(change.deed, Deed::Erase) && !self.is_again(change)
     }
 
     /// Whether a change inserts at this one's key.

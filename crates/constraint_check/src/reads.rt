@@ -1,6 +1,6 @@
 //! What is read behind the changes of a statement, to check UNIQUE and FOREIGN KEY.
 
-ghost use Rattle.std.specs.Prelude.{◌≡◌, ◌++◌, IfOk, filter_map, option_map};
+ghost use Rattle.std.specs.Prelude.{◌≡◌, ◌++◌, IfOk, filter_map, length, option_map, suc};
 ghost use Rattle.std.specs.List.{flat_map, list_any};
 ghost use Rattle.bound_tree.specs.Meaning.{is_null};
 ghost use Rattle.bound_tree.specs.Setting.{value_at};
@@ -19,10 +19,10 @@ use table_rows::place_in;
 use tsql_tree::{ColumnTree, ForeignTree, KeyTree, TableTree};
 use value_types::{KEY_LIMIT, Key, Memory, Row, TableName, Units, Value};
 
-/// What is read behind the changes of a statement: for each UNIQUE of each row that is written; then for each FOREIGN
-/// KEY of such a row without a NULL; then for each FOREIGN KEY that refers to the table of a row that is erased and not
-/// inserted again. Each of the three goes in the order of the changes, and for a change in that of the constraints, the
-/// last by the tables in the order of `shapes`.
+/// What is read behind the changes of a statement: for each UNIQUE of each row that is written, of its index part; then
+/// for each FOREIGN KEY of such a row without a NULL; then for each FOREIGN KEY that refers to the table of a row that is
+/// erased and not inserted again, of its index part. Each of the three goes in the order of the changes, and for a change
+/// in that of the constraints, the last by the tables in the order of `shapes`.
 pub fn reads_for(
     alloc: Global,
     changes: &[Planned],
@@ -78,8 +78,10 @@ fn unique_reads(
 ) -> Result<(), Memory>
     ensures { IfOk result (λ _. reads.new.items ≡ reads.old.items ++ spec.unique_reads shape.now row.now) }
 {
+    let mut part = 0;
     for key in shape.uniques.as_slice() {
-        reads.push(unique_read(alloc, shape, row, key)?)?;
+        part = following(part)?;
+        reads.push(unique_read(alloc, shape, row, part, key)?)?;
     }
     Ok(())
 }
@@ -88,16 +90,17 @@ fn unique_read(
     alloc: Global,
     shape: &TableTree,
     row: &Row,
+    part: u16,
     key: &KeyTree,
 ) -> Result<CheckRead, Memory>
-    ensures { IfOk result (λ read. read ≡ spec.unique_read shape.now row.now key.now) }
+    ensures { IfOk result (λ read. read ≡ spec.unique_read shape.now row.now part key.now) }
 {
-    let columns = places_of(alloc, shape, key.columns.as_slice())?;
-    let wanted = values_at(alloc, row, columns.as_slice())?;
+    let places = places_of(alloc, shape, key.columns.as_slice())?;
+    let wanted = values_at(alloc, row, places.as_slice())?;
     Ok(CheckRead {
         check: Check::Unique,
-        range: all_rows(alloc, &shape.name)?,
-        columns,
+        range: index_rows(alloc, shape, part, &wanted)?,
+        columns: first_places(alloc, places.len())?,
         wanted: Row::from(wanted),
         name: key.name.copy(alloc)?,
     })
@@ -250,32 +253,53 @@ fn parent_reads_of(
 ) -> Result<(), Memory>
     ensures { IfOk result (λ _. reads.new.items ≡ reads.old.items ++ spec.parent_reads_of table.now key.now child.now) }
 {
+    let mut part = last_unique(child)?;
     for foreign in child.foreigns.as_slice() {
+        part = following(part)?;
         if foreign.parent == table.object {
-            reads.push(parent_read(alloc, key, child, foreign)?)?;
+            reads.push(parent_read(alloc, key, child, part, foreign)?)?;
         }
     }
     Ok(())
+}
+
+/// The number of the last part of a UNIQUE.
+fn last_unique(shape: &TableTree) -> Result<u16, Memory>
+    ensures { IfOk result (λ part. part ≡ length shape.now.uniques) }
+{
+    place_of(shape.uniques.len())
 }
 
 fn parent_read(
     alloc: Global,
     key: &Key,
     child: &TableTree,
+    part: u16,
     foreign: &ForeignTree,
 ) -> Result<CheckRead, Memory>
-    ensures { IfOk result (λ read. read ≡ spec.parent_read key.now child.now foreign.now) }
+    ensures { IfOk result (λ read. read ≡ spec.parent_read key.now child.now part foreign.now) }
 {
+    let places = places_of(alloc, child, foreign.columns.as_slice())?;
     Ok(CheckRead {
         check: Check::Parent,
-        range: all_rows(alloc, &child.name)?,
-        columns: places_of(alloc, child, foreign.columns.as_slice())?,
+        range: index_rows(alloc, child, part, key.as_slice())?,
+        columns: first_places(alloc, places.len())?,
         wanted: Row::from(copied(alloc, key.as_slice())?),
         name: foreign.name.copy(alloc)?,
     })
 }
 
 // ---- tables, rows and ranges
+
+/// The number of the part behind this one, where there may be one.
+fn following(part: u16) -> Result<u16, Memory>
+    ensures { IfOk result (λ next. next ≡ suc part) }
+{
+    match part.checked_add(1) {
+        Some(next) => Ok(next),
+        None => Err(Memory),
+    }
+}
 
 /// The first shape of a table.
 fn shape_of<'a>(table: &TableName, shapes: &'a [TableTree]) -> Option<&'a TableTree>
@@ -381,6 +405,60 @@ fn all_rows(alloc: Global, name: &Units) -> Result<KeyRange, Memory>
         start: Start::First,
         stop: Stop::Last,
     })
+}
+
+/// The rows of an index part that begin with these values; for what can be no key, all of them.
+fn index_rows(
+    alloc: Global,
+    shape: &TableTree,
+    part: u16,
+    values: &[Value],
+) -> Result<KeyRange, Memory>
+    ensures { IfOk result (λ range. range ≡ spec.index_rows shape.now part values.now) }
+{
+    if values.is_empty() || values.len() > KEY_LIMIT {
+        return Ok(KeyRange {
+            table: index_part(alloc, shape, part)?,
+            start: Start::First,
+            stop: Stop::Last,
+        });
+    }
+    Ok(KeyRange {
+        table: index_part(alloc, shape, part)?,
+        start: Start::At(Key::new(copied(alloc, values)?)),
+        stop: Stop::Within(Key::new(copied(alloc, values)?)),
+    })
+}
+
+/// The index part of this number.
+fn index_part(alloc: Global, shape: &TableTree, part: u16) -> Result<TableName, Memory>
+    ensures { IfOk result (λ table. table ≡ tables.index_part shape.now part) }
+{
+    Ok(TableName {
+        object: shape.name.copy(alloc)?,
+        part,
+    })
+}
+
+/// So many places, from the first on.
+fn first_places(alloc: Global, count: usize) -> Result<Items<u16>, Memory>
+    ensures { IfOk result (λ places. places ≡ spec.first_places count) }
+{
+    let mut places = Vec::new(alloc);
+    for place in 0..count {
+        places.push(place_of(place)?)?;
+    }
+    Ok(Items::from_vec(places))
+}
+
+/// The same number, if it is one of a place or a part.
+fn place_of(place: usize) -> Result<u16, Memory>
+    ensures { IfOk result (λ named. named ≡ place) }
+{
+    match u16::try_from(place) {
+        Ok(named) => Ok(named),
+        Err(_) => Err(Memory),
+    }
 }
 
 /// The row of a table at a whole key; for what can be no key, all rows.

@@ -16,6 +16,7 @@ use Rattle.step_model.specs.declared.range.Stop.TheVariants.{Last, Within}
 use Rattle.step_model.specs.declared.change.Deed.{Deed}
 use Rattle.step_model.specs.declared.change.Deed.TheVariants.{Erase, Replace, Insert}
 use Rattle.step_model.specs.declared.change.Planned.{Planned}
+use Rattle.table_rows.specs.Rows.{index_columns}
 use Rattle.dml_exec.specs.declared.rewritten.Rewritten.TheVariants.{Inserted, Set, Erased}
 use Rattle.dml_exec.specs.Filling.{Row, filled, null_row, stored}
 use Rattle.dml_exec.specs.Planning.{changes_of, checked, has_key}
@@ -144,6 +145,7 @@ null_key = refl
 
 -- a NULL in a row that goes is none of the statement's
 null_erased : checked table t [] (Ok (Erased (without_b ∷ []))) ≡ Ok (change 1 Erase ∷ [])
+unfolding index_columns
 null_erased = refl
 
 -- an error of the rows comes before

@@ -37,7 +37,7 @@ use Rattle.step_model.specs.Dialog.{Dialog, over, asks, never}
 use Rattle.step_model.specs.Ranges.{Rows, Keeps, range_limit, with_row}
 use Rattle.range_plan.specs.RangeOf.{RangeOf}
 use Rattle.range_plan.specs.OnRanges.{ranges_of}
-use Rattle.table_rows.specs.Rows.{row_fits, same_key, shape_of}
+use Rattle.table_rows.specs.Rows.{part_places, row_fits, same_key, shape_of}
 use Rattle.dml_exec.specs.declared.refusal.Refusal.{Refusal}
 use Rattle.dml_exec.specs.declared.refusal.Refusal.TheVariants.{Victim, TimedOut, Limit, Memory}
 use Rattle.dml_exec.specs.declared.refusal.Level.{Level}
@@ -46,10 +46,10 @@ use Rattle.dml_exec.specs.Asking.{◌>>=◌, with_room, with_room_if}
 
 -- ---- one range
 
--- which rows are read as rows of a table of this shape, by the key at which each stands: of none no row is
-abbrev pub fits : Option TableTree → Keeps
-fits None row = false
-fits (Some shape) row = row_fits shape 0 row.0 row.1
+-- which rows are read as rows of a part of a table of this shape, by the key at which each stands: of no table no row is
+abbrev pub fits : Option TableTree → ℕ → Keeps
+fits None part row = false
+fits (Some shape) part row = row_fits shape part row.0 row.1
 
 -- A range of one whole key: keys that compare equal are one key. A front of a key is none, as many keys may begin with it.
 abbrev pub is_one_key : ℕ → Start → Stop → Bool
@@ -67,9 +67,17 @@ abbrev pub from : Start → Op → Op
 from start (Fetch table earlier stop hold part) = Fetch table start stop hold part
 from start op = op
 
--- how many values the keys of a table of this shape have
-abbrev pub key_width : Option TableTree → ℕ
-key_width shape = length (key_places shape)
+-- how many values the keys of a part of a table of this shape have: in an index part as many as its rows
+abbrev pub places_width : Option (List ℕ) → ℕ
+places_width None = 0
+places_width (Some places) = length places
+
+abbrev pub index_width : Option TableTree → ℕ → ℕ
+index_width None part = 0
+index_width (Some shape) part = places_width (part_places shape part)
+
+abbrev pub key_width : Option TableTree → ℕ → ℕ
+key_width shape part = if nat_eq part 0 then length (key_places shape) else index_width shape part
 
 -- whether keys of so many values may begin with a key
 abbrev pub is_short : ℕ → List Value → Bool
@@ -112,10 +120,10 @@ unfoldable pub rows_from : ℕ → Keeps → ℕ → Op → Rows → Dialog (Res
 rows_from width keeps zero fetch so_far = over (Err Limit)
 rows_from width keeps (suc left) fetch so_far = fetches width keeps fetch so_far >>= reads_on (λ more start. rows_from width keeps left (from start fetch) more)
 
--- the rows of a range of a table of this shape; of one whole key, the row at it, or none
-unfoldable pub rows_in : Option TableTree → Bool → Op → Dialog (Result Rows Refusal)
-rows_in shape true fetch = fetches (key_width shape) (fits shape) fetch [] >>= λ came. over (Ok came.0)
-rows_in shape false fetch = rows_from (key_width shape) (fits shape) range_limit fetch []
+-- the rows of a range of a part of a table of this shape; of one whole key, the row at it, or none
+unfoldable pub rows_in : Option TableTree → ℕ → Bool → Op → Dialog (Result Rows Refusal)
+rows_in shape part true fetch = fetches (key_width shape part) (fits shape part) fetch [] >>= λ came. over (Ok came.0)
+rows_in shape part false fetch = rows_from (key_width shape part) (fits shape part) range_limit fetch []
 
 -- ---- the images of a statement
 
@@ -196,9 +204,9 @@ abbrev pub unless_given : Option Rows → Dialog (Result Rows Refusal) → Dialo
 unless_given None fetched = fetched
 unless_given (Some rows) fetched = with_room Memory (over (Ok rows))
 
--- the rows of a range that is read, of a table of this shape
+-- the rows of a range that is read, of the own rows of a table of this shape
 abbrev pub reads_range : Option TableTree → Level → TableRead → Dialog (Result Rows Refusal)
-reads_range shape level read = rows_in shape (is_one_key (key_width shape) read.0.start read.0.stop) (table_fetch level read)
+reads_range shape level read = rows_in shape 0 (is_one_key (key_width shape 0) read.0.start read.0.stop) (table_fetch level read)
 
 unfoldable pub reads_table : GivenRows → List TableTree → Level → TableRead → Dialog (Result Rows Refusal)
 reads_table given shapes level read = unless_given (given read.0.table) (reads_range (shape_of read.0.table shapes) level read)

@@ -50,7 +50,7 @@ fn insertions(
 }
 
 /// The erasures of rows.
-fn erasures(
+pub(crate) fn erasures(
     alloc: Global,
     table: &TableName,
     key: &[u16],
@@ -93,7 +93,7 @@ fn rewrites(
 }
 
 /// The erasures of the rows whose keys change.
-fn moves(
+pub(crate) fn moves(
     alloc: Global,
     table: &TableName,
     key: &[u16],

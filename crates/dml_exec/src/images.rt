@@ -195,9 +195,9 @@ fn fetch_range<P: Port>(
     ensures standing { (P.past port.new).standing ≡ (P.past port.old).standing }
 {
     let shape = shape_of(&read.0.table, shapes);
-    let one = is_one_key(key_width(shape), &read.0.start, &read.0.stop);
+    let one = is_one_key(key_width(shape, 0), &read.0.start, &read.0.stop);
     let fetch = table_fetch(level, read);
-    read_range(alloc, port, manner, shape, one, fetch)
+    read_range(alloc, port, manner, shape, 0, one, fetch)
 }
 
 /// The fetch of a range that is read.

@@ -22,7 +22,12 @@ pub fn key_places(alloc: Global, shape: &TableTree) -> Result<Vec<u16>, Memory>
     }
 }
 
-fn places_in(alloc: Global, columns: &[ColumnTree], names: &[Units]) -> Result<Vec<u16>, AllocError>
+/// The places of the columns of these names.
+pub(crate) fn places_in(
+    alloc: Global,
+    columns: &[ColumnTree],
+    names: &[Units],
+) -> Result<Vec<u16>, AllocError>
     ensures { IfOk result (λ places. places.items ≡ filter_map (scope.place_in columns.now) names.now) }
 {
     names
@@ -49,7 +54,7 @@ pub(crate) fn key_of(alloc: Global, places: &[u16], row: &Row) -> Result<Key, Me
 }
 
 /// The values at places of a row.
-fn values_at(alloc: Global, places: &[u16], row: &Row) -> Result<Vec<Value>, Memory>
+pub(crate) fn values_at(alloc: Global, places: &[u16], row: &Row) -> Result<Vec<Value>, Memory>
     ensures values { IfOk result (λ values. values.items ≡ rows.values_at places.now row.now) }
     ensures many { IfOk result (λ values. length values.items ≡ length places.now) }
 {

@@ -1,7 +1,7 @@
 //! What a write changes, and what is asked of the port for it.
 //!
 //! `specs/Lib.antt` says in which order to read. The layers above rely on [`plan_write`] giving exactly the changes of a write
-//! on images of its tables, in their order, or its first error; and on [`read_images`], [`attempt_write`] and [`apply_write`]
+//! on images of its tables, those of index rows behind those of rows, in their order, or its first error; and on [`read_images`], [`attempt_write`] and [`apply_write`]
 //! asking exactly what `images_of`, `attempts` and `writes` ask, and giving what these come to by the replies. These three
 //! want an open transaction and a priority that may be asked. Only tests show that want of memory is not answered where there
 //! is memory. It recurses as deep as inner queries nest, and as deep as trees are.
@@ -11,6 +11,8 @@ mod changes;
 mod fault;
 mod filling;
 mod images;
+mod index;
+mod index_keys;
 mod keys;
 mod planning;
 mod ranges;

@@ -6,13 +6,16 @@ ghost use Rattle.std.specs.Option.{option_map};
 ghost use Rattle.lock_modes.specs.declared.KeyPart.TheVariants.{S};
 ghost use Rattle.step_model.specs.declared.op.Hold.TheVariants as hold;
 ghost use Rattle.step_model.specs.declared.op.Op.TheVariants as ops;
-ghost use Rattle.step_model.specs.Dialog.{Asks, tries, over};
+ghost use Rattle.step_model.specs.Dialog.{Asks, asks, tries, over};
 ghost use Rattle.table_rows.specs.Definitions as names;
 ghost use Rattle.dml_exec.specs.Asking.{MayWork};
+ghost use Rattle.dml_exec.specs.Indexes as private;
+ghost use Rattle.dml_exec.specs.Planning.{as_found};
 ghost use Rattle.dml_exec.specs.Reading.{fetch_of};
 ghost use Rattle.dml_exec.specs.Writing as spec;
 
-use crate::ranges::{is_one_key, key_width, read_range, shape_of};
+use crate::index_keys::{ask_keys, is_asked};
+use crate::ranges::{is_one_key, key_width, part_shape, read_range, shape_of};
 use crate::refusal::Refusal;
 use crate::written::{Attempt, Halt, Written};
 use bound_tree::Image;
@@ -22,7 +25,7 @@ use std::alloc::Global;
 use step_model::{Deed, Hold, KeyRange, Manner, Op, Planned, Port, Reply};
 use table_rows::is_objects;
 use tsql_tree::TableTree;
-use value_types::{Key, Memory, Row, TableName, Units, Value};
+use value_types::{Key, Memory, Row, TableName, Units, Value, beside};
 
 /// A row is at the key.
 const DUPLICATE: i32 = 2627;
@@ -63,9 +66,31 @@ pub fn attempt_write<P: Port>(
     ensures asks { Asks (P.past port.old) (P.past port.new) manner (spec.attempts shapes.now changes.now) result }
     ensures begun { (P.past port.new).standing.is_open ≡ true }
 {
+    match ask_keys(alloc, port, manner, changes) {
+        Ok(found) => attempt_found(alloc, port, manner, shapes, changes, found.as_slice()),
+        Err(refusal) => Attempt {
+            mark: None,
+            came: Err(refusal),
+        },
+    }
+}
+
+/// The same, where this was found of the index rows that were asked for.
+fn attempt_found<P: Port>(
+    alloc: Global,
+    port: &mut P,
+    manner: Manner,
+    shapes: &[TableTree],
+    changes: &[Planned],
+    found: &[bool],
+) -> Attempt
+    requires may { MayWork (P.past port.old) manner }
+    ensures asks { Asks (P.past port.old) (P.past port.new) manner (asks ops.Mark tt (spec.marked shapes.now changes.now found.now)) result }
+    ensures begun { (P.past port.new).standing.is_open ≡ true }
+{
     match port.ask(&Op::Mark, manner) {
         Reply::Marked(mark) => {
-            let came = work(alloc, port, manner, shapes, changes);
+            let came = work(alloc, port, manner, shapes, changes, found);
             end(port, manner, mark, came)
         }
         Reply::Memory => Attempt {
@@ -112,19 +137,20 @@ fn outcome(halt: Halt) -> Result<Written, Refusal>
     }
 }
 
-/// Asks the changes, and the reads of their checks.
+/// Asks the changes, as was found, and the reads of their checks.
 fn work<P: Port>(
     alloc: Global,
     port: &mut P,
     manner: Manner,
     shapes: &[TableTree],
     changes: &[Planned],
+    found: &[bool],
 ) -> Result<(), Halt>
     requires may { MayWork (P.past port.old) manner }
-    ensures asks { Asks (P.past port.old) (P.past port.new) manner (spec.works shapes.now changes.now) result }
+    ensures asks { Asks (P.past port.old) (P.past port.new) manner (spec.works shapes.now changes.now found.now) result }
     ensures standing { (P.past port.new).standing ≡ (P.past port.old).standing }
 {
-    write_all(alloc, port, manner, shapes, changes)?;
+    write_all(alloc, port, manner, shapes, changes, found)?;
     match reads_for(alloc, changes, shapes) {
         Ok(reads) => check_all(alloc, port, manner, shapes, reads.as_slice()),
         Err(_) => Err(Halt::Refused(Refusal::Memory)),
@@ -133,22 +159,115 @@ fn work<P: Port>(
 
 // ---- changes
 
-/// Asks changes one after another.
+/// Asks changes one after another, as was found of those index rows that were asked for.
 fn write_all<P: Port>(
     alloc: Global,
     port: &mut P,
     manner: Manner,
     shapes: &[TableTree],
     changes: &[Planned],
+    found: &[bool],
 ) -> Result<(), Halt>
     requires may { MayWork (P.past port.old) manner }
-    ensures asks { Asks (P.past port.old) (P.past port.new) manner (spec.writes_all shapes.now changes.now) result }
+    ensures asks { Asks (P.past port.old) (P.past port.new) manner (spec.writes_all shapes.now (as_found changes.now found.now)) result }
     ensures standing { (P.past port.new).standing ≡ (P.past port.old).standing }
 {
+    let mut rest = found;
     for change in changes {
-        write_one(alloc, port, manner, shapes, change)?;
+        write_told(alloc, port, manner, shapes, change, found_of(change, rest))?;
+        rest = found_behind(change, rest);
     }
     Ok(())
+}
+
+/// What was found of the index row of a change, if that was asked for.
+fn found_of(change: &Planned, found: &[bool]) -> Option<bool>
+    ensures { result ≡ private.found_of change.now found.now }
+{
+    match found {
+        [there, ..] if is_asked(change) => Some(*there),
+        _ => None,
+    }
+}
+
+/// What was found of those of the changes behind it.
+fn found_behind<'a>(change: &Planned, found: &'a [bool]) -> &'a [bool]
+    ensures { result.now ≡ private.found_behind change.now found.now }
+{
+    match found {
+        [_, rest @ ..] if is_asked(change) => rest,
+        _ => found,
+    }
+}
+
+/// Asks a change, of which this was found.
+fn write_told<P: Port>(
+    alloc: Global,
+    port: &mut P,
+    manner: Manner,
+    shapes: &[TableTree],
+    change: &Planned,
+    there: Option<bool>,
+) -> Result<(), Halt>
+    requires may { MayWork (P.past port.old) manner }
+    ensures asks { Asks (P.past port.old) (P.past port.new) manner (private.writes_told shapes.now there change.now) result }
+    ensures standing { (P.past port.new).standing ≡ (P.past port.old).standing }
+{
+    match there {
+        Some(false) => write_unless(alloc, port, manner, shapes, change),
+        _ => write_one(alloc, port, manner, shapes, change),
+    }
+}
+
+/// Asks a change of an index row that was not there: it is not erased, and is inserted in the place of being replaced.
+fn write_unless<P: Port>(
+    alloc: Global,
+    port: &mut P,
+    manner: Manner,
+    shapes: &[TableTree],
+    change: &Planned,
+) -> Result<(), Halt>
+    requires may { MayWork (P.past port.old) manner }
+    ensures asks { Asks (P.past port.old) (P.past port.new) manner (private.writes_unless shapes.now change.now change.now.deed) result }
+    ensures standing { (P.past port.new).standing ≡ (P.past port.old).standing }
+{
+    match &change.deed {
+        Deed::Erase => Ok(()),
+        Deed::Replace(row) => insert_instead(alloc, port, manner, shapes, change, row),
+        Deed::Insert(_) => write_one(alloc, port, manner, shapes, change),
+    }
+}
+
+/// Asks the insertion of this row at the key of a change.
+fn insert_instead<P: Port>(
+    alloc: Global,
+    port: &mut P,
+    manner: Manner,
+    shapes: &[TableTree],
+    change: &Planned,
+    row: &Row,
+) -> Result<(), Halt>
+    requires may { MayWork (P.past port.old) manner }
+    ensures asks { Asks (P.past port.old) (P.past port.new) manner (spec.writes_one shapes.now (private.inserted_at change.now row.now)) result }
+    ensures standing { (P.past port.new).standing ≡ (P.past port.old).standing }
+{
+    match insertion(alloc, change, row) {
+        Ok(insertion) => write_one(alloc, port, manner, shapes, &insertion),
+        Err(_) => Err(Halt::Refused(Refusal::Memory)),
+    }
+}
+
+/// The insertion of this row at the key of a change.
+fn insertion(alloc: Global, change: &Planned, row: &Row) -> Result<Planned, Memory>
+    ensures { IfOk result (λ insertion. insertion ≡ private.inserted_at change.now row.now) }
+{
+    let (table, key) = places(alloc, change)?;
+    let ((table, key), row) = beside((table, key), row.copy(alloc))?;
+    Ok(Planned {
+        table,
+        key,
+        deed: Deed::Insert(row),
+    })
 }
 
 /// Asks a change.
@@ -165,7 +284,7 @@ fn write_one<P: Port>(
 {
     match ask_deed(alloc, port, manner, change) {
         Reply::Done => Ok(()),
-        Reply::Exists => Err(present(alloc, shapes, change)),
+        Reply::Exists => there(alloc, shapes, change),
         Reply::Missing => Err(Halt::Refused(Refusal::Memory)),
         Reply::Memory => Err(Halt::Refused(Refusal::Memory)),
         Reply::TimedOut { .. } => Err(Halt::Refused(Refusal::TimedOut)),
@@ -233,6 +352,17 @@ fn ask_insert<P: Port>(
     match row.copy(alloc) {
         Ok(row) => port.ask(&Op::Insert { table, key, row }, manner),
         Err(_) => Reply::Memory,
+    }
+}
+
+/// What comes of an insertion where a row is there: into an index part it counts as done.
+fn there(alloc: Global, shapes: &[TableTree], change: &Planned) -> Result<(), Halt>
+    ensures { private.TellsThere shapes.now change.now result }
+{
+    if change.is_own() {
+        Err(present(alloc, shapes, change))
+    } else {
+        Ok(())
     }
 }
 
@@ -342,9 +472,10 @@ fn rows_checked<P: Port>(
     let Ok(fetch) = fetch_of(alloc, range) else {
         return Err(Halt::Refused(Refusal::Memory));
     };
-    let shape = shape_of(&range.table, shapes);
-    let one = is_one_key(key_width(shape), &range.start, &range.stop);
-    match read_range(alloc, port, manner, shape, one, fetch) {
+    let shape = part_shape(&range.table, shapes);
+    let part = range.table.part;
+    let one = is_one_key(key_width(shape, part), &range.start, &range.stop);
+    match read_range(alloc, port, manner, shape, part, one, fetch) {
         Ok(rows) => Ok(Image::from(rows)),
         Err(refusal) => Err(Halt::Refused(refusal)),
     }

@@ -1,5 +1,5 @@
 -- Where changes are asked, and checked, or taken back, what stands goes on.
-use Rattle.std.proofs.Common.{◌≡◌, ◌≢◌, ℕ, Bool, true, false, if◌then◌else◌, List, [], ◌∷◌, ◌++◌, length, map, take, Some, Result, Ok, Err, refl, sym, ap, subst, ◌∙◌, append-nil, append_assoc}
+use Rattle.std.proofs.Common.{◌≡◌, ◌≢◌, ℕ, Bool, true, false, if◌then◌else◌, List, [], ◌∷◌, ◌++◌, length, map, take, None, Some, Result, Ok, Err, refl, sym, ap, subst, ◌∙◌, append-nil, append_assoc}
 use Rattle.std.specs.List.{AllByRecursion}
 use Rattle.value_types.specs.declared.table_name.TableName.{TableName}
 use Rattle.value_types.specs.declared.value.Value.{Value}
@@ -17,33 +17,46 @@ use Rattle.step_model.specs.Dialog.{Dialog, Held as Said, IsQuiet, asks, never, 
 use Rattle.step_model.specs.Exchange.{CanReply, Exchange, MayCome}
 use Rattle.step_model.specs.Fits.{NoneEnds, is_ended, place_of, place_or}
 use Rattle.step_model.specs.Log.{Commit as Logged, State}
-use Rattle.step_model.specs.Own.{Progress, change_of, progress_after, progress_of, standing_at}
+use Rattle.step_model.specs.Own.{Progress, change_of, is_own, progress_after, progress_of, standing_at}
 use Rattle.constraint_check.specs.Laws.{Passes, behind}
+use Rattle.table_rows.specs.Rows.{rows_table}
+use Rattle.constraint_check.specs.Meant.{reads_meant}
 use Rattle.constraint_check.specs.Reads.{reads_for}
+use Rattle.dml_exec.specs.declared.refusal.Level.{Level}
 use Rattle.dml_exec.specs.declared.refusal.Refusal.{Refusal}
 use Rattle.dml_exec.specs.declared.written.Attempt.{Attempt}
 use Rattle.dml_exec.specs.declared.written.Written.{Written}
 use Rattle.dml_exec.specs.declared.written.Written.TheVariants as written
 use Rattle.dml_exec.specs.Asking.{with_room}
-use Rattle.dml_exec.specs.Writing.{asks_deed, attempts, checks_all, done_by, ends, marked, no_room, outcome, present, told, where_done, works, writes, writes_all, writes_one}
-use Rattle.statement_paths.specs.Asked.{AskOnly}
-use Rattle.write_laws.specs.Reads.{HaveParents, HoldsIt, RowsFit, at_place}
+use Rattle.dml_exec.specs.Planning.{all_changes, as_found}
+use Rattle.dml_exec.specs.Writing.{asks_deed, asks_keys, attempts, behind_keys, checks_all, done_by, ends, marked, no_room, outcome, present, told, where_done, works, writes, writes_all, writes_one}
+use Rattle.statement_paths.specs.Asked.{AskOnly, IsFetch}
+use Rattle.statement_paths.specs.Paths.{AreApplied}
+use Rattle.statement_paths.proofs.Asking.{keys_say}
+use Rattle.write_laws.specs.Attempted.{IsToldPlan}
+use Rattle.write_laws.specs.Indexed.{Indexed, own_rows}
+use Rattle.write_laws.specs.Checking.{CanCheck}
+use Rattle.write_laws.specs.Reads.{HoldsIt, at_place}
+use Rattle.write_laws.specs.Sound.{Firm, IsTableOf}
+use Rattle.write_laws.proofs.Applied.{applied_follows}
+use Rattle.write_laws.proofs.Checking.{parts_pass}
 use Rattle.write_laws.proofs.Checks.{all_fetches}
 use Rattle.write_laws.proofs.Dialogs.{held_both}
 use Rattle.write_laws.proofs.Parts.{AsksOnly, all_asked, asks_more, asks_ok, asks_room, asks_then}
-use Rattle.write_laws.proofs.Writes.{writes_leave, writes_pass}
+use Rattle.write_laws.proofs.OwnMade.{own_applied}
+use Rattle.write_laws.proofs.Writes.{applied_of, writes_leave, writes_pass}
 use Rattle.batch_meaning.specs.declared.failure.Failure.{Failure}
 use Rattle.batch_meaning.specs.Asking.{applies, unless_broken}
 use Rattle.batch_meaning.specs.Doing.{Held}
 use Rattle.batch_meaning.specs.Progress.{SessionProgress}
 use Rattle.statement_paths.proofs.Apart.{holds_apart}
-use Rattle.statement_paths.proofs.Only.{AnyStep, NoCommit, Only, only_gives, quiet_commits, says_quiet}
+use Rattle.statement_paths.proofs.Only.{AnyStep, NoCommit, Only, only_gives, quiet_commits, says_held, says_quiet}
 use Rattle.sound_laws.specs.Stands.{Intact, Brings, Stands, StandsAt, base_of}
 use Rattle.sound_laws.specs.Tied.{Tied}
 use Rattle.sound_laws.proofs.Bringing.{brings_mono}
 use Rattle.sound_laws.proofs.Here.{place_past}
 use Rattle.sound_laws.proofs.Steps.{AllMarked, IsStill, after_one, back_stands, marks_stand, one_stands}
-use Rattle.sound_laws.proofs.Trees.{StandsBy, StandsWith, quiet_brings}
+use Rattle.sound_laws.proofs.Trees.{StandsBy, StandsWith, fetch_still, quiet_brings}
 
 -- ---- what a dialog ends and asks
 
@@ -94,7 +107,11 @@ module _ (shapes : List TableTree) where
 
   done_marks : (change : Planned) (reply : Reply) → AsksOnly IsNoMark (done_by shapes change reply)
   done_marks change replies.Done = tt
-  done_marks change replies.Exists = asks_room IsNoMark no_room (over (Err (present shapes change.table change.key))) tt
+  done_marks change replies.Exists = by_own (is_own change)
+    where
+      by_own : (own : Bool) → AsksOnly IsNoMark {A = Result (Unit {0}) _} (if own then with_room no_room (over (Err (present shapes change.table change.key))) else over (Ok tt))
+      by_own true = asks_room IsNoMark no_room (over (Err (present shapes change.table change.key))) tt
+      by_own false = tt
   done_marks change replies.Missing = tt
   done_marks change replies.Memory = tt
   done_marks change (replies.TimedOut holder held asked on) = tt
@@ -110,10 +127,10 @@ module _ (shapes : List TableTree) where
   all_marks [] = tt
   all_marks (change ∷ changes) = asks_ok IsNoMark (writes_one shapes change) (λ done. writes_all shapes changes) (one_marks change) (λ done. all_marks changes)
 
-  pub works_marks : (changes : List Planned) → AsksOnly IsNoMark (works shapes changes)
+  pub works_marks : (changes : List Planned) (found : List Bool) → AsksOnly IsNoMark (works shapes changes found)
   unfolding works
-  works_marks changes =
-      asks_ok IsNoMark (writes_all shapes changes) (λ done. with_room no_room (checks_all shapes (reads_for changes shapes))) (all_marks changes)
+  works_marks changes found =
+      asks_ok IsNoMark (writes_all shapes (as_found changes found)) (λ done. with_room no_room (checks_all shapes (reads_for changes shapes))) (all_marks (as_found changes found))
       (λ done. asks_room IsNoMark no_room (checks_all shapes (reads_for changes shapes)) (asks_more HoldsIt IsNoMark fetch_marks (checks_all shapes (reads_for changes shapes)) (all_fetches shapes (reads_for changes shapes))))
 
 -- ---- the marks
@@ -148,13 +165,24 @@ module _ (session : ℕ) (begin log : List Logged) (mine : List Exchange) (tied 
 
 -- ---- a write
 
--- Changes may be made in a database: rows can be read behind them for their checks, and where these pass it is intact.
+-- Changes of own rows may be made in a database: rows can be read behind them for their checks, and where these pass it is intact.
 pub record MayWrite (db : Database) (shapes : List TableTree) (planned : List Planned) : Type 0 where
-  pub parents : HaveParents shapes
-  pub rows : AllByRecursion (RowsFit (behind db planned)) shapes
-  pub intact : AllByRecursion (Passes (behind db planned)) (reads_for planned shapes) → Intact (behind db planned)
+  pub own : AllByRecursion (λ change. is_own change ≡ true) planned
+  pub can : CanCheck (behind db planned) shapes
+  pub intact : AllByRecursion (Passes (behind db planned)) (reads_meant planned shapes) → Intact (behind db planned)
 
--- They may be made behind these exchanges: where that is what comes next, the database behind them is intact, too.
+-- Changes may be made that were planned on rows which were told among the exchanges so far: where the parts follow the rows that change they do
+-- behind all of it; then rows can be read for their checks; and where these pass the own rows are firm.
+pub record MayChange (before : List Exchange) (db : Database) (shapes : List TableTree) (planned : List Planned) : Type 0 where
+  pub level : Level
+  pub shape : TableTree
+  pub told : IsToldPlan before level shape planned
+  pub defined : IsTableOf db shape
+  pub can : Indexed (behind db planned) → CanCheck (behind db planned) shapes
+  pub firm : AllByRecursion (Passes (behind db planned)) (reads_meant planned shapes) → Firm (own_rows (behind db planned))
+  pub indexed : Indexed (behind db (all_changes (rows_table shape.name) shape told.rows)) → Indexed (behind db planned)
+
+-- Changes may be made behind these exchanges: where that is what comes next, the database behind them is intact, too.
 abbrev pub MayMake : List Logged → List TableTree → List Planned → List Exchange → List Exchange → Type 0
 MayMake log shapes planned before later = (manner : Manner) (part rest : List Exchange) (mark : ℕ) → later ≡ part ++ rest → Said manner (writes shapes planned) part (Ok (written.Done mark))
     → Intact (at_place log before later) → Intact (at_place log (before ++ part) rest)
@@ -167,6 +195,11 @@ said_on manner (asks op quiet go) seen [] a held = absurd held
 said_on manner (asks op quiet go) seen (x ∷ part) a held = (held.0, held.1, held.2, said_on manner (go x.reply) seen part a held.3)
 said_on manner (room go) seen part a held = (held.0, said_on manner (go held.0) seen part a held.1)
 said_on manner never seen part a held = absurd held
+
+-- what is over asks nothing
+nothing_asked : {A : Type 0} (manner : Manner) (a : A) (part : List Exchange) (result : A) → Said manner (over a) part result → part ≡ []
+unfolding Said
+nothing_asked manner a part result held = held.0
 
 -- what came of an attempt is what came of the write
 pub attempt_wrote : (manner : Manner) (shapes : List TableTree) (planned : List Planned) (part : List Exchange) (attempt : Attempt) → Said manner (attempts shapes planned) part attempt → Said manner (writes shapes planned) part attempt.came
@@ -204,34 +237,65 @@ module _ (session : ℕ) (begin log : List Logged) (mine : List Exchange) (tied 
           (was_taken_back session begin log mine tied before x later mark (is ∙ ap (λ (xs : List Exchange). before ++ x ∷ (xs ++ later)) rest.0) held.0 done (subst (λ (xs : List Exchange). MarksStand log before (x ∷ (xs ++ later))) rest.0 marks))
       by_reply reply other can rest = absurd can
 
-  -- an attempt at changes that may be made keeps what stands
-  pub attempt_stands : (before part later : List Exchange) → mine ≡ before ++ (part ++ later) → (attempt : Attempt) → Said manner (attempts shapes planned) part attempt
-      → StandsBy log (MayMake log shapes planned) before (part ++ later) → Stands log (before ++ part) later
-  unfolding attempts Said
-  attempt_stands before [] later is attempt held from = absurd held
-  attempt_stands before (x ∷ part) later is attempt held from = by_reply x.reply refl held.2 held.3
+  -- index rows that are asked for leave what stands
+  keys_stand : (part before later : List Exchange) → mine ≡ before ++ (part ++ later) → AskOnly IsFetch part → Stands log before (part ++ later) → Stands log (before ++ part) later
+  keys_stand [] before later is fetch stands = subst (λ (xs : List Exchange). Stands log xs later) (sym (append-nil before)) stands
+  keys_stand (x ∷ part) before later is fetch stands =
+      subst (λ (xs : List Exchange). Stands log xs later) (append_assoc before (x ∷ []) part)
+      (keys_stand part (before ++ x ∷ []) later (is ∙ sym (append_assoc before (x ∷ []) (part ++ later))) fetch.1
+      (one_stands session begin log mine tied before x (part ++ later) is (fetch_still x.op fetch.0.0) stands))
+
+  -- behind them, from the mark on
+  marked_stands : (found : List Bool) (before part later : List Exchange) → mine ≡ before ++ (part ++ later) → (attempt : Attempt) → Said manner (asks ops.Mark tt (marked shapes planned found)) part attempt → Stands log before (part ++ later)
+      → ((mark : ℕ) → attempt.came ≡ Ok (written.Done mark) → MarksStand log (before ++ part) later → Stands log (before ++ part) later) → Stands log (before ++ part) later
+  unfolding Said
+  marked_stands found before [] later is attempt held from made = absurd held
+  marked_stands found before (x ∷ part) later is attempt held from made = by_reply x.reply refl held.2 held.3
     where
       split : mine ≡ (before ++ x ∷ []) ++ (part ++ later)
       split = is ∙ sym (append_assoc before (x ∷ []) (part ++ later))
 
-      marked_stands : Stands log (before ++ x ∷ []) (part ++ later)
-      marked_stands = one_stands session begin log mine tied before x (part ++ later) is (subst IsStill (sym held.0) tt) from.0
+      mark_stands : Stands log (before ++ x ∷ []) (part ++ later)
+      mark_stands = one_stands session begin log mine tied before x (part ++ later) is (subst IsStill (sym held.0) tt) from
 
-      by_reply : (reply : Reply) → x.reply ≡ reply → CanReply ops.Mark reply → Said manner (marked shapes planned reply) part attempt → Stands log (before ++ x ∷ part) later
+      by_reply : (reply : Reply) → x.reply ≡ reply → CanReply ops.Mark reply → Said manner (marked shapes planned found reply) part attempt → Stands log (before ++ x ∷ part) later
       by_reply (replies.Marked mark) same can rest =
-          let both = held_both manner (works shapes planned) (ends mark) part attempt rest in
+          let both = held_both manner (works shapes planned found) (ends mark) part attempt rest in
           let parts : part ++ later ≡ both.first ++ (both.second ++ later) = ap (λ (xs : List Exchange). xs ++ later) both.parts ∙ append_assoc both.first both.second later in
           let there : before ++ x ∷ part ≡ ((before ++ x ∷ []) ++ both.first) ++ both.second =
           ap (λ (xs : List Exchange). before ++ x ∷ xs) both.parts ∙ sym (append_assoc before (x ∷ []) (both.first ++ both.second)) ∙ sym (append_assoc (before ++ x ∷ []) both.first both.second) in
-          let marks = marks_on log both.first (before ++ x ∷ []) (both.second ++ later) (all_asked IsNoMark manner (works shapes planned) both.first both.came (works_marks shapes planned) both.held)
-          (λ intact. (subst (Stands log (before ++ x ∷ [])) parts marked_stands intact).marks) in
+          let marks = marks_on log both.first (before ++ x ∷ []) (both.second ++ later) (all_asked IsNoMark manner (works shapes planned found) both.first both.came (works_marks shapes planned found) both.held)
+          (λ intact. (subst (Stands log (before ++ x ∷ [])) parts mark_stands intact).marks) in
           subst (λ (xs : List Exchange). Stands log xs later) (sym there)
           (ends_stand ((before ++ x ∷ []) ++ both.first) both.second later mark both.came attempt (split ∙ ap (λ (xs : List Exchange). (before ++ x ∷ []) ++ xs) parts ∙ sym (append_assoc (before ++ x ∷ []) both.first (both.second ++ later)))
           marks both.more
-          (λ was. subst (λ (xs : List Exchange). Stands log xs later) there (was_made before (x ∷ part) later is attempt held from mark was.0 (subst (λ (xs : List Exchange). MarksStand log xs later) (sym there) was.1))))
+          (λ was. subst (λ (xs : List Exchange). Stands log xs later) there (made mark was.0 (subst (λ (xs : List Exchange). MarksStand log xs later) (sym there) was.1))))
       by_reply replies.Memory same can rest =
-          subst (λ (xs : List Exchange). Stands log (before ++ x ∷ xs) later) (sym rest.0) (subst (λ (xs : List Exchange). Stands log (before ++ x ∷ []) (xs ++ later)) rest.0 marked_stands)
+          subst (λ (xs : List Exchange). Stands log (before ++ x ∷ xs) later) (sym rest.0) (subst (λ (xs : List Exchange). Stands log (before ++ x ∷ []) (xs ++ later)) rest.0 mark_stands)
       by_reply reply same can rest = absurd can
+
+  -- an attempt at changes that may be made keeps what stands
+  pub attempt_stands : (before part later : List Exchange) → mine ≡ before ++ (part ++ later) → (attempt : Attempt) → Said manner (attempts shapes planned) part attempt
+      → StandsBy log (MayMake log shapes planned) before (part ++ later) → Stands log (before ++ part) later
+  unfolding attempts
+  attempt_stands before part later is attempt held from =
+      let both = held_both manner (asks_keys planned []) (behind_keys shapes planned) part attempt held in
+      let parts : part ++ later ≡ both.first ++ (both.second ++ later) = ap (λ (xs : List Exchange). xs ++ later) both.parts ∙ append_assoc both.first both.second later in
+      let fetch : AskOnly IsFetch both.first = says_held IsFetch manner (asks_keys planned []) both.first both.came (keys_say planned []) both.held in
+      by_came both.came both.first both.second both.parts
+      (is ∙ ap (λ (xs : List Exchange). before ++ xs) parts ∙ sym (append_assoc before both.first (both.second ++ later)))
+      (keys_stand both.first before (both.second ++ later) (is ∙ ap (λ (xs : List Exchange). before ++ xs) parts) fetch (subst (Stands log before) parts from.0)) both.more
+    where
+      by_came : (came : Result (List Bool) Refusal) (first second : List Exchange) → part ≡ first ++ second → mine ≡ (before ++ first) ++ (second ++ later) → Stands log (before ++ first) (second ++ later) → Said manner (behind_keys shapes planned came) second attempt
+          → Stands log (before ++ part) later
+      by_came (Ok found) first second parts split stands more =
+          let there : (before ++ first) ++ second ≡ before ++ part = append_assoc before first second ∙ ap (λ (xs : List Exchange). before ++ xs) (sym parts) in
+          subst (λ (xs : List Exchange). Stands log xs later) there
+          (marked_stands found (before ++ first) second later split attempt more stands
+          (λ mark done marks. subst (λ (xs : List Exchange). Stands log xs later) (sym there) (was_made before part later is attempt held from mark done (subst (λ (xs : List Exchange). MarksStand log xs later) there marks))))
+      by_came (Err why) first second parts split stands more =
+          let none : second ≡ [] = nothing_asked manner (told None (Err why)) second attempt more in
+          subst (λ (xs : List Exchange). Stands log (before ++ xs) later) (sym (parts ∙ ap (λ (xs : List Exchange). first ++ xs) none ∙ append-nil first)) (subst (λ (xs : List Exchange). Stands log (before ++ first) (xs ++ later)) none stands)
 
 -- ---- as trees
 
@@ -270,8 +334,37 @@ module _ (session : ℕ) (begin log : List Logged) (mine : List Exchange) (tied 
       ap (at_place log before) split
       ∙ ap (λ (n : ℕ). With (State (take n log)) (map change_of (progress_of before).own)) (place_past (length log) part rest (held_goes manner (writes shapes planned) part (Ok (written.Done mark)) wrote)) in
       let there : MayWrite (at_place log before rest) shapes planned = subst (λ (db : Database). MayWrite db shapes planned) place may in
-      let passes = writes_pass log mine before part rest manner shapes planned mark whole tied.ranges wrote there.rows there.parents in
-      subst Intact (sym (writes_leave log before part rest manner shapes planned mark wrote)) (there.intact passes)
+      let done = applied_of manner shapes planned mark part wrote in
+      let applied : AreApplied manner shapes planned planned part = subst (λ (l : List Planned). AreApplied manner shapes planned l part) (own_applied manner shapes planned done.0 part there.own done.1) done.1 in
+      let passes = writes_pass log mine before part rest manner shapes planned planned whole tied.ranges applied there.can in
+      subst Intact (sym (writes_leave log before part rest manner shapes planned planned applied)) (there.intact (parts_pass (behind (at_place log before rest) planned) shapes planned there.can passes))
+
+  -- where they were planned on rows that were told
+  may_change : (before later : List Exchange) → mine ≡ before ++ later → MayChange before (at_place log before later) shapes planned → MayMake log shapes planned before later
+  may_change before later is may manner part rest mark split wrote intact =
+      let whole : mine ≡ before ++ (part ++ rest) = is ∙ ap (λ (xs : List Exchange). before ++ xs) split in
+      let place : at_place log before later ≡ at_place log before rest =
+      ap (at_place log before) split
+      ∙ ap (λ (n : ℕ). With (State (take n log)) (map change_of (progress_of before).own)) (place_past (length log) part rest (held_goes manner (writes shapes planned) part (Ok (written.Done mark)) wrote)) in
+      let there : MayChange before (at_place log before rest) shapes planned = subst (λ (db : Database). MayChange before db shapes planned) place may in
+      let kept : Intact (at_place log before rest) = subst Intact place intact in
+      let done = applied_of manner shapes planned mark part wrote in
+      let follows =
+      applied_follows begin log mine before part rest manner shapes there.level there.shape planned done.0 whole tied.numbers tied.fetches tied.ranges tied.inserts tied.targets there.told done.1 kept.firm kept.indexed there.defined in
+      let same : behind (at_place log before rest) done.0 ≡ behind (at_place log before rest) planned = sym (writes_leave log before part rest manner shapes planned done.0 done.1) ∙ follows.0 in
+      let indexed : Indexed (behind (at_place log before rest) planned) = there.indexed follows.1 in
+      let can : CanCheck (behind (at_place log before rest) planned) shapes = there.can indexed in
+      let passes = writes_pass log mine before part rest manner shapes planned done.0 whole tied.ranges done.1 (subst (λ (db : Database). CanCheck db shapes) (sym same) can) in
+      subst Intact (sym follows.0) (record {
+        firm = there.firm (parts_pass (behind (at_place log before rest) planned) shapes planned can (subst (λ (db : Database). AllByRecursion (Passes db) (reads_for planned shapes)) same passes));
+        indexed = indexed;
+      })
+
+  pub changes_when : Brings log mine (StandsBy log (λ before later. MayChange before (at_place log before later) shapes planned)) (applies shapes planned) (λ (result : Result ℕ Failure). Stands log)
+  changes_when =
+      brings_mono log mine (StandsBy log (MayMake log shapes planned)) (StandsBy log (λ before later. MayChange before (at_place log before later) shapes planned)) (applies shapes planned)
+      (λ (result : Result ℕ Failure). Stands log) (λ (result : Result ℕ Failure). Stands log)
+      (λ before later is from. (from.0, λ intact. may_change before later is (from.1 intact))) (λ a before later is stands. stands) applies_bring
 
   pub applies_when : Brings log mine (StandsWith log (λ db. MayWrite db shapes planned)) (applies shapes planned) (λ (result : Result ℕ Failure). Stands log)
   applies_when =

@@ -6,7 +6,7 @@ use Rattle.std.specs.List.{list_any}
 use Rattle.std.specs.Prelude.{is_some}
 use Rattle.value_types.specs.declared.memory.Memory.{Memory}
 use Rattle.value_types.specs.declared.value.Value.{Value}
-use Rattle.lock_modes.specs.declared.KeyPart.TheVariants.{S}
+use Rattle.lock_modes.specs.declared.KeyPart.TheVariants.{S, U}
 use Rattle.value_types.specs.declared.table_name.TableName.{TableName}
 use Rattle.step_model.specs.declared.change.Deed.{Deed}
 use Rattle.step_model.specs.declared.change.Deed.TheVariants as deed
@@ -17,12 +17,15 @@ use Rattle.step_model.specs.declared.op.Op.{Op}
 use Rattle.step_model.specs.declared.op.Op.TheVariants as ops
 use Rattle.step_model.specs.declared.range.KeyRange.{KeyRange}
 use Rattle.step_model.specs.declared.range.Start.{Start}
+use Rattle.step_model.specs.declared.range.Start.TheVariants.{At}
+use Rattle.step_model.specs.declared.range.Stop.TheVariants.{Within}
 use Rattle.step_model.specs.declared.reply.Reply.{Reply}
 use Rattle.step_model.specs.declared.reply.Reply.TheVariants as replies
 use Rattle.step_model.specs.Exchange.{Exchange, CanReply, Standing}
 use Rattle.step_model.specs.Port.{PortPast, standing_after, standing_from}
 use Rattle.step_model.specs.Dialog as said
 use Rattle.step_model.specs.Dialog.{IsQuiet, Dialog, Asks}
+use Rattle.step_model.specs.Own.{is_own}
 use Rattle.step_model.specs.Ranges.{Keeps, Rows, range_limit}
 use Rattle.step_model.proofs.Dialogs.{held_stays}
 use Rattle.step_model.proofs.Pasts.{goes_further}
@@ -38,11 +41,12 @@ use Rattle.dml_exec.proofs.ReadTables.{reads_fetched}
 use Rattle.dml_exec.specs.declared.written.Attempt.{Attempt}
 use Rattle.dml_exec.specs.declared.written.Written.{Written}
 use Rattle.dml_exec.specs.declared.written.Written.TheVariants as written
-use Rattle.dml_exec.specs.Writing.{asks_deed, attempts, broken_by, checks_all, checks_one, checks_range, done_by, ends, halted, marked, no_room, outcome, rows_checked, told, where_done, works, writes_all, writes_one}
+use Rattle.dml_exec.specs.Planning.{as_found, is_asked}
+use Rattle.dml_exec.specs.Writing.{asks_deed, asks_key, asks_keys, attempts, behind_keys, broken_by, checks_all, checks_one, checks_range, done_by, ends, halted, marked, no_room, outcome, present, row_told, rows_checked, told, where_done, works, writes_all, writes_one}
 use Rattle.dml_exec.proofs.Halts.{by_outcome}
 use Rattle.constraint_check.specs.declared.check_read.CheckRead.{CheckRead}
 use Rattle.constraint_check.specs.Judged.{judge}
-use Rattle.table_rows.specs.Rows.{shape_of}
+use Rattle.table_rows.specs.Rows.{part_shape, shape_of}
 use Rattle.constraint_check.specs.Reads.{reads_for}
 use Rattle.batch_meaning.specs.declared.failure.Failure.{Failure}
 use Rattle.batch_meaning.specs.Failures.{plain}
@@ -235,10 +239,10 @@ unfolding rows_from
 only_range width keeps zero op so_far = only_over _
 only_range width keeps (suc left) op so_far = only_then (fetches width keeps op so_far) (on_ok (reads_on (λ more start. rows_from width keeps left (from start op) more))) (only_fetch width keeps op so_far) (behind_range width keeps left op (λ more start. only_range width keeps left (from start op) more))
 
-only_rows : (shape : Option TableTree) (one : Bool) (op : Op) → GoesOnly (rows_in shape one op)
+only_rows : (shape : Option TableTree) (part : ℕ) (one : Bool) (op : Op) → GoesOnly (rows_in shape part one op)
 unfolding rows_in
-only_rows shape true op = only_then (fetches (key_width shape) (fits shape) op []) (on_ok (λ came. said.over (Ok came.0))) (only_fetch (key_width shape) (fits shape) op []) (only_on (λ came. said.over (Ok came.0)) (λ came. only_over _))
-only_rows shape false op = only_range (key_width shape) (fits shape) range_limit op []
+only_rows shape part true op = only_then (fetches (key_width shape part) (fits shape part) op []) (on_ok (λ came. said.over (Ok came.0))) (only_fetch (key_width shape part) (fits shape part) op []) (only_on (λ came. said.over (Ok came.0)) (λ came. only_over _))
+only_rows shape part false op = only_range (key_width shape part) (fits shape part) range_limit op []
 
 only_given : (rows : Option Rows) (fetched : Dialog (Result Rows Refusal)) → GoesOnly fetched → GoesOnly (unless_given rows fetched)
 only_given None fetched only = only
@@ -246,7 +250,7 @@ only_given (Some rows) fetched only = only_room refusal.Memory _ (only_over _)
 
 only_table : (given : GivenRows) (shapes : List TableTree) (level : Level) (read : TableRead) → GoesOnly (reads_table given shapes level read)
 unfolding reads_table
-only_table given shapes level read = only_given (given read.0.table) _ (only_rows (shape_of read.0.table shapes) (is_one_key (key_width (shape_of read.0.table shapes)) read.0.start read.0.stop) (table_fetch level read))
+only_table given shapes level read = only_given (given read.0.table) _ (only_rows (shape_of read.0.table shapes) 0 (is_one_key (key_width (shape_of read.0.table shapes) 0) read.0.start read.0.stop) (table_fetch level read))
 
 only_images : (given : GivenRows) (shapes : List TableTree) (level : Level) (images : List Rows) (reads : List TableRead) → GoesOnly (images_from given shapes level images reads)
 unfolding images_from
@@ -344,7 +348,7 @@ only_deed table key (deed.Insert row) = only_either (said.asks (ops.Insert table
 
 only_done : (shapes : List TableTree) (change : Planned) (reply : Reply) → GoesOnly (done_by shapes change reply)
 unfolding GoesOnly
-only_done shapes change replies.Exists = only_room no_room _ tt
+only_done shapes change replies.Exists = only_either {A = Result (Unit {0}) _} (with_room no_room (said.over (Err (present shapes change.table change.key)))) (said.over (Ok tt)) (only_room no_room _ tt) tt (is_own change)
 only_done shapes change reply = tt
 
 only_write : (shapes : List TableTree) (change : Planned) → GoesOnly (writes_one shapes change)
@@ -362,8 +366,8 @@ only_halted (Err why) = only_over _
 
 only_checked : (shapes : List TableTree) (range : KeyRange) → GoesOnly (rows_checked shapes range)
 unfolding rows_checked
-only_checked shapes range = only_room no_room _ (only_then (checks_range (shape_of range.table shapes) range) halted
-    (only_rows (shape_of range.table shapes) (is_one_key (key_width (shape_of range.table shapes)) range.start range.stop) (fetch_of range hold.Range S)) only_halted)
+only_checked shapes range = only_room no_room _ (only_then (checks_range (part_shape range.table shapes) range) halted
+    (only_rows (part_shape range.table shapes) range.table.part (is_one_key (key_width (part_shape range.table shapes) range.table.part) range.start range.stop) (fetch_of range hold.Range S)) only_halted)
 
 only_broken : (read : CheckRead) (judged : Option ℤ) → GoesOnly (broken_by read judged)
 only_broken read None = only_over _
@@ -378,10 +382,35 @@ unfolding checks_all
 only_checks shapes [] = only_over _
 only_checks shapes (read ∷ reads) = only_then (checks_one shapes read) (on_ok (λ done. checks_all shapes reads)) (only_check shapes read) (only_on (λ done. checks_all shapes reads) (λ done. only_checks shapes reads))
 
-only_works : (shapes : List TableTree) (changes : List Planned) → GoesOnly (works shapes changes)
+only_works : (shapes : List TableTree) (changes : List Planned) (found : List Bool) → GoesOnly (works shapes changes found)
 unfolding works
-only_works shapes changes = only_then (writes_all shapes changes) (on_ok (λ done. with_room no_room (checks_all shapes (reads_for changes shapes)))) (only_writes shapes changes)
+only_works shapes changes found = only_then (writes_all shapes (as_found changes found)) (on_ok (λ done. with_room no_room (checks_all shapes (reads_for changes shapes)))) (only_writes shapes (as_found changes found))
     (only_on (λ done. with_room no_room (checks_all shapes (reads_for changes shapes))) (λ done. only_room no_room _ (only_checks shapes (reads_for changes shapes))))
+
+-- ---- and index rows that are asked for
+
+only_told : (reply : Reply) → GoesOnly (row_told reply)
+unfolding GoesOnly
+only_told (replies.Row key row at) = tt
+only_told (replies.Gone key at) = tt
+only_told (replies.End at) = tt
+only_told replies.Memory = tt
+only_told (replies.TimedOut holder held asked on) = tt
+only_told (replies.Victim cycle) = tt
+only_told reply = tt
+
+only_key : (table : TableName) (key : List Value) → GoesOnly (asks_key table key)
+unfolding GoesOnly asks_key said.tries
+only_key table key = only_either (said.asks (ops.Fetch table (At key) (Within key) hold.Range U) tt row_told) (row_told replies.Memory) (tt, only_told) tt
+
+only_keys : (changes : List Planned) (so_far : List Bool) → GoesOnly (asks_keys changes so_far)
+unfolding asks_keys
+only_keys [] so_far = only_over _
+only_keys (change ∷ changes) so_far =
+    only_either (said.◌then◌ (asks_key change.table change.key) (on_ok (λ there. with_room refusal.Memory (asks_keys changes (so_far ++ there ∷ []))))) (asks_keys changes so_far)
+    (only_then (asks_key change.table change.key) (on_ok (λ there. with_room refusal.Memory (asks_keys changes (so_far ++ there ∷ [])))) (only_key change.table change.key)
+    (only_on (λ there. with_room refusal.Memory (asks_keys changes (so_far ++ there ∷ []))) (λ there. only_room refusal.Memory (asks_keys changes (so_far ++ there ∷ [])) (only_keys changes (so_far ++ there ∷ [])))))
+    (only_keys changes so_far) (is_asked change)
 
 -- ---- a write that is taken back to its mark
 
@@ -436,25 +465,36 @@ ended_cut mark ends_by told_by done back went (Ok fine) p exchanges attempt held
 ended_cut mark ends_by told_by done back went (Err why) p exchanges attempt held =
     back_asked mark (told_by why) p exchanges attempt (went why) (subst (λ (d : Dialog Attempt). said.Held p.settings.manner d exchanges attempt) (back why) held)
 
-marked_cut : (shapes : List TableTree) (changes : List Planned) (p : SessionProgress) (reply : Reply) (exchanges : List Exchange) (attempt : Attempt) → p.touched ≡ true
-    → said.Held p.settings.manner (marked shapes changes reply) exchanges attempt → asked_all exchanges p ≡ cut_to (taken_back attempt) p
+marked_cut : (shapes : List TableTree) (changes : List Planned) (found : List Bool) (p : SessionProgress) (reply : Reply) (exchanges : List Exchange) (attempt : Attempt) → p.touched ≡ true
+    → said.Held p.settings.manner (marked shapes changes found reply) exchanges attempt → asked_all exchanges p ≡ cut_to (taken_back attempt) p
 unfolding said.Held
-marked_cut shapes changes p (replies.Marked mark) exchanges attempt touched held =
-    let both = parts p.settings.manner (works shapes changes) (ends mark) exchanges attempt held in
+marked_cut shapes changes found p (replies.Marked mark) exchanges attempt touched held =
+    let both = parts p.settings.manner (works shapes changes found) (ends mark) exchanges attempt held in
     ap (λ (l : List Exchange). asked_all l p) both.is ∙ asked_all-append both.front both.back p
-    ∙ ap (asked_all both.back) (only_same (works shapes changes) p both.front both.a (only_works shapes changes) touched both.first)
+    ∙ ap (asked_all both.back) (only_same (works shapes changes found) p both.front both.a (only_works shapes changes found) touched both.first)
     ∙ ended_cut mark (ends mark) outcome (λ done. refl) (λ why. refl) (by_outcome (λ r. mark_back (Some mark) r ≡ Some mark) (λ number name. refl) (λ refused. refl)) both.a p both.back attempt both.second
-marked_cut shapes changes p replies.Memory exchanges attempt touched held = ap (λ (l : List Exchange). asked_all l p) held.0 ∙ sym (ap (λ (t : Attempt). cut_to (taken_back t) p) held.1)
-marked_cut shapes changes p reply exchanges attempt touched held = absurd held
+marked_cut shapes changes found p replies.Memory exchanges attempt touched held = ap (λ (l : List Exchange). asked_all l p) held.0 ∙ sym (ap (λ (t : Attempt). cut_to (taken_back t) p) held.1)
+marked_cut shapes changes found p reply exchanges attempt touched held = absurd held
+
+-- behind the answers on index rows
+found_cut : (shapes : List TableTree) (changes : List Planned) (p : SessionProgress) (came : Result (List Bool) Refusal) (exchanges : List Exchange) (attempt : Attempt) → p.touched ≡ true
+    → said.Held p.settings.manner (behind_keys shapes changes came) exchanges attempt → asked_all exchanges p ≡ cut_to (taken_back attempt) p
+unfolding said.Held
+found_cut shapes changes p (Ok found) [] attempt touched held = absurd held
+found_cut shapes changes p (Ok found) (x ∷ later) attempt touched held =
+    let same : asked x.op x.reply p ≡ p = ap (λ (o : Op). asked o x.reply p) held.0 ∙ quiet_same ops.Mark x.reply p tt tt held.2 touched in
+    ap (asked_all later) same ∙ marked_cut shapes changes found p x.reply later attempt touched held.3
+found_cut shapes changes p (Err why) exchanges attempt touched held = ap (λ (l : List Exchange). asked_all l p) held.0 ∙ sym (ap (λ (t : Attempt). cut_to (taken_back t) p) held.1)
 
 -- it changes nothing but the savepoints behind the mark to which it was taken back
 pub writes_cut : (shapes : List TableTree) (changes : List Planned) (p : SessionProgress) (exchanges : List Exchange) (attempt : Attempt) → p.touched ≡ true
     → said.Held p.settings.manner (attempts shapes changes) exchanges attempt → asked_all exchanges p ≡ cut_to (taken_back attempt) p
-unfolding said.Held attempts
-writes_cut shapes changes p [] attempt touched held = absurd held
-writes_cut shapes changes p (x ∷ later) attempt touched held =
-    let same : asked x.op x.reply p ≡ p = ap (λ (o : Op). asked o x.reply p) held.0 ∙ quiet_same ops.Mark x.reply p tt tt held.2 touched in
-    ap (asked_all later) same ∙ marked_cut shapes changes p x.reply later attempt touched held.3
+unfolding attempts
+writes_cut shapes changes p exchanges attempt touched held =
+    let both = parts p.settings.manner (asks_keys changes []) (behind_keys shapes changes) exchanges attempt held in
+    ap (λ (l : List Exchange). asked_all l p) both.is ∙ asked_all-append both.front both.back p
+    ∙ ap (asked_all both.back) (only_same (asks_keys changes []) p both.front both.a (only_keys changes []) touched both.first)
+    ∙ found_cut shapes changes p both.a both.back attempt touched both.second
 
 -- changes were asked
 pub does_applies : {before after : PortPast} (shapes : List TableTree) (changes : List Planned) {p q new : SessionProgress} {attempt : Attempt} {result : Result ℕ Failure} → q ≡ made touches p
@@ -522,21 +562,27 @@ live_ended manner mark done ends_by told_by fine went undone (Err why) back atte
 
 pub writes_live : {before after : PortPast} {manner : Manner} (shapes : List TableTree) (changes : List Planned) {attempt : Attempt} (mark : ℕ) → Asks before after manner (attempts shapes changes) attempt → attempt.came ≡ Ok (written.Done mark) → IsLive mark after
 unfolding said.Held attempts
-writes_live {before = before} {manner = manner} shapes changes {attempt = attempt} mark asks is = rw asks.past.standing (by_exchanges asks.exchanges asks.held)
+writes_live {before = before} {manner = manner} shapes changes {attempt = attempt} mark asks is = rw asks.past.standing (by_keys asks.exchanges asks.held)
   where
-    by_reply : (reply : Reply) (later : List Exchange) → said.Held manner (marked shapes changes reply) later attempt → list_any (λ live. nat_eq live mark) (standing_from (standing_after before.standing ops.Mark reply) later).marks ≡ true
-    by_reply (replies.Marked made) later held =
-        let both = parts manner (works shapes changes) (ends made) later attempt held in
-        let marked_so = standing_after before.standing ops.Mark (replies.Marked made) in
+    by_reply : (found : List Bool) (standing : Standing) (reply : Reply) (later : List Exchange) → said.Held manner (marked shapes changes found reply) later attempt → list_any (λ live. nat_eq live mark) (standing_from (standing_after standing ops.Mark reply) later).marks ≡ true
+    by_reply found standing (replies.Marked made) later held =
+        let both = parts manner (works shapes changes found) (ends made) later attempt held in
+        let marked_so = standing_after standing ops.Mark (replies.Marked made) in
         rw both.is (rw (standing_behind both.front both.back marked_so)
         (live_ended manner made mark (ends made) outcome (λ done. refl) (λ why. refl) (by_outcome (λ r. r ≡ Ok (written.Done mark) → ⊥) (λ number name no_done. cc) (λ refused no_done. cc)) both.a both.back attempt (standing_from marked_so both.front) both.second is
-        (only_live manner (works shapes changes) both.front both.a made marked_so (only_works shapes changes) both.first (mark_last made before.standing.marks))))
-    by_reply replies.Memory later held = absurd (let wanting : attempt.came ≡ Err refusal.Memory = ap (λ (t : Attempt). t.came) held.1 in let no_done : ◌≡◌ {A = Result Written Refusal} (Err refusal.Memory) (Ok (written.Done mark)) = sym wanting ∙ is in cc)
-    by_reply reply later held = absurd held
+        (only_live manner (works shapes changes found) both.front both.a made marked_so (only_works shapes changes found) both.first (mark_last made standing.marks))))
+    by_reply found standing replies.Memory later held = absurd (let wanting : attempt.came ≡ Err refusal.Memory = ap (λ (t : Attempt). t.came) held.1 in let no_done : ◌≡◌ {A = Result Written Refusal} (Err refusal.Memory) (Ok (written.Done mark)) = sym wanting ∙ is in cc)
+    by_reply found standing reply later held = absurd held
 
-    by_exchanges : (exchanges : List Exchange) → said.Held manner (said.asks ops.Mark tt (marked shapes changes)) exchanges attempt → list_any (λ live. nat_eq live mark) (standing_from before.standing exchanges).marks ≡ true
-    by_exchanges [] held = absurd held
-    by_exchanges (x ∷ later) held = rw held.0 (by_reply x.reply later held.3)
+    by_came : (came : Result (List Bool) Refusal) (standing : Standing) (exchanges : List Exchange) → said.Held manner (behind_keys shapes changes came) exchanges attempt → list_any (λ live. nat_eq live mark) (standing_from standing exchanges).marks ≡ true
+    by_came (Ok found) standing [] held = absurd held
+    by_came (Ok found) standing (x ∷ later) held = rw held.0 (by_reply found standing x.reply later held.3)
+    by_came (Err why) standing exchanges held = absurd (let wanting : attempt.came ≡ Err why = ap (λ (t : Attempt). t.came) held.1 in let no_done : ◌≡◌ {A = Result Written Refusal} (Err why) (Ok (written.Done mark)) = sym wanting ∙ is in cc)
+
+    by_keys : (exchanges : List Exchange) → said.Held manner (said.◌then◌ (asks_keys changes []) (behind_keys shapes changes)) exchanges attempt → list_any (λ live. nat_eq live mark) (standing_from before.standing exchanges).marks ≡ true
+    by_keys exchanges held =
+        let both = parts manner (asks_keys changes []) (behind_keys shapes changes) exchanges attempt held in
+        rw both.is (rw (standing_behind both.front both.back before.standing) (by_came both.a (standing_from before.standing both.front) both.back both.second))
 
 value_of : Doing (Result ℕ Failure) → Result ℕ Failure
 value_of (over result) = result

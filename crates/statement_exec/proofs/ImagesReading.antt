@@ -128,7 +128,7 @@ row_kept shape rows key row true fit kept =
     All-append (λ r. IsTrue (has_columns shape.columns r)) rows (row ∷ []) kept (All-cons (λ r. IsTrue (has_columns shape.columns r)) row [] parts.0 (All-nil (λ r. IsTrue (has_columns shape.columns r))))
 row_kept shape rows key row false fit kept = kept
 
-kept_stays : (shape : Option TableTree) (rows : Rows) (key row : List Value) → AreKept shape rows → AreKept shape (with_row (fits shape) rows key row)
+kept_stays : (shape : Option TableTree) (rows : Rows) (key row : List Value) → AreKept shape rows → AreKept shape (with_row (fits shape 0) rows key row)
 kept_stays None rows key row kept = kept
 kept_stays (Some shape) rows key row kept = row_kept shape rows key row (row_fits shape 0 key row) refl kept
 
@@ -136,25 +136,25 @@ none_kept : (shape : Option TableTree) → AreKept shape []
 none_kept None = refl
 none_kept (Some shape) = All-nil (λ row. IsTrue (has_columns shape.columns row))
 
-one_kept : (manner : Manner) (shape : Option TableTree) (op : Op) (rows : Rows) (first : Result (Rows × Option Start) Refusal) → Comes manner (fetches (key_width shape) (fits shape) op []) first
+one_kept : (manner : Manner) (shape : Option TableTree) (op : Op) (rows : Rows) (first : Result (Rows × Option Start) Refusal) → Comes manner (fetches (key_width shape 0) (fits shape 0) op []) first
     → Comes manner (on_ok (λ (came : Rows × Option Start). over (Ok came.0)) first) (Ok rows) → AreKept shape rows
 unfolding Held
 one_kept manner shape op rows (Err refusal) came rest = no_failure rest.1.1
 one_kept manner shape op rows (Ok (more, next)) came rest =
-    subst (AreKept shape) (sym (ap rows_or_none rest.1.1)) (fetch_keeps manner (key_width shape) (fits shape) (AreKept shape) (kept_stays shape) op [] more next came.0 (none_kept shape) came.1)
+    subst (AreKept shape) (sym (ap rows_or_none rest.1.1)) (fetch_keeps manner (key_width shape 0) (fits shape 0) (AreKept shape) (kept_stays shape) op [] more next came.0 (none_kept shape) came.1)
 
 -- of one whole key, and of a range
-in_kept : (manner : Manner) (shape : Option TableTree) (one : Bool) (op : Op) (rows : Rows) (exchanges : List Exchange) → Held manner (rows_in shape one op) exchanges (Ok rows) → AreKept shape rows
+in_kept : (manner : Manner) (shape : Option TableTree) (one : Bool) (op : Op) (rows : Rows) (exchanges : List Exchange) → Held manner (rows_in shape 0 one op) exchanges (Ok rows) → AreKept shape rows
 unfolding rows_in
 in_kept manner shape true op rows exchanges held =
-    let b = behind manner (fetches (key_width shape) (fits shape) op []) (on_ok (λ (came : Rows × Option Start). over (Ok came.0))) exchanges (Ok rows) held in one_kept manner shape op rows b.first b.came b.more
-in_kept manner shape false op rows exchanges held = range_keeps manner (key_width shape) (fits shape) (AreKept shape) (kept_stays shape) range_limit op [] rows exchanges (none_kept shape) held
+    let b = behind manner (fetches (key_width shape 0) (fits shape 0) op []) (on_ok (λ (came : Rows × Option Start). over (Ok came.0))) exchanges (Ok rows) held in one_kept manner shape op rows b.first b.came b.more
+in_kept manner shape false op rows exchanges held = range_keeps manner (key_width shape 0) (fits shape 0) (AreKept shape) (kept_stays shape) range_limit op [] rows exchanges (none_kept shape) held
 
 table_kept : (manner : Manner) (shapes : List TableTree) (level : Level) (read : TableRead) (rows : Rows) → Comes manner (reads_table none_known shapes level read) (Ok rows) → AreKept (shape_of read.0.table shapes) rows
 unfolding reads_table
 table_kept manner shapes level read rows came =
     let shape = shape_of read.0.table shapes in
-    in_kept manner shape (is_one_key (key_width shape) read.0.start read.0.stop) (table_fetch level read) rows came.0 came.1
+    in_kept manner shape (is_one_key (key_width shape 0) read.0.start read.0.stop) (table_fetch level read) rows came.0 came.1
 
 -- ---- the images of a statement
 

@@ -1,8 +1,8 @@
--- Which operations the dialogs of a statement ask: those of its reads fetch, and those of a write go on, until it is taken back.
+-- Which operations the dialogs of a statement ask: those of its reads fetch, those of a write ask for index rows, and then go on, until it is taken back.
 use Rattle.std.proofs.Common.{ℕ, zero, suc, ℤ, Bool, true, false, if◌then◌else◌, List, [], ◌∷◌, ◌++◌, Option, None, Some, Result, Ok, Err}
 use Rattle.value_types.specs.declared.table_name.TableName.{TableName}
 use Rattle.value_types.specs.declared.value.Value.{Value}
-use Rattle.lock_modes.specs.declared.KeyPart.TheVariants.{S}
+use Rattle.lock_modes.specs.declared.KeyPart.TheVariants.{S, U}
 use Rattle.tsql_tree.specs.declared.definition.TableTree.{TableTree}
 use Rattle.bound_tree.specs.declared.write.Bound.{Bound}
 use Rattle.step_model.specs.declared.change.Deed.{Deed}
@@ -13,21 +13,25 @@ use Rattle.step_model.specs.declared.op.Op.{Op}
 use Rattle.step_model.specs.declared.op.Op.TheVariants as ops
 use Rattle.step_model.specs.declared.range.KeyRange.{KeyRange}
 use Rattle.step_model.specs.declared.range.Start.{Start}
+use Rattle.step_model.specs.declared.range.Start.TheVariants.{At}
+use Rattle.step_model.specs.declared.range.Stop.TheVariants.{Within}
 use Rattle.step_model.specs.declared.reply.Reply.{Reply}
 use Rattle.step_model.specs.declared.reply.Reply.TheVariants as replies
 use Rattle.step_model.specs.Dialog as said
 use Rattle.step_model.specs.Dialog.{Dialog}
+use Rattle.step_model.specs.Own.{is_own}
 use Rattle.step_model.specs.Ranges.{Keeps, Rows, range_limit}
 use Rattle.constraint_check.specs.declared.check_read.CheckRead.{CheckRead}
 use Rattle.constraint_check.specs.Judged.{judge}
-use Rattle.table_rows.specs.Rows.{shape_of}
+use Rattle.table_rows.specs.Rows.{part_shape, shape_of}
 use Rattle.constraint_check.specs.Reads.{reads_for}
 use Rattle.dml_exec.specs.declared.refusal.Level.{Level}
 use Rattle.dml_exec.specs.declared.refusal.Refusal.{Refusal}
 use Rattle.dml_exec.specs.declared.refusal.Refusal.TheVariants as refusal
-use Rattle.dml_exec.specs.Asking.{on_ok, with_room, with_room_if}
+use Rattle.dml_exec.specs.Asking.{on_ok, with_room, with_room_if, ◌>>=◌}
+use Rattle.dml_exec.specs.Planning.{as_found, is_asked}
 use Rattle.dml_exec.specs.Reading.{GivenRows, TableRead, fetch_of, fetches, fits, from, images_from, images_of, is_one_key, is_short, key_width, read_by, reads_of, reads_on, reads_range, reads_table, rows_from, rows_in, table_fetch, unless_given}
-use Rattle.dml_exec.specs.Writing.{asks_deed, broken_by, checks_all, checks_one, checks_range, done_by, halted, no_room, rows_checked, works, writes_all, writes_one}
+use Rattle.dml_exec.specs.Writing.{asks_deed, asks_key, asks_keys, broken_by, checks_all, checks_one, checks_range, done_by, halted, no_room, present, row_told, rows_checked, works, writes_all, writes_one}
 use Rattle.statement_paths.specs.Asked.{IsFetch}
 use Rattle.statement_paths.specs.Paths.{IsForward}
 use Rattle.statement_paths.proofs.Only.{Says, says_then}
@@ -76,10 +80,10 @@ module _ (Ops : Op → Type 0) where
         says_then Ops (fetches width keeps op so_far) (on_ok (reads_on (λ more start. rows_from width keeps left (from start op) more))) (says_fetch width keeps op so_far)
         (behind_range width keeps left op (λ more start. says_range width keeps left (from start op) more))
 
-    says_rows : (shape : Option TableTree) (one : Bool) (op : Op) → Says Ops (rows_in shape one op)
+    says_rows : (shape : Option TableTree) (part : ℕ) (one : Bool) (op : Op) → Says Ops (rows_in shape part one op)
     unfolding rows_in
-    says_rows shape true op = says_then Ops (fetches (key_width shape) (fits shape) op []) (on_ok (λ came. said.over (Ok came.0))) (says_fetch (key_width shape) (fits shape) op []) (says_on (λ came. said.over (Ok came.0)) (λ came. tt))
-    says_rows shape false op = says_range (key_width shape) (fits shape) range_limit op []
+    says_rows shape part true op = says_then Ops (fetches (key_width shape part) (fits shape part) op []) (on_ok (λ came. said.over (Ok came.0))) (says_fetch (key_width shape part) (fits shape part) op []) (says_on (λ came. said.over (Ok came.0)) (λ came. tt))
+    says_rows shape part false op = says_range (key_width shape part) (fits shape part) range_limit op []
 
     -- what is given is not fetched
     says_given : (rows : Option Rows) (fetched : Dialog (Result Rows Refusal)) → Says Ops fetched → Says Ops (unless_given rows fetched)
@@ -89,7 +93,7 @@ module _ (Ops : Op → Type 0) where
     says_table : (given : GivenRows) (shapes : List TableTree) (level : Level) (read : TableRead) → Says Ops (reads_table given shapes level read)
     unfolding reads_table
     says_table given shapes level read = says_given (given read.0.table) (reads_range (shape_of read.0.table shapes) level read)
-        (says_rows (shape_of read.0.table shapes) (is_one_key (key_width (shape_of read.0.table shapes)) read.0.start read.0.stop) (table_fetch level read))
+        (says_rows (shape_of read.0.table shapes) 0 (is_one_key (key_width (shape_of read.0.table shapes) 0) read.0.start read.0.stop) (table_fetch level read))
 
     says_images : (given : GivenRows) (shapes : List TableTree) (level : Level) (images : List Rows) (reads : List TableRead) → Says Ops (images_from given shapes level images reads)
     unfolding images_from
@@ -104,7 +108,7 @@ module _ (Ops : Op → Type 0) where
 
 -- ---- the changes of a write, and what checks them
 
-fetch_forward : (op : Op) → IsFetch op → IsForward op
+pub fetch_forward : (op : Op) → IsFetch op → IsForward op
 fetch_forward (ops.Fetch table start stop hold part) is = tt
 fetch_forward op is = absurd is
 
@@ -115,7 +119,11 @@ deed_says table key (deed.Replace row) = says_either IsForward (said.asks (ops.R
 deed_says table key (deed.Insert row) = says_either IsForward (said.asks (ops.Insert table key row) tt said.over) (said.over replies.Memory) (tt, λ reply. tt) tt
 
 done_says : (shapes : List TableTree) (change : Planned) (reply : Reply) → Says IsForward (done_by shapes change reply)
-done_says shapes change replies.Exists = says_room IsForward no_room _ tt
+done_says shapes change replies.Exists = by_own (is_own change)
+  where
+    by_own : (own : Bool) → Says IsForward {A = Result (Unit {0}) _} (if own then with_room no_room (said.over (Err (present shapes change.table change.key))) else said.over (Ok tt))
+    by_own true = says_room IsForward no_room _ tt
+    by_own false = tt
 done_says shapes change reply = tt
 
 write_says : (shapes : List TableTree) (change : Planned) → Says IsForward (writes_one shapes change)
@@ -133,8 +141,8 @@ halted_says (Err why) = tt
 
 checked_says : (shapes : List TableTree) (range : KeyRange) → Says IsForward (rows_checked shapes range)
 unfolding rows_checked
-checked_says shapes range = says_room IsForward no_room _ (says_then IsForward (checks_range (shape_of range.table shapes) range) halted
-    (says_rows IsForward fetch_forward (shape_of range.table shapes) (is_one_key (key_width (shape_of range.table shapes)) range.start range.stop) (fetch_of range hold.Range S)) halted_says)
+checked_says shapes range = says_room IsForward no_room _ (says_then IsForward (checks_range (part_shape range.table shapes) range) halted
+    (says_rows IsForward fetch_forward (part_shape range.table shapes) range.table.part (is_one_key (key_width (part_shape range.table shapes) range.table.part) range.start range.stop) (fetch_of range hold.Range S)) halted_says)
 
 broken_says : (read : CheckRead) (judged : Option ℤ) → Says IsForward (broken_by read judged)
 broken_says read None = tt
@@ -149,7 +157,34 @@ unfolding checks_all
 checks_say shapes [] = tt
 checks_say shapes (read ∷ reads) = says_then IsForward (checks_one shapes read) (on_ok (λ done. checks_all shapes reads)) (check_says shapes read) (says_on IsForward (λ done. checks_all shapes reads) (λ done. checks_say shapes reads))
 
-pub works_say : (shapes : List TableTree) (changes : List Planned) → Says IsForward (works shapes changes)
+pub works_say : (shapes : List TableTree) (changes : List Planned) (found : List Bool) → Says IsForward (works shapes changes found)
 unfolding works
-works_say shapes changes = says_then IsForward (writes_all shapes changes) (on_ok (λ done. with_room no_room (checks_all shapes (reads_for changes shapes)))) (writes_say shapes changes)
+works_say shapes changes found = says_then IsForward (writes_all shapes (as_found changes found)) (on_ok (λ done. with_room no_room (checks_all shapes (reads_for changes shapes)))) (writes_say shapes (as_found changes found))
     (says_on IsForward (λ done. with_room no_room (checks_all shapes (reads_for changes shapes))) (λ done. says_room IsForward no_room _ (checks_say shapes (reads_for changes shapes))))
+
+-- ---- index rows that are asked for
+
+row_says : (reply : Reply) → Says IsFetch (row_told reply)
+row_says (replies.Row key row at) = tt
+row_says (replies.Gone key at) = tt
+row_says (replies.End at) = tt
+row_says replies.Memory = tt
+row_says (replies.TimedOut holder held asked on) = tt
+row_says (replies.Victim cycle) = tt
+row_says reply = tt
+
+key_says : (table : TableName) (key : List Value) → Says IsFetch (asks_key table key)
+unfolding asks_key said.tries
+key_says table key = says_either IsFetch (said.asks (ops.Fetch table (At key) (Within key) hold.Range U) tt row_told) (row_told replies.Memory) (tt, row_says) tt
+
+pub keys_say : (changes : List Planned) (so_far : List Bool) → Says IsFetch (asks_keys changes so_far)
+unfolding asks_keys
+keys_say [] so_far = tt
+keys_say (change ∷ changes) so_far = by_asked (is_asked change) (keys_say changes)
+  where
+    by_asked : (asked : Bool) → ((so_far : List Bool) → Says IsFetch (asks_keys changes so_far))
+        → Says IsFetch (if asked then (asks_key change.table change.key >>= λ there. with_room refusal.Memory (asks_keys changes (so_far ++ there ∷ []))) else asks_keys changes so_far)
+    by_asked true rest =
+        says_then IsFetch (asks_key change.table change.key) (on_ok (λ there. with_room refusal.Memory (asks_keys changes (so_far ++ there ∷ [])))) (key_says change.table change.key)
+        (says_on IsFetch (λ there. with_room refusal.Memory (asks_keys changes (so_far ++ there ∷ []))) (λ there. says_room IsFetch refusal.Memory (asks_keys changes (so_far ++ there ∷ [])) (rest (so_far ++ there ∷ []))))
+    by_asked false rest = rest so_far

@@ -65,7 +65,8 @@ module _ (around : Around) (shape : TableTree) (shapes : List TableTree) (write 
 
     -- what it is, from where it was planned
     record IsPut (definitions : List Definition) (images : List Rows) (planned : List Planned) (effect : Effect) (done : Written) (exchanges : List Exchange) (new : SessionProgress) : Type 0 where
-      pub applied : AreApplied p0.settings.manner (tables_of definitions) planned exchanges
+      pub made : List Planned
+      pub applied : AreApplied p0.settings.manner (tables_of definitions) planned made exchanges
       pub marks : done.mark ≡ applied.mark
       pub tells : done.effect ≡ effect
       pub fires : done.fires ≡ fires_of around definitions write
@@ -82,8 +83,9 @@ module _ (around : Around) (shape : TableTree) (shapes : List TableTree) (write 
         let same : done ≡ record { effect = fitting; mark = on.2; fires = fires; fired = fired } = ok_same {E = Failure} done (record { effect = fitting; mark = on.2; fires = fires; fired = fired }) on.6.1 in
         let whole : exchanges ≡ on.0 = on.4 ∙ ap (λ (l : List Exchange). on.0 ++ l) on.6.0 ∙ append-nil on.0 in
         subst (λ (l : List Exchange). IsPut definitions images planned fitting done l new) (sym whole) (record {
-          applied = put.0;
-          marks = ap (λ (d : Written). d.mark) same ∙ put.1;
+          made = put.0;
+          applied = put.1;
+          marks = ap (λ (d : Written). d.mark) same ∙ put.2;
           tells = ap (λ (d : Written). d.effect) same;
           fires = ap (λ (d : Written). d.fires) same ∙ all_fires;
           sees = ap (λ (d : Written). d.fired) same ∙ all_sees;
@@ -113,7 +115,7 @@ module _ (around : Around) (shape : TableTree) (shapes : List TableTree) (write 
         comes_on around p0 (Ok (told_by (done_kind around) r.settings.no_count write planned)) (λ effect. Fitting definitions images planned effect) r new later done last (λ told tells work.
         let put = fit_apart definitions images planned told r new later done so work in (
           (
-            planned,
+            put.made,
             record {
               definitions = definitions;
               images = images;
@@ -123,6 +125,7 @@ module _ (around : Around) (shape : TableTree) (shapes : List TableTree) (write 
               parts = parts ∙ ap (λ (l : List Exchange). defined ++ l) more;
               defines = definitions_apart p0.settings.manner p q defined definitions (in_manner around p0 p still) defines;
               reads = images_apart around p0 given all (bound.Write write) q r read images same reads;
+              plan = planned;
               plans = subst (λ (s : SessionProgress). planned_over around s all write images ≡ Ok planned) so plans;
               applies = put.applied;
               marks = put.marks;
@@ -150,7 +153,7 @@ module _ (around : Around) (shape : TableTree) (shapes : List TableTree) (write 
         by_failed : Held (with_room (applies (tables_of definitions) planned)) p exchanges (Err failure) new
             ⊎ ((front back : List Exchange) × (mark : ℕ) × (mid : SessionProgress) × (exchanges ≡ front ++ back) × Held (with_room (applies (tables_of definitions) planned)) p front (Ok mark) mid × Held {A = Result Written Failure} (over (Ok (Done mark))) mid back (Err failure) new) → IsFailed manner exchanges
         by_failed (inl first) = room_failed p0 (applies (tables_of definitions) planned) p new exchanges failure first (λ none. undone_failed manner exchanges (inl none))
-            (λ was. undone_failed manner exchanges (applies_failed p0 (tables_of definitions) planned p new exchanges failure still was))
+            (λ was. applies_failed p0 (tables_of definitions) planned p new exchanges failure still was)
         by_failed (inr was) = absurd (let no : Err failure ≡ Ok (Done was.2) = was.6.1 in cc)
 
     fires_failed : (definitions : List Definition) (images : List Rows) (planned : List Planned) (fitting : Effect) (p new : SessionProgress) (exchanges : List Exchange) (failure : Failure)

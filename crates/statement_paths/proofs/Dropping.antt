@@ -6,7 +6,8 @@ use Rattle.tsql_tree.specs.declared.definition.TableTree.{TableTree}
 use Rattle.tsql_tree.specs.declared.statement.DropKind.{DropKind}
 use Rattle.tsql_tree.specs.declared.statement.DropKind.TheVariants as drop
 use Rattle.bound_tree.specs.declared.write.Bound.TheVariants as bound
-use Rattle.table_rows.specs.Definitions.{tables_of}
+use Rattle.table_rows.specs.Rows.{rows_table}
+use Rattle.table_rows.specs.Definitions.{object_key, objects_name, tables_of}
 use Rattle.step_model.specs.declared.change.Planned.{Planned}
 use Rattle.step_model.specs.declared.manner.Manner.{Manner}
 use Rattle.step_model.specs.Dialog as said
@@ -28,6 +29,7 @@ use Rattle.statement_paths.proofs.Only.{IsTouch, only_naming, only_room}
 use Rattle.statement_paths.proofs.Still.{Still}
 use Rattle.statement_paths.proofs.Apart.{bind_apart, bind_failed, room_apart}
 use Rattle.statement_paths.proofs.Looking.{ok_same, definitions_apart, definitions_read}
+use Rattle.statement_paths.proofs.Dialogs.{erased_done}
 use Rattle.statement_paths.proofs.Working.{applies_apart, at_level_apart, at_level_reads, bind_reads, comes_on, in_manner, named_held, naming_never}
 use Rattle.statement_paths.proofs.Failing.{applies_failed, bind_or, comes_or, failed_more, named_failed, read_failed, reads_failed, room_failed, undone_failed}
 
@@ -48,8 +50,9 @@ module _ (around : Around) (p0 : SessionProgress) where
         comes_on around p0 (unless_referred name (tables_of definitions)) _ q new behind effect rest (λ alone free others.
         bind_reads around p0 (with_room read_rows) _ q new behind effect (only_room IsTouch IsFetch read_rows (at_level_reads none_given Serializable [] (shape ∷ []) (bound.Write (whole name)))) same others (λ read later images r more reads so last.
         comes_on around p0 (dropped around r definitions shape name images) _ r new later effect last (λ planned plans work.
-        let on = bind_apart (applies [] planned) (λ put. over (Ok no_effect)) r new later effect work in (
-          planned,
+        let on = bind_apart (applies [] planned) (λ put. over (Ok no_effect)) r new later effect work in
+        let put = applies_apart around p0 [] planned r on.3 on.0 on.2 so on.5 in (
+          put.0,
           record {
             definitions = definitions;
             images = images;
@@ -61,8 +64,9 @@ module _ (around : Around) (p0 : SessionProgress) where
             free = free;
             reads = subst (λ (m : Manner). said.Held m (images_of none_given (shape ∷ []) Serializable [] (bound.Write (whole name))) read (Ok images)) (in_manner around p0 q same)
                 (at_level_apart none_given Serializable [] (shape ∷ []) (bound.Write (whole name)) q r read images (room_apart read_rows q r read images reads));
+            plan = planned;
             plans = subst (λ (s : SessionProgress). dropped around s definitions shape name images ≡ Ok planned) so plans;
-            applies = (applies_apart around p0 [] planned r on.3 on.0 on.2 so on.5).0;
+            applies = put.1;
             tells = ok_same {E = Failure} effect no_effect on.6.1;
           },
         )))))
@@ -71,11 +75,12 @@ module _ (around : Around) (p0 : SessionProgress) where
   unfolding drops_definition Held
   erases_apart name p new exchanges effect still held =
       let on = bind_apart (with_room (applies [] (definition_erased name ∷ []))) (λ put. over (Ok no_effect)) p new exchanges effect held in
+      let put = applies_apart around p0 [] (definition_erased name ∷ []) p on.3 on.0 on.2 still (room_apart (applies [] (definition_erased name ∷ [])) p on.3 on.0 on.2 on.5) in
       let whole : on.0 ≡ exchanges = sym (on.4 ∙ ap (λ (l : List Exchange). on.0 ++ l) on.6.0 ∙ append-nil on.0) in (
-        definition_erased name ∷ [],
-        subst (λ (l : List Exchange). IsDefinitionDropped around p0 name (definition_erased name ∷ []) effect l) whole (record {
-          plans = refl;
-          applies = (applies_apart around p0 [] (definition_erased name ∷ []) p on.3 on.0 on.2 still (room_apart (applies [] (definition_erased name ∷ [])) p on.3 on.0 on.2 on.5)).0;
+        put.0,
+        subst (λ (l : List Exchange). IsDefinitionDropped around p0 name put.0 effect l) whole (record {
+          plans = put.1.makes ∙ erased_done manner [] (rows_table objects_name) (object_key name) refl put.1.found put.1.put put.1.puts;
+          applies = put.1;
           tells = ok_same {E = Failure} effect no_effect on.6.1;
         }),
       )
@@ -97,7 +102,7 @@ module _ (around : Around) (p0 : SessionProgress) where
       → Held (applies [] planned) p exchanges (Err failure) new
       ⊎ ((front back : List Exchange) × (mark : ℕ) × (mid : SessionProgress) × (exchanges ≡ front ++ back) × Held (applies [] planned) p front (Ok mark) mid × Held {A = Result Effect Failure} (over (Ok no_effect)) mid back (Err failure) new) → IsFailed manner exchanges
   unfolding Held
-  put_failed planned p new exchanges failure still (inl first) = undone_failed manner exchanges (applies_failed p0 [] planned p new exchanges failure still first)
+  put_failed planned p new exchanges failure still (inl first) = applies_failed p0 [] planned p new exchanges failure still first
   put_failed planned p new exchanges failure still (inr was) = absurd (let no : Err failure ≡ Ok no_effect = was.6.1 in cc)
 
   drops_failed : (shape : TableTree) (name : List ℕ) (p new : SessionProgress) (exchanges : List Exchange) (failure : Failure) → Still p0 p → Held (drops_table around shape name) p exchanges (Err failure) new → IsFailed manner exchanges
@@ -119,7 +124,7 @@ module _ (around : Around) (p0 : SessionProgress) where
       by_failed : Held (with_room (applies [] (definition_erased name ∷ []))) p exchanges (Err failure) new
           ⊎ ((front back : List Exchange) × (mark : ℕ) × (mid : SessionProgress) × (exchanges ≡ front ++ back) × Held (with_room (applies [] (definition_erased name ∷ []))) p front (Ok mark) mid × Held {A = Result Effect Failure} (over (Ok no_effect)) mid back (Err failure) new) → IsFailed manner exchanges
       by_failed (inl first) = room_failed p0 (applies [] (definition_erased name ∷ [])) p new exchanges failure first (λ none. undone_failed manner exchanges (inl none))
-          (λ was. undone_failed manner exchanges (applies_failed p0 [] (definition_erased name ∷ []) p new exchanges failure still was))
+          (λ was. applies_failed p0 [] (definition_erased name ∷ []) p new exchanges failure still was)
       by_failed (inr was) = absurd (let no : Err failure ≡ Ok no_effect = was.6.1 in cc)
 
   pub drop_failed : (kind : DropKind) (name : List ℕ) (found : Option Definition) (p new : SessionProgress) (exchanges : List Exchange) (failure : Failure) → Still p0 p → Held (drops_found around kind name found) p exchanges (Err failure) new → IsFailed manner exchanges

@@ -110,12 +110,12 @@ module _ (p0 : SessionProgress) where
 
   -- ---- changes
 
-  pub applies_failed : (shapes : List TableTree) (planned : List Planned) (p new : SessionProgress) (exchanges : List Exchange) (failure : Failure) → Still p0 p → Held (applies shapes planned) p exchanges (Err failure) new → IsUndone p0.settings.manner exchanges
+  pub applies_failed : (shapes : List TableTree) (planned : List Planned) (p new : SessionProgress) (exchanges : List Exchange) (failure : Failure) → Still p0 p → Held (applies shapes planned) p exchanges (Err failure) new → IsFailed p0.settings.manner exchanges
   unfolding applies Held
   applies_failed shapes planned p new exchanges failure still held =
       let on = holds_apart (attempts shapes planned) (λ attempt. unless_broken attempt.came) p new exchanges (Err failure) held in
-      subst (λ (m : Manner). IsUndone m exchanges) (in_manner p still)
-      (subst (IsUndone p.settings.manner) (sym (on.parts ∙ ap (λ (l : List Exchange). on.front ++ l) (none on.back on.came.came (asked_all on.front (made touches p)) on.rest) ∙ append-nil on.front))
+      subst (λ (m : Manner). IsFailed m exchanges) (in_manner p still)
+      (subst (IsFailed p.settings.manner) (sym (on.parts ∙ ap (λ (l : List Exchange). on.front ++ l) (none on.back on.came.came (asked_all on.front (made touches p)) on.rest) ∙ append-nil on.front))
       (undone_apart p.settings.manner shapes planned on.front on.came on.held (λ mark is. never_fails mark on.back on.came.came (asked_all on.front (made touches p)) is on.rest)))
     where
       never_fails : (mark : ℕ) (back : List Exchange) (came : Result WriteEnd Refusal) (mid : SessionProgress) → came ≡ Ok (written.Done mark) → Held (unless_broken came) mid back (Err failure) new → ⊥

@@ -13,10 +13,11 @@ use Rattle.statement_paths.specs.Asked.{AskOnly, IsFetch}
 use Rattle.batch_meaning.specs.Progress.{SessionProgress, SessionStep, touches, made, asked, asked_all}
 use Rattle.batch_meaning.specs.Doing.{Doing, Held}
 use Rattle.constraint_check.specs.Reads.{reads_for}
-use Rattle.dml_exec.specs.Writing.{checks_all, writes_all}
-use Rattle.statement_paths.specs.Paths.{AreApplied, IsForward}
+use Rattle.dml_exec.specs.Planning.{as_found}
+use Rattle.dml_exec.specs.Writing.{asks_keys, checks_all, writes_all}
+use Rattle.statement_paths.specs.Paths.{AreApplied, IsForward, replied}
 use Rattle.statement_paths.proofs.Only.{IsTouch, Only, held_keeps, says_held}
-use Rattle.statement_paths.proofs.Asking.{checks_say, writes_say}
+use Rattle.statement_paths.proofs.Asking.{checks_say, fetch_forward, keys_say, writes_say}
 
 -- a tree that fetches alone
 abbrev pub Reads : {A : Type 0} → Doing A → Type 0
@@ -76,10 +77,17 @@ ask_both : (front back : List Exchange) → AskOnly IsForward front → AskOnly 
 ask_both [] back one two = two
 ask_both (x ∷ front) back one two = (one.0, ask_both front back one.1 two)
 
+-- and what follows fetches, from there
+fetches_then : (p : SessionProgress) (asks rest : List Exchange) (q : SessionProgress) → AskOnly IsFetch asks → Still p q → ((r : SessionProgress) → Still p r → Still p (asked_all rest r)) → Still p (asked_all (asks ++ rest) q)
+fetches_then p [] rest q fetch still on = on q still
+fetches_then p (x ∷ asks) rest q fetch still on =
+    fetches_then p asks rest (asked x.op x.reply q) fetch.1 (subst (Still p) (sym (forward_same x.op x.reply q (fetch_forward x.op fetch.0.0) fetch.0.1)) (touched_still p q still)) on
+
 -- so do changes that stand, behind their mark
-pub applied_still : (p : SessionProgress) (manner : Manner) (shapes : List TableTree) (planned : List Planned) (exchanges : List Exchange) (q : SessionProgress) → AreApplied manner shapes planned exchanges → Still p q → Still p (asked_all exchanges q)
-applied_still p manner shapes planned exchanges q applied still =
+pub applied_still : (p : SessionProgress) (manner : Manner) (shapes : List TableTree) (plan planned : List Planned) (exchanges : List Exchange) (q : SessionProgress) → AreApplied manner shapes plan planned exchanges → Still p q → Still p (asked_all exchanges q)
+applied_still p manner shapes plan planned exchanges q applied still =
     subst (λ (l : List Exchange). Still p (asked_all l q)) (sym applied.parts)
-    (forwards_still p (applied.put ++ applied.checked) q
-    (ask_both applied.put applied.checked (says_held IsForward manner (writes_all shapes planned) applied.put (Ok tt) (writes_say shapes planned) applied.puts)
-    (says_held IsForward manner (checks_all shapes (reads_for planned shapes)) applied.checked (Ok tt) (checks_say shapes (reads_for planned shapes)) applied.checks)) still)
+    (fetches_then p applied.asked (replied manner ops.Mark (replies.Marked applied.mark) ∷ (applied.put ++ applied.checked)) q (says_held IsFetch manner (asks_keys plan []) applied.asked (Ok applied.found) (keys_say plan []) applied.asks) still (λ r so.
+    forwards_still p (applied.put ++ applied.checked) r
+    (ask_both applied.put applied.checked (says_held IsForward manner (writes_all shapes (as_found plan applied.found)) applied.put (Ok tt) (writes_say shapes (as_found plan applied.found)) applied.puts)
+    (says_held IsForward manner (checks_all shapes (reads_for plan shapes)) applied.checked (Ok tt) (checks_say shapes (reads_for plan shapes)) applied.checks)) so))

@@ -261,18 +261,19 @@ module _ (around : Around) (p0 : SessionProgress) where
   -- ---- writes
 
   pub applies_apart : (shapes : List TableTree) (planned : List Planned) (p new : SessionProgress) (exchanges : List Exchange) (mark : ℕ) → Still p0 p → Held (applies shapes planned) p exchanges (Ok mark) new
-      → (applied : AreApplied p0.settings.manner shapes planned exchanges) × (mark ≡ applied.mark)
+      → (made : List Planned) × (applied : AreApplied p0.settings.manner shapes planned made exchanges) × (mark ≡ applied.mark)
   unfolding applies Held
   applies_apart shapes planned p new exchanges mark still held =
       let on = holds_apart (attempts shapes planned) (λ attempt. unless_broken attempt.came) p new exchanges (Ok mark) held in
-      subst (λ (m : Manner). (applied : AreApplied m shapes planned exchanges) × (mark ≡ applied.mark)) (in_manner p still) (by_came on.front on.back on.came on.came.came refl (asked_all on.front (made touches p)) on.parts on.held on.rest)
+      subst (λ (m : Manner). (made : List Planned) × (applied : AreApplied m shapes planned made exchanges) × (mark ≡ applied.mark)) (in_manner p still) (by_came on.front on.back on.came on.came.came refl (asked_all on.front (made touches p)) on.parts on.held on.rest)
     where
       by_came : (front back : List Exchange) (attempt : Attempt) (came : Result WriteEnd Refusal) → attempt.came ≡ came → (mid : SessionProgress) → exchanges ≡ front ++ back → said.Held p.settings.manner (attempts shapes planned) front attempt → Held (unless_broken attempt.came) mid back (Ok mark) new
-          → (applied : AreApplied p.settings.manner shapes planned exchanges) × (mark ≡ applied.mark)
+          → (made : List Planned) × (applied : AreApplied p.settings.manner shapes planned made exchanges) × (mark ≡ applied.mark)
       by_came front back attempt (Ok (written.Done number)) is mid parts was rest =
           let end = subst (λ (c : Result WriteEnd Refusal). Held (unless_broken c) mid back (Ok mark) new) is rest in
           let on = applied_apart p.settings.manner shapes planned number front attempt was is in
-          subst (λ (l : List Exchange). (applied : AreApplied p.settings.manner shapes planned l) × (mark ≡ applied.mark)) (sym (parts ∙ ap (λ (l : List Exchange). front ++ l) end.0 ∙ append-nil front)) (on.0, ok_same {E = Failure} mark number end.1 ∙ on.1)
+          subst (λ (l : List Exchange). (made : List Planned) × (applied : AreApplied p.settings.manner shapes planned made l) × (mark ≡ applied.mark)) (sym (parts ∙ ap (λ (l : List Exchange). front ++ l) end.0 ∙ append-nil front))
+          (on.0, on.1, ok_same {E = Failure} mark number end.1 ∙ on.2)
       by_came front back attempt (Ok (written.Refused number name)) is mid parts was rest = absurd (let no : Ok mark ≡ Err _ = (subst (λ (c : Result WriteEnd Refusal). Held (unless_broken c) mid back (Ok mark) new) is rest).1 in cc)
       by_came front back attempt (Err why) is mid parts was rest = absurd (let no : Ok mark ≡ Err _ = (subst (λ (c : Result WriteEnd Refusal). Held (unless_broken c) mid back (Ok mark) new) is rest).1 in cc)
 
@@ -286,7 +287,8 @@ module _ (around : Around) (p0 : SessionProgress) where
       by_came : (front : List Exchange) (attempt : Attempt) (came : Result WriteEnd Refusal) → attempt.came ≡ came → (back : List Exchange) → said.Held p.settings.manner (attempts shapes planned) front attempt → Held (unless_broken attempt.came) (asked_all front (made touches p)) back (Ok mark) new → Still p0 new
       by_came front attempt (Ok (written.Done number)) is back was rest =
           let end = subst (λ (c : Result WriteEnd Refusal). Held (unless_broken c) (asked_all front (made touches p)) back (Ok mark) new) is rest in
-          subst (Still p0) (sym end.2) (applied_still p0 p.settings.manner shapes planned front (made touches p) (applied_apart p.settings.manner shapes planned number front attempt was is).0 (touched_still p0 p still))
+          let done = applied_apart p.settings.manner shapes planned number front attempt was is in
+          subst (Still p0) (sym end.2) (applied_still p0 p.settings.manner shapes planned done.0 front (made touches p) done.1 (touched_still p0 p still))
       by_came front attempt (Ok (written.Refused number name)) is back was rest = absurd (let no : Ok mark ≡ Err _ = (subst (λ (c : Result WriteEnd Refusal). Held (unless_broken c) (asked_all front (made touches p)) back (Ok mark) new) is rest).1 in cc)
       by_came front attempt (Err why) is back was rest = absurd (let no : Ok mark ≡ Err _ = (subst (λ (c : Result WriteEnd Refusal). Held (unless_broken c) (asked_all front (made touches p)) back (Ok mark) new) is rest).1 in cc)
 

@@ -3,7 +3,7 @@
 -- be read against a database. Of a write it is the way up to where its triggers run, with those that it fires, and with what they see. The
 -- session is given as it stood where the work began: its manner, its level, its variables and the values that expressions read of it.
 use Rattle.std.specs.Prelude.{◌≡◌, ◌≢◌, ◌⊎◌, ◌||◌, ℕ, ℤ, Bool, true, false, List, [], ◌∷◌, ◌++◌, length, Option, None, Some, Result, Ok, Err}
-use Rattle.std.specs.List.{AllByRecursion}
+use Rattle.std.specs.List.{AllByRecursion, flat_map}
 use Rattle.value_types.specs.declared.value.Value.{Value}
 use Rattle.tsql_tree.specs.declared.definition.Definition.{Definition}
 use Rattle.tsql_tree.specs.declared.definition.Definition.TheVariants.{Table, Procedure, Trigger}
@@ -32,14 +32,15 @@ use Rattle.step_model.specs.declared.reply.Reply.{Reply}
 use Rattle.step_model.specs.declared.reply.Reply.TheVariants.{Began, Row, Gone, End, Done, Marked, Ended, Memory}
 use Rattle.step_model.specs.Dialog.{Held}
 use Rattle.step_model.specs.Exchange.{Exchange, CanReply}
+use Rattle.step_model.specs.Own.{planned_by}
 use Rattle.step_model.specs.Ranges.{Rows}
 use Rattle.constraint_check.specs.Reads.{reads_for}
 use Rattle.dml_exec.specs.declared.refusal.Level.{Level}
 use Rattle.dml_exec.specs.declared.refusal.Level.TheVariants.{Serializable}
 use Rattle.dml_exec.specs.declared.written.Written.TheVariants as written
-use Rattle.dml_exec.specs.Planning.{table_written}
+use Rattle.dml_exec.specs.Planning.{as_found, table_written}
 use Rattle.dml_exec.specs.Reading.{GivenRows, behind_gone, images_of, none_given}
-use Rattle.dml_exec.specs.Writing.{checks_all, writes, writes_all}
+use Rattle.dml_exec.specs.Writing.{asks_keys, checks_all, writes, writes_all}
 use Rattle.statement_paths.specs.Asked.{AskOnly, IsFetch}
 use Rattle.batch_meaning.specs.declared.failure.Failure.{Failure}
 use Rattle.batch_meaning.specs.declared.home.Home.{Home}
@@ -121,15 +122,24 @@ AreRead manner given level vars (shape ∷ shapes) of exchanges images = Held ma
 
 -- ---- what is written
 
--- Changes were made behind a mark, and their checks passed.
-pub record AreApplied (manner : Manner) (shapes : List TableTree) (planned : List Planned) (exchanges : List Exchange) : Type 0 where
+-- the writes that these exchanges made
+abbrev pub done_of : List Exchange → List Planned
+done_of exchanges = flat_map (λ exchange. planned_by exchange.op exchange.reply) exchanges
+
+-- Changes were planned. The index rows that go or are replaced were asked for; then, behind a mark, the changes were made as those were
+-- found, and the checks of the plan passed. These of the changes were done.
+pub record AreApplied (manner : Manner) (shapes : List TableTree) (plan planned : List Planned) (exchanges : List Exchange) : Type 0 where
+  pub found : List Bool
+  pub asked : List Exchange
   pub mark : ℕ
   pub put : List Exchange
   pub checked : List Exchange
-  pub parts : exchanges ≡ replied manner ops.Mark (Marked mark) ∷ (put ++ checked)
-  pub puts : Held manner (writes_all shapes planned) put (Ok tt)
-  pub checks : Held manner (checks_all shapes (reads_for planned shapes)) checked (Ok tt)
-  pub whole : Held manner (writes shapes planned) exchanges (Ok (written.Done mark))
+  pub parts : exchanges ≡ asked ++ replied manner ops.Mark (Marked mark) ∷ (put ++ checked)
+  pub asks : Held manner (asks_keys plan []) asked (Ok found)
+  pub puts : Held manner (writes_all shapes (as_found plan found)) put (Ok tt)
+  pub makes : planned ≡ done_of put
+  pub checks : Held manner (checks_all shapes (reads_for plan shapes)) checked (Ok tt)
+  pub whole : Held manner (writes shapes plan) exchanges (Ok (written.Done mark))
 
 -- a definition is put into `objects`
 abbrev pub definition_put : List ℕ → List ℕ → Planned
@@ -186,8 +196,8 @@ module _ (around : Around) (p : SessionProgress) where
     pub values : AreValues shapes of rows exchanges
     pub makes : status_of (first_row rows) ≡ Ok status
 
-  -- A write reads all definitions, and its tables; it plans on these, and what it planned is put and checked. The triggers that it fires are
-  -- those of these definitions, and what they see is what it planned.
+  -- A write reads all definitions, and its tables; it plans on these, and the plan is put, as index rows are found, and checked. The triggers
+  -- that it fires are those of these definitions, and what they see is the plan.
   pub record IsWritten (shape : TableTree) (shapes : List TableTree) (write : BoundWrite) (planned : List Planned) (done : Written) (exchanges : List Exchange) : Type 0 where
     pub definitions : List Definition
     pub images : List Rows
@@ -197,12 +207,13 @@ module _ (around : Around) (p : SessionProgress) where
     pub parts : exchanges ≡ defined ++ (read ++ applied)
     pub defines : AreDefined p.settings.manner First [] defined definitions
     pub reads : Held p.settings.manner (images_of (given_in around.fired) (shape ∷ shapes) p.settings.level (values_of p.vars) (bound.Write write)) read (Ok images)
-    pub plans : planned_over around p (shape ∷ shapes) write images ≡ Ok planned
-    pub applies : AreApplied p.settings.manner (tables_of definitions) planned applied
+    pub plan : List Planned
+    pub plans : planned_over around p (shape ∷ shapes) write images ≡ Ok plan
+    pub applies : AreApplied p.settings.manner (tables_of definitions) plan planned applied
     pub marks : done.mark ≡ applies.mark
-    pub tells : done.effect ≡ told_by (done_kind around) p.settings.no_count write planned
+    pub tells : done.effect ≡ told_by (done_kind around) p.settings.no_count write plan
     pub fires : done.fires ≡ fires_of around definitions write
-    pub sees : done.fired ≡ fired_by (shape_or shape (shape_of (table_written write) (shape ∷ shapes))) write images planned
+    pub sees : done.fired ≡ fired_by (shape_or shape (shape_of (table_written write) (shape ∷ shapes))) write images plan
 
   abbrev pub IsChange : List TableTree → Bound → List Planned → Written → List Exchange → Type 0
   IsChange [] of planned done exchanges = ⊥
@@ -245,14 +256,15 @@ module _ (around : Around) (p : SessionProgress) where
     pub defines : AreDefined p.settings.manner First [] defined definitions
     pub free : unless_referred name (tables_of definitions) ≡ Ok tt
     pub reads : Held p.settings.manner (images_of none_given (shape ∷ []) Serializable [] (bound.Write (whole name))) read (Ok images)
-    pub plans : dropped around p definitions shape name images ≡ Ok planned
-    pub applies : AreApplied p.settings.manner [] planned applied
+    pub plan : List Planned
+    pub plans : dropped around p definitions shape name images ≡ Ok plan
+    pub applies : AreApplied p.settings.manner [] plan planned applied
     pub tells : effect ≡ no_effect
 
   -- DROP of a procedure or trigger erases its definition.
   pub record IsDefinitionDropped (name : List ℕ) (planned : List Planned) (effect : Effect) (exchanges : List Exchange) : Type 0 where
     pub plans : planned ≡ definition_erased name ∷ []
-    pub applies : AreApplied p.settings.manner [] planned exchanges
+    pub applies : AreApplied p.settings.manner [] (definition_erased name ∷ []) planned exchanges
     pub tells : effect ≡ no_effect
 
   -- what was found is of its kind, and of this name

@@ -1,8 +1,10 @@
 -- Transact-SQL reference, "CREATE TABLE": which rows are rows of a table. A row has a value for each column, NULL or of
 -- the column's type, and stands at its own key: the values of the PRIMARY KEY's columns, in the key's order. What else
 -- stands among a table's rows is read as no row. NOT NULL is no part of this: it is a constraint.
-use Rattle.std.specs.Prelude.{ℕ, Bool, true, false, ◌&&◌, nat_eq, nat_le, if◌then◌else◌, List, [], ◌∷◌, length, map, filter_map, Option, Some, None}
+-- Own: which index parts a table has, and of which values of its rows their index rows are made; an index row is the key at which it stands.
+use Rattle.std.specs.Prelude.{ℕ, zero, suc, Bool, true, false, ◌&&◌, nat_eq, nat_le, if◌then◌else◌, List, [], ◌∷◌, ◌++◌, length, map, filter_map, slice_get, Option, Some, None}
 use Rattle.std.specs.Cmp.Lexicographic.{pointwise}
+use Rattle.std.specs.Option.{option_map}
 use Rattle.std.specs.Ordering.{eq_by_cmp}
 use Rattle.value_types.specs.declared.table_name.TableName.{TableName}
 use Rattle.value_types.specs.declared.sql_type.SqlType.{SqlType}
@@ -45,15 +47,43 @@ key_of shape row = values_at (key_places (Some shape)) row
 abbrev pub same_key : List Value → List Value → Bool
 same_key = eq_by_cmp key_cmp
 
--- A row at a key is one of the table's own part, which is part 0. There is no other part yet.
+-- a row of a table has its columns, and stands at its own key
+abbrev pub own_fits : TableTree → List Value → List Value → Bool
+own_fits shape key row = has_columns shape.columns row && same_key (key_of shape row) key
+
+-- ---- index parts
+
+-- the columns of the constraints that have an index part, in the order of the parts: those of each UNIQUE, and then those of each FOREIGN KEY
+unfoldable pub index_columns : TableTree → List (List (List ℕ))
+index_columns shape = map (λ unique. unique.columns) shape.uniques ++ map (λ foreign. foreign.columns) shape.foreigns
+
+-- the places of the values of an index row in the table's row: those of the columns, and then those of its own key
+abbrev pub index_places : TableTree → List (List ℕ) → List ℕ
+index_places shape names = places_of shape names ++ key_places (Some shape)
+
+-- by the number of the part; part 0 is the table's own
+abbrev pub part_places : TableTree → ℕ → Option (List ℕ)
+part_places shape zero = None
+part_places shape (suc i) = option_map (index_places shape) (slice_get (index_columns shape) i)
+
+-- a row of an index part has a value for each of its columns, and is its own key
+abbrev pub index_fits : TableTree → Option (List ℕ) → List Value → List Value → Bool
+index_fits shape None key row = false
+index_fits shape (Some places) key row = has_columns (filter_map (slice_get shape.columns) places) row && same_key row key
+
+-- A row at a key is one of this part of the table.
 abbrev pub row_fits : TableTree → ℕ → List Value → List Value → Bool
-row_fits shape part key row = nat_eq part 0 && (has_columns shape.columns row && same_key (key_of shape row) key)
+row_fits shape part key row = if nat_eq part 0 then own_fits shape key row else index_fits shape (part_places shape part) key row
 
 -- ---- tables
 
 -- the table's own rows, which are part 0
 abbrev pub rows_table : List ℕ → TableName
 rows_table name = record { object = name; part = 0 }
+
+-- its index part of this number
+abbrev pub index_part : TableTree → ℕ → TableName
+index_part shape part = record { object = shape.name; part = part }
 
 abbrev pub is_shape_of : TableName → TableTree → Bool
 is_shape_of table shape = nat_eq table.part 0 && same_units table.object shape.name
@@ -62,3 +92,7 @@ is_shape_of table shape = nat_eq table.part 0 && same_units table.object shape.n
 abbrev pub shape_of : TableName → List TableTree → Option TableTree
 shape_of table [] = None
 shape_of table (shape ∷ rest) = if is_shape_of table shape then Some shape else shape_of table rest
+
+-- that of the table whose part this is
+abbrev pub part_shape : TableName → List TableTree → Option TableTree
+part_shape table shapes = shape_of (rows_table table.object) shapes

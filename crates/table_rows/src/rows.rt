@@ -9,15 +9,20 @@ ghost use Rattle.bound_tree.specs.Setting.{value_at};
 ghost use Rattle.tsql_tree.specs.Places as places;
 ghost use Rattle.table_rows.specs.Rows as spec;
 
+use crate::parts::index_fits;
 use tsql_tree::{ColumnTree, TableTree};
 use value_types::{Key, Row, SqlType, Units, Value, compare};
 
 /// Whether a row at a key is one of this part of the table: it has a value for each column, NULL or of the column's
-/// type, and the key is the row's own. Part 0 has the table's rows; there is no other part yet.
+/// type, and the key is the row's own. Part 0 has the table's rows, the others index rows.
 pub fn row_fits(row: &Row, key: &Key, shape: &TableTree, part: u16) -> bool
     ensures { result ≡ spec.row_fits shape.now part key.now row.now }
 {
-    part == 0 && has_columns(shape.columns.as_slice(), row) && has_key(shape, row, key)
+    if part == 0 {
+        has_columns(shape.columns.as_slice(), row) && has_key(shape, row, key)
+    } else {
+        index_fits(row, key, shape, part - 1)
+    }
 }
 
 /// Whether a row has a value for each column, NULL or of the column's type, and no more.
@@ -119,7 +124,7 @@ fn is_at(row: &Row, place: u16, wanted: &Value) -> bool
 }
 
 /// Whether two values are one in a key.
-fn same_value(a: &Value, b: &Value) -> bool
+pub(crate) fn same_value(a: &Value, b: &Value) -> bool
     ensures { result ≡ is_eq (order.value_order a.now b.now) }
 {
     if kind_rank(a) != kind_rank(b) {

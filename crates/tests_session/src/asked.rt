@@ -15,9 +15,14 @@ const TABLE: &str = "CREATE TABLE t (k INT NOT NULL PRIMARY KEY, v INT NOT NULL)
 const ROWS: &str =
     "CREATE TABLE t (k INT NOT NULL PRIMARY KEY, v INT NOT NULL); INSERT t VALUES (1, 10), (2, 20), (3, 30)";
 
-/// Statements of each form. The first line has whether they find nothing, the table `t`, or rows in it, too, and the command of
-/// their DONE; the second has the text. Behind that stands what is asked, and behind `=>` what is told. Memory may be wanting at all
-/// that they ask but BackTo, Relax and the end; each fetch and each insertion may be refused for a lock, or the session may have fallen.
+/// `u` has an index part for its UNIQUE, which is its part 1, and one for its FOREIGN KEY.
+const KEYS: &str =
+    "CREATE TABLE p (k INT NOT NULL PRIMARY KEY); CREATE TABLE u (k INT NOT NULL PRIMARY KEY, v INT UNIQUE, f INT REFERENCES p); INSERT p VALUES (1), (2); INSERT u VALUES (1, 10, 1)";
+
+/// Statements of each form. The first line has whether they find nothing, the table `t`, rows in it, too, or the tables `p` and
+/// `u` with rows, and the command of their DONE; the second has the text. Behind that stands what is asked, and behind `=>` what
+/// is told. Memory may be wanting at all that they ask but BackTo, Relax and the end; each fetch and each insertion may be refused
+/// for a lock, or the session may have fallen.
 const STATEMENTS: &str = "nothing 0
 CREATE TABLE t (k INT NOT NULL PRIMARY KEY)
 Begin
@@ -214,6 +219,99 @@ SELECT 1 / 0
 =>
 error 8134, done 3 C1 0, done 0 0 0,
 ---
+keys C3
+INSERT INTO u VALUES (2, 20, 2)
+Begin
+Fetch objects At Range
+Fetch objects First Range
+Fetch objects Past Range
+Fetch objects Past Range
+Mark
+Insert u
+Insert u.1
+Insert u.2
+Fetch u.1 At Range
+Fetch u.1 Past Range
+Fetch p At Range
+Relax
+Commit
+=>
+done 11 C3 1, done 0 0 0,
+---
+keys C3
+INSERT INTO u VALUES (2, 10, 2)
+Begin
+Fetch objects At Range
+Fetch objects First Range
+Fetch objects Past Range
+Fetch objects Past Range
+Mark
+Insert u
+Insert u.1
+Insert u.2
+Fetch u.1 At Range
+Fetch u.1 Past Range
+Fetch u.1 Past Range
+BackTo
+Relax
+Rollback
+=>
+error 2627, done 3 C3 0, done 0 0 0,
+---
+keys C3
+INSERT INTO u VALUES (2, 20, 3)
+Begin
+Fetch objects At Range
+Fetch objects First Range
+Fetch objects Past Range
+Fetch objects Past Range
+Mark
+Insert u
+Insert u.1
+Insert u.2
+Fetch u.1 At Range
+Fetch u.1 Past Range
+Fetch p At Range
+BackTo
+Relax
+Rollback
+=>
+error 547, done 3 C3 0, done 0 0 0,
+---
+keys C5
+UPDATE u SET v = 30, f = 2 WHERE k = 1
+Begin
+Fetch objects At Range
+Fetch objects First Range
+Fetch objects Past Range
+Fetch objects Past Range
+Fetch u At Row
+Fetch u.1 At Range
+Fetch u.2 At Range
+Mark
+Replace u
+BackTo
+Relax
+Rollback
+=>
+error 701, done 3 C5 0, done 0 0 0,
+---
+keys C5
+UPDATE u SET v = v WHERE k = 1
+Begin
+Fetch objects At Range
+Fetch objects First Range
+Fetch objects Past Range
+Fetch objects Past Range
+Fetch u At Row
+Mark
+Replace u
+BackTo
+Relax
+Rollback
+=>
+error 701, done 3 C5 0, done 0 0 0,
+---
 table C3
 INSERT INTO objects VALUES (2, 30)
 =>
@@ -281,6 +379,7 @@ fn port_for(alloc: Global, found: &str) -> Result<Watched, Memory>
     match found {
         "table" => reply_to(alloc, &mut port, TABLE)?,
         "rows" => reply_to(alloc, &mut port, ROWS)?,
+        "keys" => reply_to(alloc, &mut port, KEYS)?,
         _ => String::new(alloc),
     };
     Ok(port)

@@ -194,11 +194,21 @@ fn put_write(line: &mut String, name: &str, table: &TableName) -> Result<(), All
     line.push_str("\n")
 }
 
-/// Appends a name, and that of a table. What is no character is a question mark.
+/// Appends a name, that of a table, and the number of an index part. What is no character is a question mark.
 fn put_named(line: &mut String, name: &str, table: &TableName) -> Result<(), AllocError> {
     line.push_str(name)?;
     for unit in table.object.as_slice() {
         line.push(char::from_u32(u32::from(*unit)).unwrap_or('?'))?;
     }
-    Ok(())
+    line.push_str(part_of(table.part))
+}
+
+/// How a part is told: not at all, where it has the table's own rows.
+fn part_of(part: u16) -> &'static str {
+    match part {
+        0 => "",
+        1 => ".1",
+        2 => ".2",
+        _ => ".more",
+    }
 }

@@ -17,7 +17,7 @@ use Rattle.step_model.specs.Database.{Database, With}
 use Rattle.step_model.specs.Exchange.{CanReply, Exchange}
 use Rattle.step_model.specs.Fits.{NoRelax, NoneEnds, fetches_current, inserts_fresh, is_ended, is_relax, numbers_rise, place_of, ranges_hold, targets_stable}
 use Rattle.step_model.specs.Log.{Commit as Logged, State}
-use Rattle.step_model.specs.Own.{Progress, change_of, is_insert, none_open, progress_after, progress_of}
+use Rattle.step_model.specs.Own.{Progress, change_of, is_insert, is_own, none_open, progress_after, progress_of}
 use Rattle.history_laws.proofs.Splits.{progress_more}
 use Rattle.index_laws.specs.Deeds.{deeds_by, rows_added, rows_gone, rows_set}
 use Rattle.index_laws.specs.Laws.{FreshRows, erasures_of, itself, never}
@@ -31,19 +31,20 @@ use Rattle.dml_exec.specs.declared.rewritten.Rewritten.{Rewritten}
 use Rattle.dml_exec.specs.declared.rewritten.Rewritten.TheVariants.{Inserted, Set, Erased}
 use Rattle.dml_exec.specs.Filling.{Row}
 use Rattle.dml_exec.specs.Reading.{hold_at}
+use Rattle.dml_exec.specs.Planning.{as_found, as_told, asked_of, index_deeds, is_asked, row_changes_of}
 use Rattle.statement_paths.specs.Asked.{AskOnly, IsFetch}
 use Rattle.write_laws.specs.Attempted.{IsMade, WriteFollows, plan_of}
-use Rattle.write_laws.specs.IndexKept.{is_own}
 use Rattle.write_laws.specs.Indexed.{Indexed, own_rows}
-use Rattle.write_laws.specs.IndexKeys.{as_found, as_told, asked_of, is_asked, stood_at}
-use Rattle.write_laws.specs.Indexing.{CanChange, IsReady, StandsThere, index_deeds, row_deeds}
+use Rattle.write_laws.specs.IndexKeys.{stood_at}
+use Rattle.write_laws.specs.Indexing.{CanChange, IsReady, StandsThere, row_deeds}
 use Rattle.write_laws.specs.Made.{AreMade, ComeFree, inserts, inserts_into_part}
 use Rattle.write_laws.specs.Reads.{HoldsIt, KeysHave, at_place}
-use Rattle.write_laws.specs.Rewrites.{IsTaken, row_changes_of, rows_taken}
+use Rattle.write_laws.specs.Rewrites.{IsTaken, rows_taken}
 use Rattle.write_laws.specs.Sound.{Firm, IsTableOf}
+use Rattle.write_laws.proofs.Changes.{kept_both, none_kept}
 use Rattle.write_laws.proofs.IndexKeys.{asked_stand, found_all, keys_asked, keys_told}
 use Rattle.write_laws.proofs.Indexing.{deeds_there, index_free, indexed_written, own_free}
-use Rattle.write_laws.proofs.Made.{free_fresh, made_goes, made_leave, taken_stand}
+use Rattle.write_laws.proofs.Made.{free_both, free_fresh, made_goes, made_leave, taken_stand}
 use Rattle.write_laws.proofs.Parts.{fetches_leave, one_place}
 use Rattle.write_laws.proofs.Rewrites.{taken_apart}
 use Rattle.write_laws.proofs.TargetStands.{both_end, both_relax, no_relax, place_past}
@@ -127,8 +128,8 @@ hold_fetch op holds = absurd holds
 -- ---- the write
 
 module _ (begin log : List Logged) (mine before reads between keys put later : List Exchange) (mark : Exchange) (manner : Manner) (level : Level) (range : KeyRange) (shape : TableTree) (equal : List Value → List Value → Bool) (rows : Rewritten)
-    (found : List Bool) (numbers : numbers_rise begin log mine) (fetches : fetches_current log mine) (ranges : ranges_hold log mine) (fresh_inserts : inserts_fresh log mine) (targets : targets_stable log mine)
-    (is : IsMade mine before reads between keys put later mark manner level range shape equal rows found) (decides : (a b : List Value) → equal a b ≡ true → a ≡ b) (firm : Firm (own_rows (at_place log ((before ++ reads) ++ between) later)))
+    (more : List Planned) (found : List Bool) (numbers : numbers_rise begin log mine) (fetches : fetches_current log mine) (ranges : ranges_hold log mine) (fresh_inserts : inserts_fresh log mine) (targets : targets_stable log mine)
+    (is : IsMade mine before reads between keys put later mark manner level range shape equal rows more found) (decides : (a b : List Value) → equal a b ≡ true → a ≡ b) (firm : Firm (own_rows (at_place log ((before ++ reads) ++ between) later)))
     (indexed : Indexed (at_place log ((before ++ reads) ++ between) later)) (defined : IsTableOf (at_place log ((before ++ reads) ++ between) later) shape) where
   abbrev front : List Exchange
   front = (before ++ reads) ++ between
@@ -148,11 +149,14 @@ module _ (begin log : List Logged) (mine before reads between keys put later : L
   abbrev own_deeds : List Planned
   own_deeds = row_deeds shape changes
 
+  abbrev row_plan : List Planned
+  row_plan = plan_of shape equal rows
+
   abbrev plan : List Planned
-  plan = plan_of shape equal rows
+  plan = row_plan ++ more
 
   abbrev index_found : List Planned
-  index_found = as_found (index_deeds shape equal changes) found
+  index_found = as_found (index_deeds shape equal changes ++ more) found
 
   are_own : AllByRecursion (λ change. is_own change ≡ true) own_deeds
   are_own =
@@ -160,7 +164,9 @@ module _ (begin log : List Logged) (mine before reads between keys put later : L
       (deeds_there (rows_table shape.name) (key_of shape) itself never changes)
 
   made : AreMade (own_deeds ++ index_found) put
-  made = subst (λ (l : List Planned). AreMade l put) (found_own own_deeds (index_deeds shape equal changes) found are_own) is.makes
+  made =
+      subst (λ (l : List Planned). AreMade l put)
+      (ap (λ (l : List Planned). as_found l found) (append_assoc own_deeds (index_deeds shape equal changes) more) ∙ found_own own_deeds (index_deeds shape equal changes ++ more) found are_own) is.makes
 
   parts : Split own_deeds index_found put
   parts = made_split own_deeds index_found put made
@@ -252,8 +258,16 @@ module _ (begin log : List Logged) (mine before reads between keys put later : L
   abbrev IsGood : Planned → Type 0
   IsGood change = StandsThere db change × KeysHave (length change.key) db change.table
 
+  -- of the others none is asked for
+  asked_same : asked_of plan ≡ asked_of row_plan
+  asked_same =
+      kept_both is_asked row_plan more
+      ∙ ap (λ (l : List Planned). asked_of row_plan ++ l)
+      (none_kept is_asked more (all_more (λ (change : Planned). is_own change ≡ true) (λ (change : Planned). is_asked change ≡ false) (λ change own. ap (λ (b : Bool). not b && not (is_insert change.deed)) own) more is.own))
+      ∙ append-nil (asked_of row_plan)
+
   stands : AllByRecursion IsGood (asked_of plan)
-  stands = asked_stand db shape equal changes ready can
+  stands = subst (AllByRecursion IsGood) (sym asked_same) (asked_stand db shape equal changes ready can)
 
   told : found ≡ stood_at db plan
   told =
@@ -270,14 +284,15 @@ module _ (begin log : List Logged) (mine before reads between keys put later : L
   left : at_place log (start ++ put) later ≡ behind db plan
   left =
       (made_leave log mine start put later plan start_split fresh_inserts (subst (λ (l : List Planned). AreMade l put) as_planned is.makes)
-      (subst (λ (d : Database). ComeFree inserts_into_part d plan) (sym db_start) (index_free db shape equal changes ready can))).0
+      (subst (λ (d : Database). ComeFree inserts_into_part d plan) (sym db_start)
+      (free_both inserts_into_part row_plan more db (index_free db shape equal changes ready can) (own_free more (behind db row_plan) is.own)))).0
       ∙ ap (λ (d : Database). behind d plan) db_start
 
-  follows : Indexed (behind db plan)
+  follows : Indexed (behind db row_plan)
   follows = indexed_written db shape equal changes ready can
 
 pub write_follows : WriteFollows
-write_follows begin log mine before reads between keys put later mark manner level range shape equal rows found numbers fetches ranges fresh_inserts targets is decides firm indexed defined = (
-  left begin log mine before reads between keys put later mark manner level range shape equal rows found numbers fetches ranges fresh_inserts targets is decides firm indexed defined,
-  follows begin log mine before reads between keys put later mark manner level range shape equal rows found numbers fetches ranges fresh_inserts targets is decides firm indexed defined,
+write_follows begin log mine before reads between keys put later mark manner level range shape equal rows more found numbers fetches ranges fresh_inserts targets is decides firm indexed defined = (
+  left begin log mine before reads between keys put later mark manner level range shape equal rows more found numbers fetches ranges fresh_inserts targets is decides firm indexed defined,
+  follows begin log mine before reads between keys put later mark manner level range shape equal rows more found numbers fetches ranges fresh_inserts targets is decides firm indexed defined,
 )

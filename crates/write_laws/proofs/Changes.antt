@@ -1,5 +1,5 @@
 -- The changes of rows that have their columns are right by themselves.
-use Rattle.std.proofs.Common.{◌≡◌, refl, sym, ap, ◌∙◌, subst, ℕ, Bool, true, false, if◌then◌else◌, List, [], ◌∷◌, ◌++◌, length, map, zip, arith, Option, Some, None, append-nil}
+use Rattle.std.proofs.Common.{◌≡◌, refl, sym, ap, ◌∙◌, subst, ℕ, Bool, true, false, if◌then◌else◌, cond, List, [], ◌∷◌, ◌++◌, length, map, filter, zip, arith, Option, Some, None, append-nil}
 use Rattle.std.proofs.lemmas.Bool.{and_from}
 use Rattle.std.specs.Prelude.{IsTrue, filter_map}
 use Rattle.std.specs.Cmp.{tied_itself}
@@ -45,6 +45,22 @@ all_any P f makes (x ∷ xs) = (makes x, all_any P f makes xs)
 all_several : {A B : Type 0} (P : B → Type 0) (f : A → List B) → ((x : A) → AllByRecursion P (f x)) → (xs : List A) → AllByRecursion P (flat_map f xs)
 all_several P f makes [] = tt
 all_several P f makes (x ∷ xs) = all_both P (f x) (flat_map f xs) (makes x) (all_several P f makes xs)
+
+pub all_kept : {A : Type 0} (p : A → Bool) (xs : List A) → AllByRecursion (λ x. p x ≡ true) xs → filter p xs ≡ xs
+all_kept p [] all = refl
+all_kept p (x ∷ xs) all = rw (all.0, all_kept p xs all.1) refl
+
+pub none_kept : {A : Type 0} (p : A → Bool) (xs : List A) → AllByRecursion (λ x. p x ≡ false) xs → filter p xs ≡ []
+none_kept p [] all = refl
+none_kept p (x ∷ xs) all = rw (all.0, none_kept p xs all.1) refl
+
+pub kept_both : {A : Type 0} (p : A → Bool) (xs ys : List A) → filter p (xs ++ ys) ≡ filter p xs ++ filter p ys
+kept_both p [] ys = refl
+kept_both {A} p (x ∷ xs) ys = by_test (p x) (kept_both p xs ys)
+  where
+    by_test : (b : Bool) → filter p (xs ++ ys) ≡ filter p xs ++ filter p ys → cond b (x ∷ filter p (xs ++ ys)) (filter p (xs ++ ys)) ≡ cond b (x ∷ filter p xs) (filter p xs) ++ filter p ys
+    by_test true rest = ap (λ (list : List A). x ∷ list) rest
+    by_test false rest = rest
 
 seconds : {A B : Type 0} (xs : List A) (ys : List B) → length ys ≡ length xs → map (λ pair. pair.1) (zip xs ys) ≡ ys
 seconds [] [] same = refl

@@ -1,17 +1,12 @@
 -- Reads that gave no error.
-use Rattle.std.proofs.Common.{◌≡◌, ℤ, Bool, true, false, if◌then◌else◌, cond, List, [], ◌∷◌, ◌++◌, length, map, filter, Option, None, Some, IsTrue, Result, Ok, Err, refl, sym, ap, subst, ◌∙◌, append-nil}
+use Rattle.std.proofs.Common.{◌≡◌, ℤ, Bool, true, false, cond, List, [], ◌∷◌, ◌++◌, length, map, filter, Option, None, Some, IsTrue, Result, Ok, Err, refl, sym, ap, subst, ◌∙◌, append-nil}
 use Rattle.std.specs.Prelude.{IsSome}
 use Rattle.std.specs.List.{AllByRecursion}
-use Rattle.std.specs.Cmp.{Equal-is}
-use Rattle.std.proofs.lemmas.List.{length-map}
 use Rattle.std.proofs.lemmas.List.Elements.{recursion_from_All}
 use Rattle.lock_modes.specs.declared.KeyPart.TheVariants.{S}
 use Rattle.value_types.specs.declared.table_name.TableName.{TableName}
 use Rattle.value_types.specs.declared.value.Value.{Value}
-use Rattle.value_types.specs.Order.{key_cmp}
 use Rattle.tsql_tree.specs.declared.definition.TableTree.{TableTree}
-use Rattle.tsql_tree.specs.Places.{key_places}
-use Rattle.bound_tree.specs.Setting.{value_at}
 use Rattle.step_model.specs.declared.manner.Manner.{Manner}
 use Rattle.step_model.specs.declared.range.KeyRange.{KeyRange}
 use Rattle.step_model.specs.Database.{Database, In, is_within}
@@ -19,54 +14,47 @@ use Rattle.step_model.specs.Dialog.{Dialog, over, ◌then◌, Held}
 use Rattle.step_model.specs.Exchange.{Exchange}
 use Rattle.step_model.specs.Fits.{AnswersIn}
 use Rattle.step_model.specs.Ranges.{Rows}
-use Rattle.table_rows.specs.Rows.{has_columns, key_of, same_key, shape_of}
+use Rattle.table_rows.specs.Rows.{part_shape}
 use Rattle.constraint_check.specs.declared.check_read.CheckRead.{CheckRead}
 use Rattle.constraint_check.specs.Judged.{judge}
 use Rattle.constraint_check.specs.Laws.{KeysAreOne, Passes}
 use Rattle.constraint_check.proofs.Judging.{judged_passes}
 use Rattle.constraint_check.proofs.Lists.{all_left, all_right}
-use Rattle.history_laws.proofs.Basics.{both}
 use Rattle.dml_exec.specs.declared.refusal.Refusal.{Refusal}
 use Rattle.dml_exec.specs.Reading.{fits, is_one_key, key_width}
 use Rattle.dml_exec.specs.Writing.{broken, broken_by, checks_all, checks_one, checks_range, halted, no_room, rows_checked}
 use Rattle.write_laws.specs.Reading.{ChecksRead}
-use Rattle.write_laws.specs.Reads.{at_place, key_size, AllFit, KeysHave, HoldsIt}
+use Rattle.write_laws.specs.Reads.{at_place, AllFit, KeysHave, HoldsIt}
 use Rattle.write_laws.proofs.Dialogs.{held_both, held_ok, held_room, ok_err}
 use Rattle.write_laws.proofs.Entries.{Entry}
-use Rattle.write_laws.proofs.Keys.{tied_long}
+use Rattle.write_laws.proofs.KeySizes.{fits_wide}
 use Rattle.write_laws.proofs.Parts.{Fetches, all_asked, answers, asks_ok, asks_room, asks_then, one_place}
 use Rattle.write_laws.proofs.Ranges.{in_fetches, read_in, told_one}
 
 -- ---- all rows are kept
 
 module _ (db : Database) (shapes : List TableTree) (table : TableName) (fit : AllFit db shapes table) where
-  size_of : (o : Option TableTree) (key row : List Value) → IsTrue (fits o (key, row)) → length key ≡ length (key_places o)
-  size_of None key row fit = absurd (let no : false ≡ true = fit in cc)
-  size_of (Some shape) key row fit =
-      let same = (both (has_columns shape.columns row) (same_key (key_of shape row) key) fit).1 in
-      sym (tied_long (key_of shape row) key ((Equal-is (key_cmp (key_of shape row) key)).0 same)) ∙ length-map (key_places (Some shape)) (value_at row)
-
-  pub keys_have : KeysHave (key_size shapes table) db table
+  pub keys_have : KeysHave (key_width (part_shape table shapes) table.part) db table
   keys_have key some = by_row (db table key) refl some
     where
-      by_row : (o : Option (List Value)) → db table key ≡ o → IsSome o → length key ≡ key_size shapes table
+      by_row : (o : Option (List Value)) → db table key ≡ o → IsSome o → length key ≡ key_width (part_shape table shapes) table.part
       by_row None is some = absurd (let no : false ≡ true = some in cc)
-      by_row (Some row) is some = size_of (shape_of table shapes) key row (fit key row is)
+      by_row (Some row) is some = fits_wide (part_shape table shapes) table.part key row (fit key row is)
 
-  all_kept : (entries : List Entry) → AllByRecursion (λ (at : Entry). db table at.0 ≡ Some at.1) entries → filter (fits (shape_of table shapes)) entries ≡ entries
+  all_kept : (entries : List Entry) → AllByRecursion (λ (at : Entry). db table at.0 ≡ Some at.1) entries → filter (fits (part_shape table shapes) table.part) entries ≡ entries
   all_kept [] all = refl
   all_kept (at ∷ entries) all =
-      ap (λ (b : Bool). cond b (at ∷ filter (fits (shape_of table shapes)) entries) (filter (fits (shape_of table shapes)) entries)) (fit at.0 at.1 all.0)
+      ap (λ (b : Bool). cond b (at ∷ filter (fits (part_shape table shapes) table.part) entries) (filter (fits (part_shape table shapes) table.part) entries)) (fit at.0 at.1 all.0)
       ∙ ap (λ (rest : List Entry). at ∷ rest) (all_kept entries all.1)
 
 -- ---- one read
 
 -- it is read as one whole key
 abbrev is_one : List TableTree → KeyRange → Bool
-is_one shapes range = is_one_key (key_width (shape_of range.table shapes)) range.start range.stop
+is_one shapes range = is_one_key (key_width (part_shape range.table shapes) range.table.part) range.start range.stop
 
 abbrev reads_of : List TableTree → KeyRange → Dialog (Result Rows Refusal)
-reads_of shapes range = checks_range (shape_of range.table shapes) range
+reads_of shapes range = checks_range (part_shape range.table shapes) range
 
 module _ (manner : Manner) (shapes : List TableTree) where
   rows_held : (range : KeyRange) (part : List Exchange) (found : Rows) → Held manner (rows_checked shapes range) part (Ok found) → Held manner (reads_of shapes range) part (Ok found)
@@ -96,9 +84,9 @@ module _ (manner : Manner) (shapes : List TableTree) where
     unfolding checks_one
     passed read part fit answered held =
         let h = held_ok manner (rows_checked shapes read.range) (λ found. broken_by read (judge read found)) part tt held in
-        let came = read_in db one_key manner (shape_of read.range.table shapes) (is_one shapes read.range) read.range S h.came h.first
+        let came = read_in db one_key manner (part_shape read.range.table shapes) read.range.table.part (is_one shapes read.range) read.range S h.came h.first
         (all_left (λ (x : Exchange). AnswersIn db x.op x.reply) h.first h.second (subst Answered h.parts answered)) (rows_held read.range h.first h.came h.held)
-        (keys_have db shapes read.range.table fit) (told_one (key_width (shape_of read.range.table shapes)) read.range.start read.range.stop) in
+        (keys_have db shapes read.range.table fit) (told_one (key_width (part_shape read.range.table shapes) read.range.table.part) read.range.start read.range.stop) in
         let same : h.came ≡ map (λ (at : Entry). at.1) came.0 = came.2 ∙ ap (map (λ (at : Entry). at.1)) (all_kept db shapes read.range.table fit came.0 (stand read.range came.0 came.1)) in
         judged_passes db read came.0 one_key came.1 (ap (judge read) (sym same) ∙ not_broken read (judge read h.came) h.second h.more)
       where
@@ -128,7 +116,7 @@ module _ (shapes : List TableTree) where
 
   rows_fetches : (range : KeyRange) → Fetches (rows_checked shapes range)
   unfolding rows_checked
-  rows_fetches range = asks_room HoldsIt no_room (reads_of shapes range then halted) (asks_then HoldsIt (reads_of shapes range) halted (in_fetches range.table range.stop S (shape_of range.table shapes) (is_one shapes range) range.start) halted_fetches)
+  rows_fetches range = asks_room HoldsIt no_room (reads_of shapes range then halted) (asks_then HoldsIt (reads_of shapes range) halted (in_fetches range.table range.stop S (part_shape range.table shapes) range.table.part (is_one shapes range) range.start) halted_fetches)
 
   broken_fetches : (read : CheckRead) (error : Option ℤ) → Fetches (broken_by read error)
   broken_fetches read None = tt

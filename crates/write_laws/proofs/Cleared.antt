@@ -25,9 +25,9 @@ use Rattle.write_laws.specs.Keeping.{with_definition}
 use Rattle.write_laws.specs.Sound.{Firm, IsDefined}
 use Rattle.write_laws.proofs.Defined.{names_apart, not_objects, not_same}
 use Rattle.write_laws.proofs.Elsewhere.{is_table, table_is, untouched}
-use Rattle.write_laws.proofs.Erased.{AreNoTables, all_of_objects, erased_all, firm_all, firm_erased, no_table, stay_all, still_none}
+use Rattle.write_laws.proofs.Erased.{AreNoTables, all_of_objects, erased_all, erased_own, firm_all, firm_erased, no_table, stay_all, still_none}
 use Rattle.write_laws.proofs.Indexed.{indexed_dropped, indexed_erased, parts_elsewhere}
-use Rattle.write_laws.proofs.Owned.{erased_own, firm_own}
+use Rattle.write_laws.proofs.Owned.{firm_own}
 
 -- ---- what is defined as no table is erased
 

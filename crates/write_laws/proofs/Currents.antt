@@ -42,5 +42,5 @@ module _ (log : List Logged) (mine before part later : List Exchange) (is : mine
 pub rows_current : RowsCurrent
 rows_current log mine before part later manner shape one range hold lock rows is each held =
     let told = rows_told manner part shape one range hold lock rows held in
-    let all = all_asked IsFetch manner (rows_in shape one (fetch_of range hold lock)) part (Ok rows) (in_asks shape one (fetch_of range hold lock)) held in
+    let all = all_asked IsFetch manner (rows_in shape 0 one (fetch_of range hold lock)) part (Ok rows) (in_asks shape one (fetch_of range hold lock)) held in
     (told.0, told.1, all_more (ToldThere part range hold lock) (StoodThere log before range) (stood_there log mine before part later is each all range hold lock) told.0 told.2, told.3)

@@ -1,5 +1,5 @@
 -- What DROP TABLE plans keeps a database firm.
-use Rattle.std.proofs.Common.{◌≡◌, refl, sym, ap, ◌∙◌, subst, inl, inr, ℕ, Bool, true, false, ◌||◌, ◌&&◌, if◌then◌else◌, List, [], ◌∷◌, ◌++◌, map, filter, Option, Some, None, IsSome, Result, Ok, Err}
+use Rattle.std.proofs.Common.{◌≡◌, refl, sym, ap, ◌∙◌, subst, inl, inr, ℕ, Bool, true, false, ◌||◌, ◌&&◌, if◌then◌else◌, List, [], ◌∷◌, ◌++◌, map, Option, Some, None, IsSome, Result, Ok, Err}
 use Rattle.std.proofs.lemmas.Bool.{and_parts}
 use Rattle.std.proofs.lemmas.List.Elements.{recursion_from_All}
 use Rattle.std.specs.List.{AllByRecursion, cons_option, list_any}
@@ -18,7 +18,7 @@ use Rattle.tsql_tree.specs.declared.definition.TriggerTree.{TriggerTree}
 use Rattle.tsql_tree.specs.Places.{key_places}
 use Rattle.step_model.specs.declared.change.Planned.{Planned}
 use Rattle.step_model.specs.Database.{Database, With, with_change}
-use Rattle.step_model.specs.Own.{change_of, row_of}
+use Rattle.step_model.specs.Own.{change_of, is_own, own_changes, row_of}
 use Rattle.step_model.proofs.Databases.{With-append}
 use Rattle.table_rows.specs.Definitions.{defined_name, object_key, objects_name, tables_of}
 use Rattle.table_rows.specs.Rows.{has_columns, key_of, rows_table, same_key}
@@ -28,7 +28,7 @@ use Rattle.constraint_check.proofs.Behind.{same, same_back, same_itself, same_on
 use Rattle.constraint_check.proofs.Lists.{Among, all_more, among_any, among_both}
 use Rattle.dml_exec.specs.declared.rewritten.Rewritten.TheVariants.{Erased}
 use Rattle.dml_exec.specs.Filling.{Row}
-use Rattle.dml_exec.specs.Planning.{Chg, changes_of, erasure, rewritten}
+use Rattle.dml_exec.specs.Planning.{Chg, all_changes, erasure, rewritten}
 use Rattle.dml_exec.specs.Reading.{fits}
 use Rattle.batch_meaning.specs.declared.failure.Failure.{Failure}
 use Rattle.batch_meaning.specs.Changing.{definition_erased, dropped_as, is_parent, is_referred, planned_as, triggers_of, whole, with_definitions}
@@ -38,17 +38,15 @@ use Rattle.batch_meaning.specs.Raised.{Around}
 use Rattle.write_laws.specs.Sound.{Firm, IsDefined, IsTableOf}
 use Rattle.write_laws.specs.Keeping.{AreDefinitions, AreErased, AreTables, IsAmong, with_definition}
 use Rattle.write_laws.specs.Plans.{IsDropPlanned, FirmDropPlanned}
+use Rattle.write_laws.proofs.Changes.{all_both, all_kept, kept_both}
 use Rattle.write_laws.proofs.Defined.{names_apart, not_objects, not_same}
 use Rattle.write_laws.proofs.Dropped.{firm_dropped, none_left}
 use Rattle.write_laws.proofs.Elsewhere.{all_each, is_table, table_is, tables_apart, untouched}
-use Rattle.write_laws.proofs.Erased.{AreNoTables, all_of_objects, erased_all, firm_all, no_table, stay_all, was_all}
+use Rattle.write_laws.proofs.Erased.{AreNoTables, all_of_objects, erased_all, erased_own, firm_all, no_table, stay_all, was_all}
+use Rattle.write_laws.proofs.OwnPlans.{own_of_plan}
 use Rattle.write_laws.proofs.Plans.{as_planned, made_of}
 
 -- ---- lists
-
-pub all_kept : {A : Type 0} (p : A → Bool) (xs : List A) → AllByRecursion (λ x. p x ≡ true) xs → filter p xs ≡ xs
-all_kept p [] all = refl
-all_kept p (x ∷ xs) all = rw (all.0, all_kept p xs all.1) refl
 
 any_here : {A : Type 0} (p : A → Bool) (xs : List A) → Among (λ x. p x ≡ true) xs → list_any p xs ≡ true
 any_here p [] none = absurd none
@@ -72,15 +70,19 @@ all_meant vars system shape rows = ap (λ (list : List Row). Ok (Erased list)) (
 abbrev erasures : TableTree → List Row → List Planned
 erasures shape rows = map (erasure (rows_table shape.name) (key_places (Some shape))) rows
 
-drop_plan : (vars system : List Value) (shape : TableTree) (rows : List Row) (changes : List Planned) → Chg vars system shape [] (whole shape.name) (rows ∷ []) ≡ Ok changes → changes ≡ erasures shape rows
+-- with those of their index rows
+abbrev pub all_gone : TableTree → List Row → List Planned
+all_gone shape rows = all_changes (rows_table shape.name) shape (Erased rows)
+
+drop_plan : (vars system : List Value) (shape : TableTree) (rows : List Row) (changes : List Planned) → Chg vars system shape [] (whole shape.name) (rows ∷ []) ≡ Ok changes → changes ≡ all_gone shape rows
 drop_plan vars system shape rows changes e =
     let made = made_of vars system shape [] (whole shape.name) (rows ∷ []) changes e in
     let both : Ok made.0 ≡ Ok (Erased rows) = sym made.1 ∙ all_meant vars system shape rows in
     let came : made.0 ≡ Erased rows = cc in
-    made.2 ∙ ap (changes_of (rows_table shape.name) (key_places (Some shape))) came
+    made.2 ∙ ap (all_changes (rows_table shape.name) shape) came
 
-dropped_is : (definitions : List Definition) (shape : TableTree) (rows : List Row) (planned : List Planned) (outcome : Result (List Planned) Failure) → ((changes : List Planned) → outcome ≡ Ok changes → changes ≡ erasures shape rows)
-    → dropped_as definitions shape.name outcome ≡ Ok planned → planned ≡ with_definitions definitions shape.name (erasures shape rows)
+dropped_is : (definitions : List Definition) (shape : TableTree) (rows : List Row) (planned : List Planned) (outcome : Result (List Planned) Failure) → ((changes : List Planned) → outcome ≡ Ok changes → changes ≡ all_gone shape rows)
+    → dropped_as definitions shape.name outcome ≡ Ok planned → planned ≡ with_definitions definitions shape.name (all_gone shape rows)
 dropped_is definitions shape rows planned (Ok changes) so e = let same : with_definitions definitions shape.name changes ≡ planned = cc in sym same ∙ ap (with_definitions definitions shape.name) (so changes refl)
 dropped_is definitions shape rows planned (Err failure) so e = cc
 
@@ -92,10 +94,20 @@ not_referred true name e = cc
 not_referred false name e = refl
 
 module _ (around : Around) (p : SessionProgress) (db : Database) (definitions : List Definition) (shape : TableTree) (rows : List Row) (planned : List Planned) (firm : Firm db) (is : IsDropPlanned around p db definitions shape rows planned) where
-  pub plan : planned ≡ with_definitions definitions shape.name (erasures shape rows)
+  pub plan : planned ≡ with_definitions definitions shape.name (all_gone shape rows)
   plan = dropped_is definitions shape rows planned (planned_as (Chg (values_of p.vars) (system_in around p) shape [] (whole shape.name) (rows ∷ []))) (λ changes e. drop_plan (values_of p.vars) (system_in around p) shape rows changes (as_planned _ changes e)) is.plans
 
-  pub of_table : AllByRecursion (λ change. change.table ≡ rows_table shape.name) (erasures shape rows)
+  -- of which these are of own rows
+  own_plan : own_changes planned ≡ with_definitions definitions shape.name (erasures shape rows)
+  own_plan =
+      let behind_rows : List Planned = erased_all (triggers_of shape.name definitions) ++ definition_erased shape.name ∷ [] in
+      ap own_changes plan
+      ∙ kept_both is_own (all_gone shape rows) behind_rows
+      ∙ ap (λ (list : List Planned). list ++ own_changes behind_rows) (own_of_plan shape (Erased rows))
+      ∙ ap (λ (list : List Planned). erasures shape rows ++ list)
+      (all_kept is_own behind_rows (all_both (λ change. is_own change ≡ true) (erased_all (triggers_of shape.name definitions)) (definition_erased shape.name ∷ []) (erased_own (triggers_of shape.name definitions)) (refl, tt)))
+
+  of_table : AllByRecursion (λ change. change.table ≡ rows_table shape.name) (erasures shape rows)
   of_table = all_made rows
     where
       all_made : (rows : List Row) → AllByRecursion (λ change. change.table ≡ rows_table shape.name) (erasures shape rows)
@@ -116,18 +128,34 @@ module _ (around : Around) (p : SessionProgress) (db : Database) (definitions : 
   stand = recursion_from_All (λ (at : Entry). IsTrue true × (db (rows_table shape.name) at.0 ≡ Some at.1)) entries is.read.1.rows_of_range
 
   -- each row that is read fits
-  fit : (at : Entry) → IsTrue true × (db (rows_table shape.name) at.0 ≡ Some at.1) → fits (Some shape) at ≡ true
+  fit : (at : Entry) → IsTrue true × (db (rows_table shape.name) at.0 ≡ Some at.1) → fits (Some shape) 0 at ≡ true
   fit at h = (firm.kept shape is.defined).2.fits at.0 at.1 h.1
 
-  all_fit : (list : List Entry) → AllByRecursion (λ (at : Entry). IsTrue true × (db (rows_table shape.name) at.0 ≡ Some at.1)) list → AllByRecursion (λ at. fits (Some shape) at ≡ true) list
+  all_fit : (list : List Entry) → AllByRecursion (λ (at : Entry). IsTrue true × (db (rows_table shape.name) at.0 ≡ Some at.1)) list → AllByRecursion (λ at. fits (Some shape) 0 at ≡ true) list
   all_fit [] all = tt
   all_fit (at ∷ list) all = (fit at all.0, all_fit list all.1)
 
   rows_are : rows ≡ map (λ (at : Entry). at.1) entries
-  rows_are = is.read.2 ∙ ap (map (λ (at : Entry). at.1)) (all_kept (fits (Some shape)) entries (all_fit entries stand))
+  rows_are = is.read.2 ∙ ap (map (λ (at : Entry). at.1)) (all_kept (fits (Some shape) 0) entries (all_fit entries stand))
+
+  -- each row that stands is one that was read
+  pub read_among : (key base : List Value) → db (rows_table shape.name) key ≡ Some base → Among (λ row. row ≡ base) rows
+  read_among key base there =
+      subst (Among (λ (row : Row). row ≡ base)) (sym rows_are)
+      (of_entries entries
+      (among_both (λ (at : Entry). IsTrue true × (db (rows_table shape.name) at.0 ≡ Some at.1)) (λ (at : Entry). same_key key at.0 ≡ true) entries stand
+      (among_any (λ (at : Entry). same_key key at.0) entries (is.read.1.whole key refl (subst (λ (o : Option (List Value)). IsSome o) (sym there) refl)))))
+    where
+      one : (at : Entry) → db (rows_table shape.name) at.0 ≡ Some at.1 → same_key key at.0 ≡ true → at.1 ≡ base
+      one at stands alike = let both : Some at.1 ≡ Some base = sym stands ∙ sym (firm.one_key (rows_table shape.name) key at.0 alike) ∙ there in cc
+
+      of_entries : (list : List Entry) → Among (λ (at : Entry). (IsTrue true × (db (rows_table shape.name) at.0 ≡ Some at.1)) × (same_key key at.0 ≡ true)) list → Among (λ (row : Row). row ≡ base) (map (λ (at : Entry). at.1) list)
+      of_entries [] none = none
+      of_entries (at ∷ list) (inl here) = inl (one at here.0.1 here.1)
+      of_entries (at ∷ list) (inr later) = inr (of_entries list later)
 
   -- and is erased at its own key
-  own_key : (key : List Value) (at : Entry) → (fits (Some shape) at ≡ true) × (same_key key at.0 ≡ true) → same_key (key_of shape at.1) key ≡ true
+  own_key : (key : List Value) (at : Entry) → (fits (Some shape) 0 at ≡ true) × (same_key key at.0 ≡ true) → same_key (key_of shape at.1) key ≡ true
   own_key key at h =
       let own = and_parts (has_columns shape.columns at.1) (same_key (key_of shape at.1) at.0) h.0 in
       same_on (key_of shape at.1) at.0 key own.1 (same_back key at.0 h.1)
@@ -135,13 +163,13 @@ module _ (around : Around) (p : SessionProgress) (db : Database) (definitions : 
   erased_rows : (key : List Value) → IsSome (db (rows_table shape.name) key) → IsTrue (list_any (λ (change : Planned). same_key change.key key) (erasures shape rows))
   erased_rows key some =
       let test : Row → Bool = λ row. same_key (key_of shape row) key in
-      let among = among_both (λ at. fits (Some shape) at ≡ true) (λ (at : Entry). same_key key at.0 ≡ true) entries (all_fit entries stand) (among_any (λ (at : Entry). same_key key at.0) entries (is.read.1.whole key refl some)) in
+      let among = among_both (λ at. fits (Some shape) 0 at ≡ true) (λ (at : Entry). same_key key at.0 ≡ true) entries (all_fit entries stand) (among_any (λ (at : Entry). same_key key at.0) entries (is.read.1.whole key refl some)) in
       any_map (λ (change : Planned). same_key change.key key) (erasure (rows_table shape.name) (key_places (Some shape))) rows
       ∙ ap (list_any test) rows_are
       ∙ any_map test (λ (at : Entry). at.1) entries
       ∙ any_here (λ (at : Entry). test at.1) entries (among_keyed entries among)
     where
-      among_keyed : (list : List Entry) → Among (λ at. (fits (Some shape) at ≡ true) × (same_key key at.0 ≡ true)) list → Among (λ at. same_key (key_of shape at.1) key ≡ true) list
+      among_keyed : (list : List Entry) → Among (λ at. (fits (Some shape) 0 at ≡ true) × (same_key key at.0 ≡ true)) list → Among (λ at. same_key (key_of shape at.1) key ≡ true) list
       among_keyed [] none = none
       among_keyed (at ∷ list) (inl here) = inl (own_key key at here)
       among_keyed (at ∷ list) (inr later) = inr (among_keyed list later)
@@ -271,5 +299,5 @@ module _ (around : Around) (p : SessionProgress) (db : Database) (definitions : 
 
 pub firm_drop_planned : FirmDropPlanned
 firm_drop_planned around p db definitions shape rows planned firm given is =
-    subst (λ (list : List Planned). Firm (behind db list)) (sym (plan around p db definitions shape rows planned firm is))
+    subst (λ (list : List Planned). Firm (behind db list)) (sym (own_plan around p db definitions shape rows planned firm is))
     (subst Firm (in_order around p db definitions shape rows planned firm is given) (firm_first around p db definitions shape rows planned firm is given))

@@ -1,6 +1,6 @@
 -- Where all rows of a table go with their index rows, nothing is left in its parts.
-use Rattle.std.proofs.Common.{◌≡◌, refl, sym, ap, ◌∙◌, subst, inl, inr, ℕ, zero, suc, Bool, true, false, ◌&&◌, ◌||◌, nat_eq, List, [], ◌∷◌, ◌++◌, map, slice_get, Option, Some, None, IsSome, append-nil, arith}
-use Rattle.std.proofs.lemmas.Bool.{and_parts, eqb-true}
+use Rattle.std.proofs.Common.{◌≡◌, refl, sym, ap, ◌∙◌, subst, inl, inr, ℕ, zero, suc, Bool, true, false, ◌&&◌, ◌||◌, List, [], ◌∷◌, ◌++◌, map, slice_get, Option, Some, None, IsSome, append-nil, arith}
+use Rattle.std.proofs.lemmas.Bool.{and_parts}
 use Rattle.std.proofs.lemmas.Grind.{flat_map-append}
 use Rattle.std.specs.Cmp.{tied_itself}
 use Rattle.std.specs.List.{AllByRecursion, flat_map, list_any}
@@ -19,12 +19,13 @@ use Rattle.index_laws.specs.Laws.{itself, never}
 use Rattle.index_laws.specs.Parts.{Among, OfRow, RowChange, same}
 use Rattle.index_laws.specs.Whole.{IndexPart, part_table}
 use Rattle.index_laws.proofs.Found.{same_back}
-use Rattle.table_rows.specs.Rows.{has_columns, key_of, places_of, rows_table}
+use Rattle.table_rows.specs.Rows.{has_columns, index_columns, index_places, key_of, part_places, places_of, rows_table}
+use Rattle.table_rows.proofs.IndexRows.{not_first}
 use Rattle.constraint_check.specs.Reads.{is_erase}
 use Rattle.constraint_check.proofs.Lists.{all_more}
 use Rattle.dml_exec.specs.Filling.{Row}
-use Rattle.write_laws.specs.Indexed.{index_columns, index_places, part_places}
-use Rattle.write_laws.specs.Indexing.{GoneEmptied, IsReady, all_deeds, index_deeds, part_deeds, parts_of, row_deeds, row_in}
+use Rattle.dml_exec.specs.Planning.{index_deeds, part_deeds, parts_of, row_in}
+use Rattle.write_laws.specs.Indexing.{GoneEmptied, IsReady, all_deeds, row_deeds}
 use Rattle.write_laws.proofs.Changes.{all_both}
 use Rattle.write_laws.proofs.Defined.{one_table}
 use Rattle.write_laws.proofs.Indexing.{deeds_there, part_among}
@@ -89,13 +90,6 @@ module _ (table : TableName) (key_of kept : OfRow) (skips : Row → Row → Bool
       (λ row is. ap (λ (o : Ordering). is_eq o && same (key_of row) at) (tied_itself table_cmp_total table) ∙ is) rows among
 
 -- ---- all parts
-
-suc_other : (i : ℕ) → nat_eq (suc i) 0 ≡ false
-suc_other i = by_test (nat_eq (suc i) 0) refl
-  where
-    by_test : (b : Bool) → nat_eq (suc i) 0 ≡ b → b ≡ false
-    by_test true is = let no : suc i ≡ 0 = eqb-true (suc i) 0 is in absurd (omega (arith, no))
-    by_test false is = refl
 
 among_more : {A : Type 0} (P Q : A → Type 0) → ((x : A) → P x → Q x) → (xs : List A) → Among P xs → Among Q xs
 among_more P Q on [] none = none
@@ -167,7 +161,7 @@ module _ (db : Database) (shape : TableTree) (equal : List Value → List Value 
   by_number : (number : ℕ) (at row : List Value) → db (part_table shape.name number) at ≡ Some row → IsErased (part_table shape.name number) at
   by_number zero at row stands = row_erased at row stands
   by_number (suc i) at row stands =
-      let known = ready.indexed.parts (part_table shape.name (suc i)) at row stands (suc_other i) in
+      let known = ready.indexed.parts (part_table shape.name (suc i)) at row stands (not_first (suc i) (omega arith)) in
       let itself : shape ≡ known.0 = one_table db shape known.0 ready.defined known.1 known.2 in
       by_names (slice_get (index_columns shape) i) refl (subst (λ (of : TableTree). IsSome (part_places of (suc i))) (sym itself) known.3)
     where

@@ -10,6 +10,7 @@ use Rattle.tsql_tree.specs.declared.definition.TableTree.{TableTree}
 use Rattle.tsql_tree.specs.declared.definition.TriggerTree.{TriggerTree}
 use Rattle.step_model.specs.declared.change.Planned.{Planned}
 use Rattle.step_model.specs.Database.{Database}
+use Rattle.step_model.specs.Own.{is_own}
 use Rattle.table_rows.specs.Definitions.{IsDefinitionOf, is_objects, object_key, objects_name}
 use Rattle.table_rows.specs.Rows.{rows_table}
 use Rattle.constraint_check.specs.Laws.{behind}
@@ -130,6 +131,10 @@ erased_all names = map definition_erased names
 pub all_of_objects : (names : List (List ℕ)) → AllByRecursion (λ change. change.table ≡ rows_table objects_name) (erased_all names)
 all_of_objects [] = tt
 all_of_objects (name ∷ names) = (refl, all_of_objects names)
+
+pub erased_own : (names : List (List ℕ)) → AllByRecursion (λ change. is_own change ≡ true) (erased_all names)
+erased_own [] = tt
+erased_own (name ∷ names) = (refl, erased_own names)
 
 pub was_all : (names : List (List ℕ)) (db : Database) (of : List ℕ) (definition : Definition) → IsDefined (behind db (erased_all names)) of definition → IsDefined db of definition
 was_all [] db of definition now = now

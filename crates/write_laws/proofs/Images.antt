@@ -57,10 +57,10 @@ from_asks width keeps (suc left) op so_far =
     on_came rest (more, Some on) = rest on more
 
 -- of one whole key, too
-pub in_asks : (shape : Option TableTree) (one : Bool) (op : Op) → AsksOnly IsFetch (rows_in shape one op)
+pub in_asks : (shape : Option TableTree) (one : Bool) (op : Op) → AsksOnly IsFetch (rows_in shape 0 one op)
 unfolding rows_in
-in_asks shape true op = asks_ok IsFetch (fetches (key_width shape) (fits shape) op []) (λ came. over (Ok came.0)) (fetch_asks (key_width shape) (fits shape) op []) (λ came. tt)
-in_asks shape false op = from_asks (key_width shape) (fits shape) range_limit op []
+in_asks shape true op = asks_ok IsFetch (fetches (key_width shape 0) (fits shape 0) op []) (λ came. over (Ok came.0)) (fetch_asks (key_width shape 0) (fits shape 0) op []) (λ came. tt)
+in_asks shape false op = from_asks (key_width shape 0) (fits shape 0) range_limit op []
 
 -- of what is given nothing is
 unless_asks : (P : Op → Type 0) (given : Option Rows) (fetched : Dialog (Result Rows Refusal)) → AsksOnly P fetched → AsksOnly P (unless_given given fetched)
@@ -69,7 +69,7 @@ unless_asks P (Some rows) fetched only = asks_room P Memory (over (Ok rows)) tt
 
 -- a range is read as one whole key
 abbrev is_one : List TableTree → TableRead → Bool
-is_one shapes read = is_one_key (key_width (shape_of read.0.table shapes)) read.0.start read.0.stop
+is_one shapes read = is_one_key (key_width (shape_of read.0.table shapes) 0) read.0.start read.0.stop
 
 table_asks : (given : GivenRows) (shapes : List TableTree) (level : Level) (read : TableRead) → AsksOnly IsFetch (reads_table given shapes level read)
 unfolding reads_table
@@ -95,7 +95,7 @@ top shapes read = reads_range (shape_of read.0.table shapes) Serializable read
 
 table_top : (given : GivenRows) (shapes : List TableTree) (read : TableRead) → AsksOnly HoldsIt (reads_table given shapes Serializable read)
 unfolding reads_table
-table_top given shapes read = unless_asks HoldsIt (given read.0.table) (top shapes read) (in_fetches read.0.table read.0.stop (part_of read.1) (shape_of read.0.table shapes) (is_one shapes read) read.0.start)
+table_top given shapes read = unless_asks HoldsIt (given read.0.table) (top shapes read) (in_fetches read.0.table read.0.stop (part_of read.1) (shape_of read.0.table shapes) 0 (is_one shapes read) read.0.start)
 
 from_top : (given : GivenRows) (shapes : List TableTree) (reads : List TableRead) (images : List Rows) → AsksOnly HoldsIt (images_from given shapes Serializable images reads)
 unfolding images_from
@@ -113,7 +113,7 @@ module _ (db : Database) (one : KeysAreOne db) (manner : Manner) (given : GivenR
       → Held manner (unless_given rows_given (top shapes read)) part (Ok rows) → IsImageOf rows_given db shapes read.0 rows
   unfolding Held
   image_read None read rows part long answered held =
-      read_in db one manner (shape_of read.0.table shapes) (is_one shapes read) read.0 (part_of read.1) rows part answered held long (told_one (key_width (shape_of read.0.table shapes)) read.0.start read.0.stop)
+      read_in db one manner (shape_of read.0.table shapes) 0 (is_one shapes read) read.0 (part_of read.1) rows part answered held long (told_one (key_width (shape_of read.0.table shapes) 0) read.0.start read.0.stop)
   image_read (Some found) read rows part long answered held = let over_so = held_room manner Memory (over (Ok found)) part rows held in cc
 
   -- behind those that were read so far

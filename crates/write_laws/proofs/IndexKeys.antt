@@ -17,14 +17,16 @@ use Rattle.step_model.specs.Database.{Database}
 use Rattle.step_model.specs.Dialog.{Dialog, Held, asks, tries}
 use Rattle.step_model.specs.Exchange.{CanReply, Exchange}
 use Rattle.step_model.specs.Fits.{AnswersIn}
+use Rattle.step_model.specs.Own.{is_own}
 use Rattle.constraint_check.specs.Laws.{KeysAreOne}
 use Rattle.constraint_check.proofs.Lists.{all_left, all_more, all_right}
 use Rattle.dml_exec.specs.declared.refusal.Refusal.{Refusal}
 use Rattle.dml_exec.specs.declared.refusal.Refusal.TheVariants.{Memory}
 use Rattle.dml_exec.specs.Asking.{◌>>=◌, with_room}
-use Rattle.write_laws.specs.IndexKept.{is_own}
-use Rattle.write_laws.specs.IndexKeys.{AskedStand, FoundAll, KeysTold, as_found, as_told, asked_of, asks_key, asks_keys, is_asked, row_told, stood_at}
-use Rattle.write_laws.specs.Indexing.{StandsThere, index_deeds, row_deeds}
+use Rattle.dml_exec.specs.Planning.{as_found, as_told, asked_of, index_deeds, is_asked}
+use Rattle.dml_exec.specs.Writing.{asks_key, asks_keys, row_told}
+use Rattle.write_laws.specs.IndexKeys.{AskedStand, FoundAll, KeysTold, stood_at}
+use Rattle.write_laws.specs.Indexing.{StandsThere, row_deeds}
 use Rattle.write_laws.specs.Made.{inserts}
 use Rattle.write_laws.specs.Reads.{HoldsIt, KeysHave, Tells, at_place}
 use Rattle.write_laws.proofs.Changes.{all_both}

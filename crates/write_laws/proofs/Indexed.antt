@@ -15,19 +15,19 @@ use Rattle.step_model.specs.declared.change.Deed.{Deed}
 use Rattle.step_model.specs.declared.change.Deed.TheVariants.{Erase, Replace, Insert}
 use Rattle.step_model.specs.declared.change.Planned.{Planned}
 use Rattle.step_model.specs.Database.{Database, With, is_at, with_change}
-use Rattle.step_model.specs.Own.{change_of, row_of}
+use Rattle.step_model.specs.Own.{change_of, is_own, row_of}
 use Rattle.step_model.proofs.Databases.{With-append}
 use Rattle.index_laws.specs.Parts.{Among, IsExact, OfRow, Part}
 use Rattle.index_laws.proofs.Behind.{gives}
 use Rattle.table_rows.specs.Definitions.{IsDefinitionOf, is_objects, object_key, objects_name}
-use Rattle.table_rows.specs.Rows.{rows_table, values_at}
+use Rattle.table_rows.specs.Rows.{index_part, part_places, rows_table, values_at}
 use Rattle.constraint_check.specs.Laws.{behind}
 use Rattle.constraint_check.specs.Reads.{is_erase}
 use Rattle.constraint_check.proofs.Behind.{name_is, same, same_itself}
 use Rattle.batch_meaning.specs.Changing.{definition_erased}
 use Rattle.statement_paths.specs.Paths.{definition_put}
-use Rattle.write_laws.specs.IndexKept.{AreEmptied, IndexedCreated, IndexedDropped, IndexedEmpty, IndexedErased, IndexedPut, OwnBehind, is_own}
-use Rattle.write_laws.specs.Indexed.{Indexed, index_part, own_rows, part_places}
+use Rattle.write_laws.specs.IndexKept.{AreEmptied, IndexedCreated, IndexedDropped, IndexedEmpty, IndexedErased, IndexedPut, OwnBehind}
+use Rattle.write_laws.specs.Indexed.{Indexed, own_rows}
 use Rattle.write_laws.specs.Keeping.{IsCreated, with_definition}
 use Rattle.write_laws.specs.Sound.{Firm, IsKnown, IsTableOf}
 use Rattle.write_laws.proofs.Created as created

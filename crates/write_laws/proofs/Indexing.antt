@@ -16,7 +16,7 @@ use Rattle.bound_tree.specs.Setting.{value_at}
 use Rattle.step_model.specs.declared.change.Change.{Change}
 use Rattle.step_model.specs.declared.change.Planned.{Planned}
 use Rattle.step_model.specs.Database.{Database, With, with_change}
-use Rattle.step_model.specs.Own.{change_of, is_insert}
+use Rattle.step_model.specs.Own.{change_of, is_insert, is_own}
 use Rattle.index_laws.specs.Deeds.{deeds_by, deeds_erased, deeds_written, erases, erases_if, inserts as inserts_row, replaces, rewrites_if}
 use Rattle.index_laws.specs.Laws.{FreshIn, FreshOne, IsElsewhere, MayIndex, itself, never}
 use Rattle.index_laws.specs.Moves.{planned_by, rewritten_if, written_by}
@@ -28,14 +28,14 @@ use Rattle.index_laws.proofs.Fresh.{fresh_may}
 use Rattle.index_laws.proofs.PartFresh.{olds_one, part_fresh}
 use Rattle.index_laws.proofs.Whole.{parts_kept, tells}
 use Rattle.table_rows.specs.Definitions.{object_key, objects_name}
-use Rattle.table_rows.specs.Rows.{has_columns, key_of, places_of, rows_table, values_at}
+use Rattle.table_rows.specs.Rows.{has_columns, index_columns, index_part, index_places, key_of, part_places, places_of, rows_table, values_at}
 use Rattle.constraint_check.specs.Laws.{behind}
 use Rattle.constraint_check.proofs.Behind.{name_is}
 use Rattle.constraint_check.proofs.Lists.{all_map, all_two}
 use Rattle.dml_exec.specs.Filling.{Row}
-use Rattle.write_laws.specs.IndexKept.{is_own}
-use Rattle.write_laws.specs.Indexed.{Indexed, index_columns, index_part, index_places, own_rows, part_places}
-use Rattle.write_laws.specs.Indexing.{CanChange, IndexFree, IndexStands, IndexedWritten, IsReady, StandsThere, all_deeds, index_deeds, part_deeds, parts_from, parts_of, row_deeds, row_in}
+use Rattle.dml_exec.specs.Planning.{index_deeds, part_deeds, parts_from, parts_of, row_in}
+use Rattle.write_laws.specs.Indexed.{Indexed, own_rows}
+use Rattle.write_laws.specs.Indexing.{CanChange, IndexFree, IndexStands, IndexedWritten, IsReady, StandsThere, all_deeds, row_deeds}
 use Rattle.write_laws.specs.Made.{ComeFree, IfSo, inserts, inserts_into_part}
 use Rattle.write_laws.specs.Reads.{KeysHave}
 use Rattle.write_laws.specs.Sound.{IsTableOf}
@@ -62,7 +62,7 @@ numbers_apart table other apart = by_test (is_eq (table_cmp table other)) refl
     by_test true is = absurd (apart (parts_equal table other is))
     by_test false is = refl
 
-numbers_above : (shape : TableTree) (columns : List (List (List ℕ))) (low number : ℕ) → low < number → AllByRecursion (λ (part : IndexPart). low < part.number) (parts_from shape number columns)
+pub numbers_above : (shape : TableTree) (columns : List (List (List ℕ))) (low number : ℕ) → low < number → AllByRecursion (λ (part : IndexPart). low < part.number) (parts_from shape number columns)
 numbers_above shape [] low number above = tt
 numbers_above shape (names ∷ columns) low number above = (above, numbers_above shape columns low (suc number) (omega (arith, above)))
 

@@ -1,5 +1,5 @@
 -- Changes that were made, one exchange for each.
-use Rattle.std.proofs.Common.{◌≡◌, refl, sym, ap, ◌∙◌, subst, ◌⊎◌, inl, inr, ℕ, Bool, true, false, not, ◌&&◌, if◌then◌else◌, List, [], ◌∷◌, ◌++◌, length, map, take, Option, Some, None, IsSome, is_some, Ok, Err, append-nil, append_assoc}
+use Rattle.std.proofs.Common.{◌≡◌, refl, sym, ap, ◌∙◌, subst, ◌⊎◌, inl, inr, ℕ, Bool, true, false, not, ◌&&◌, if◌then◌else◌, List, [], ◌∷◌, ◌++◌, length, map, take, Option, Some, None, IsSome, is_some, Result, Ok, Err, append-nil, append_assoc}
 use Rattle.std.proofs.lemmas.List.{map-append}
 use Rattle.std.specs.List.{flat_map}
 use Rattle.value_types.specs.declared.table_name.TableName.{TableName}
@@ -16,10 +16,10 @@ use Rattle.step_model.specs.declared.reply.Reply.{Reply}
 use Rattle.step_model.specs.declared.reply.Reply.TheVariants as replies
 use Rattle.step_model.specs.Database.{Database, With, with_change}
 use Rattle.step_model.specs.Dialog.{Held, IsQuiet, asks, over, tries}
-use Rattle.step_model.specs.Exchange.{Exchange}
+use Rattle.step_model.specs.Exchange.{CanReply, Exchange}
 use Rattle.step_model.specs.Fits.{FreshIn, NoRelax, NoneEnds, WritesAt, inserts_fresh, is_ended, is_relax, place_of, view}
 use Rattle.step_model.specs.Log.{Commit as Logged, State}
-use Rattle.step_model.specs.Own.{Progress, change_of, is_insert, none_open, progress_after, progress_of}
+use Rattle.step_model.specs.Own.{Progress, change_of, is_insert, is_own, none_open, progress_after, progress_of}
 use Rattle.step_model.proofs.Databases.{With-append}
 use Rattle.index_laws.specs.Deeds.{deeds_by, deeds_erased, deeds_written, erases_if, inserts as inserts_row, replaces, rewrites_if}
 use Rattle.index_laws.specs.Laws.{FreshOne, FreshRows, itself, never}
@@ -27,6 +27,7 @@ use Rattle.index_laws.specs.Moves.{erased_by, erased_if, rewritten_if, written_b
 use Rattle.index_laws.specs.Parts.{Among, IsOld, OfRow, RowChange, same}
 use Rattle.table_rows.specs.Rows.{key_of}
 use Rattle.constraint_check.specs.Laws.{behind}
+use Rattle.dml_exec.specs.Asking.{with_room}
 use Rattle.dml_exec.specs.Filling.{Row}
 use Rattle.dml_exec.specs.Writing.{asks_deed, done_by, no_room, present, writes_all, writes_one}
 use Rattle.write_laws.specs.Made.{AreMade, ComeFree, FreeFresh, IfSo, IsMadeBy, MadeLeave, TakenStand, WritesMake, inserts, inserts_into_part, op_of}
@@ -38,40 +39,63 @@ use Rattle.write_laws.proofs.TargetStands.{both_end, both_relax, place_past, tol
 -- ---- the exchanges of a dialog
 
 module _ (manner : Manner) (shapes : List TableTree) where
-  -- one exchange asks the operation, where it was done
-  abbrev IsAsked : Op → List Exchange → Type 0
-  IsAsked op part = (x : Exchange) × (part ≡ x ∷ []) × (x.op ≡ op) × (x.reply ≡ replies.Done)
+  -- one exchange asks the operation, and has this reply
+  abbrev IsAsked : Op → Reply → List Exchange → Type 0
+  IsAsked op reply part = (x : Exchange) × (part ≡ x ∷ []) × (x.op ≡ op) × (x.reply ≡ reply) × CanReply op reply
 
-  tried_asked : (op : Op) (quiet : IsQuiet op) (part : List Exchange) (came : Reply) → Held manner (tries op quiet over) part came → came ≡ replies.Done → IsAsked op part
+  tried_asked : (op : Op) (quiet : IsQuiet op) (part : List Exchange) (came : Reply) → Held manner (tries op quiet over) part came → (came ≡ replies.Memory → ⊥) → IsAsked op came part
   unfolding Held tries
-  tried_asked op quiet part came held done = by_room held.0 part held.1
+  tried_asked op quiet part came held other = by_room held.0 part held.1
     where
-      by_room : (enough : Bool) (part : List Exchange) → Held manner (if enough then asks op quiet over else over replies.Memory) part came → IsAsked op part
+      by_room : (enough : Bool) (part : List Exchange) → Held manner (if enough then asks op quiet over else over replies.Memory) part came → IsAsked op came part
       by_room true [] held = absurd held
-      by_room true (x ∷ later) held = (x, ap (λ (xs : List Exchange). x ∷ xs) held.3.0, held.0, sym held.3.1 ∙ done)
-      by_room false part held = absurd (let no : replies.Done ≡ replies.Memory = sym done ∙ held.1 in cc)
+      by_room true (x ∷ later) held = (x, ap (λ (xs : List Exchange). x ∷ xs) held.3.0, held.0, sym held.3.1, subst (CanReply op) (sym held.3.1) held.2)
+      by_room false part held = absurd (other held.1)
 
-  deed_asked : (table : TableName) (key : List Value) (deed : Deed) (part : List Exchange) (came : Reply) → Held manner (asks_deed table key deed) part came → came ≡ replies.Done → IsAsked (op_of table key deed) part
-  deed_asked table key deed.Erase part came held done = tried_asked (ops.Erase table key) tt part came held done
-  deed_asked table key (deed.Replace row) part came held done = tried_asked (ops.Replace table key row) tt part came held done
-  deed_asked table key (deed.Insert row) part came held done = tried_asked (ops.Insert table key row) tt part came held done
+  deed_asked : (table : TableName) (key : List Value) (deed : Deed) (part : List Exchange) (came : Reply) → Held manner (asks_deed table key deed) part came → (came ≡ replies.Memory → ⊥) → IsAsked (op_of table key deed) came part
+  deed_asked table key deed.Erase part came held other = tried_asked (ops.Erase table key) tt part came held other
+  deed_asked table key (deed.Replace row) part came held other = tried_asked (ops.Replace table key row) tt part came held other
+  deed_asked table key (deed.Insert row) part came held other = tried_asked (ops.Insert table key row) tt part came held other
 
-  was_done : (change : Planned) (reply : Reply) (part : List Exchange) (done : Unit {0}) → Held manner (done_by shapes change reply) part (Ok done) → (reply ≡ replies.Done) × (part ≡ [])
+  -- what comes of a change that is not refused: it is done, or a row of an index part is there
+  abbrev IsSo : Planned → Reply → Type 0
+  IsSo change replies.Done = Unit {0}
+  IsSo change replies.Exists = is_own change ≡ false
+  IsSo change reply = ⊥
+
+  was_done : (change : Planned) (reply : Reply) (part : List Exchange) (done : Unit {0}) → Held manner (done_by shapes change reply) part (Ok done) → IsSo change reply × (part ≡ [])
   unfolding Held
-  was_done change replies.Done part done held = (refl, held.0)
-  was_done change replies.Exists part done held = absurd (ok_err done _ (held_room manner no_room (over (Err (present shapes change.table change.key))) part done held).1)
+  was_done change replies.Done part done held = (tt, held.0)
+  was_done change replies.Exists part done held = by_own (is_own change) refl held
+    where
+      by_own : (own : Bool) → is_own change ≡ own → Held {A = Result (Unit {0}) _} manner (if own then with_room no_room (over (Err (present shapes change.table change.key))) else over (Ok tt)) part (Ok done) → (is_own change ≡ false) × (part ≡ [])
+      by_own true is held = absurd (ok_err done _ (held_room manner no_room (over (Err (present shapes change.table change.key))) part done held).1)
+      by_own false is held = (is, held.0)
   was_done change replies.Missing part done held = absurd (ok_err done _ held.1)
   was_done change replies.Memory part done held = absurd (ok_err done _ held.1)
   was_done change (replies.TimedOut holder what asked on) part done held = absurd (ok_err done _ held.1)
   was_done change (replies.Victim cycle) part done held = absurd (ok_err done _ held.1)
   was_done change reply part done held = absurd held
 
-  one_asked : (change : Planned) (part : List Exchange) (done : Unit {0}) → Held manner (writes_one shapes change) part (Ok done) → IsAsked (op_of change.table change.key change.deed) part
+  not_memory : (change : Planned) (reply : Reply) → IsSo change reply → reply ≡ replies.Memory → ⊥
+  not_memory change reply so is = subst (IsSo change) is so
+
+  -- a row is there for insertions alone
+  made_so : (change : Planned) (deed : Deed) (reply : Reply) → change.deed ≡ deed → CanReply (op_of change.table change.key deed) reply → IsSo change reply → IsMadeBy change reply
+  made_so change deed replies.Done is can so = tt
+  made_so change deed.Erase replies.Exists is can so = absurd can
+  made_so change (deed.Replace row) replies.Exists is can so = absurd can
+  made_so change (deed.Insert row) replies.Exists is can so = (so, ap is_insert is)
+  made_so change deed reply is can so = absurd so
+
+  one_asked : (change : Planned) (part : List Exchange) (done : Unit {0}) → Held manner (writes_one shapes change) part (Ok done)
+      → (x : Exchange) × (part ≡ x ∷ []) × (x.op ≡ op_of change.table change.key change.deed) × IsMadeBy change x.reply
   unfolding writes_one
   one_asked change part done held =
       let h = held_both manner (asks_deed change.table change.key change.deed) (done_by shapes change) part (Ok done) held in
       let was = was_done change h.came h.second done h.more in
-      subst (IsAsked (op_of change.table change.key change.deed)) (sym (h.parts ∙ ap (λ (xs : List Exchange). h.first ++ xs) was.1 ∙ append-nil h.first)) (deed_asked change.table change.key change.deed h.first h.came h.held was.0)
+      let one = deed_asked change.table change.key change.deed h.first h.came h.held (not_memory change h.came was.0) in
+      (one.0, h.parts ∙ ap (λ (xs : List Exchange). h.first ++ xs) was.1 ∙ append-nil h.first ∙ one.1, one.2, subst (IsMadeBy change) (sym one.3) (made_so change change.deed h.came refl one.4 was.0))
 
   all_made : (changes : List Planned) (part : List Exchange) (done : Unit {0}) → Held manner (writes_all shapes changes) part (Ok done) → AreMade changes part
   unfolding Held writes_all
@@ -83,7 +107,7 @@ module _ (manner : Manner) (shapes : List TableTree) where
         h.second,
         h.parts ∙ ap (λ (xs : List Exchange). xs ++ h.second) one.1,
         one.2,
-        subst (IsMadeBy change) (sym one.3) tt,
+        one.3,
         all_made changes h.second done h.more,
       )
 

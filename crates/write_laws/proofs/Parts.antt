@@ -93,7 +93,7 @@ goes_on (Fetch table start stop Range part) (Ended place) holds can = absurd can
 goes_on (Fetch table start stop Range part) reply holds can = refl
 goes_on op reply holds can = absurd holds
 
-same_place : (behind : ℕ) (part later : List Exchange) → AllByRecursion IsFetched part → place_of behind (part ++ later) ≡ place_of behind later
+pub same_place : (behind : ℕ) (part later : List Exchange) → AllByRecursion IsFetched part → place_of behind (part ++ later) ≡ place_of behind later
 same_place behind [] later all = refl
 same_place behind (x ∷ part) later all = not_ended x.reply (place_of behind (part ++ later)) (goes_on x.op x.reply all.0.0 all.0.1) ∙ same_place behind part later all.1
 

@@ -9,7 +9,7 @@ use Rattle.tsql_tree.specs.declared.definition.TableTree.{TableTree}
 use Rattle.bound_tree.specs.declared.write.BoundWrite.{BoundWrite}
 use Rattle.bound_tree.specs.declared.write.BoundWrite.TheVariants.{Update}
 use Rattle.step_model.specs.declared.change.Deed.TheVariants.{Replace}
-use Rattle.table_rows.specs.Rows.{has_columns}
+use Rattle.table_rows.specs.Rows.{has_columns, index_columns}
 use Rattle.dml_exec.specs.Filling.{Row, filled, null_row}
 use Rattle.dml_exec.specs.Planning.{Chg}
 use Rattle.write_laws.specs.Planning.{rows_before}
@@ -50,4 +50,5 @@ lacks : has_columns t.columns short ≡ false
 lacks = refl
 
 stays_short : Chg [] [] t [] same ((short ∷ []) ∷ []) ≡ Ok (record { table = table; key = number 1 ∷ []; deed = Replace short } ∷ [])
+unfolding index_columns
 stays_short = refl

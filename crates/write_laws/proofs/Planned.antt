@@ -25,22 +25,24 @@ use Rattle.query_eval.proofs.Images.{by_last, by_steps}
 use Rattle.query_laws.specs.Laws.{AllOf}
 use Rattle.query_laws.proofs.Lists.{all_of_each, each_gives}
 use Rattle.step_model.specs.declared.change.Planned.{Planned}
+use Rattle.step_model.specs.Own.{own_changes}
 use Rattle.constraint_check.specs.Local.{first_local}
 use Rattle.constraint_check.proofs.Behind.{name_is}
 use Rattle.table_rows.specs.Rows.{is_shape_of, rows_table, shape_of}
-use Rattle.constraint_check.specs.Reads.{reads_for}
+use Rattle.constraint_check.specs.Meant.{reads_meant}
 use Rattle.constraint_check.specs.Integrity.{AreKept}
 use Rattle.constraint_check.specs.Laws.{Passes, behind}
 use Rattle.constraint_check.proofs.Keeping.{checked_kept}
 use Rattle.dml_exec.specs.declared.rewritten.Rewritten.{Rewritten}
 use Rattle.dml_exec.specs.declared.rewritten.Rewritten.TheVariants.{Inserted, Set, Erased}
 use Rattle.dml_exec.specs.Filling.{Row, filled, null_row}
-use Rattle.dml_exec.specs.Planning.{changes_of, checked, has_key, new_rows, outside_limits, rewritten, row_set, rows_added, rows_deleted, rows_updated, table_written, unless_wrong, values_given, values_selected, values_set}
+use Rattle.dml_exec.specs.Planning.{all_changes, checked, has_keys, new_rows, outside_limits, rewritten, row_set, rows_added, rows_deleted, rows_updated, table_written, unless_wrong, values_given, values_selected, values_set}
 use Rattle.write_laws.specs.Planning.{IsRight, PlannedFits, PlannedKept, PlannedRight, RowsFit, ShapeNamed, rows_before, target_image}
 use Rattle.write_laws.proofs.Stored.{filled_fits, null_fits}
 use Rattle.write_laws.proofs.Targets.{meant_all, target_left}
 use Rattle.write_laws.proofs.Behind.{fits_behind}
 use Rattle.write_laws.proofs.Changes.{AreNew, HasColumns, changes_right}
+use Rattle.write_laws.proofs.OwnPlans.{own_made}
 
 all_of : {A : Type 0} (P : A → Type 0) (xs : List A) → AllByRecursion P xs → AllOf P xs
 all_of P [] all = tt
@@ -108,16 +110,18 @@ module _ (vars system : List Value) (shape : TableTree) where
 
   module _ (checks : List BoundTest) (planned : List Planned) (table : TableName) (named : table ≡ rows_table shape.name) where
     checked_right : (came : Rewritten) → AreNew shape came → (fault : Option EvalFault) → first_local (new_rows came) shape checks ≡ fault
-        → unless_wrong fault (changes_of table (key_places (Some shape)) came) ≡ Ok planned → IsRight shape checks planned
-    checked_right came kept None alone e = let same : changes_of table (key_places (Some shape)) came ≡ planned = cc in subst (IsRight shape checks) same (changes_right shape checks table named came kept alone)
+        → unless_wrong fault (all_changes table shape came) ≡ Ok planned → IsRight shape checks (own_changes planned)
+    checked_right came kept None alone e =
+        let same : all_changes table shape came ≡ planned = cc in
+        subst (IsRight shape checks) (sym (own_made table shape planned came named (sym same))) (changes_right shape checks (rows_table shape.name) refl came kept alone)
     checked_right came kept (Some fault) alone e = cc
 
-    outcome_right : (outcome : Outcome Rewritten) → ((came : Rewritten) → outcome ≡ Ok came → AreNew shape came) → checked table shape checks outcome ≡ Ok planned → IsRight shape checks planned
+    outcome_right : (outcome : Outcome Rewritten) → ((came : Rewritten) → outcome ≡ Ok came → AreNew shape came) → checked table shape checks outcome ≡ Ok planned → IsRight shape checks (own_changes planned)
     outcome_right (Err number) kept e = cc
     outcome_right (Ok came) kept e = checked_right came (kept came refl) (first_local (new_rows came) shape checks) refl e
 
     keyed_right : (test : Bool) (outcome : Outcome Rewritten) → ((came : Rewritten) → outcome ≡ Ok came → AreNew shape came)
-        → (if test then checked table shape checks outcome else Err (Number outside_limits)) ≡ Ok planned → IsRight shape checks planned
+        → (if test then checked table shape checks outcome else Err (Number outside_limits)) ≡ Ok planned → IsRight shape checks (own_changes planned)
     keyed_right true outcome kept e = outcome_right outcome kept e
     keyed_right false outcome kept e = cc
 
@@ -139,7 +143,7 @@ shape_named table (first ∷ rest) shape is = by_test (is_shape_of table first) 
 
 pub planned_right : PlannedRight
 planned_right vars system shape checks of images planned named all e =
-    keyed_right vars system shape checks planned (table_written of) named (has_key (key_places (Some shape))) (rewritten vars system shape of images)
+    keyed_right vars system shape checks planned (table_written of) named (has_keys shape) (rewritten vars system shape of images)
     (λ came. rewritten_kept vars system shape of images came (all_of (HasColumns shape) (rows_before of images) all)) e
 
 pub planned_fits : PlannedFits
@@ -164,5 +168,5 @@ planned_kept db tests shapes vars system shape of images planned kept passed all
       writes = right.3.writes;
       fit = right.3.fit;
       alone = right.3.alone;
-      passes = subst (λ (changes : List Planned). AllByRecursion (Passes (behind db changes)) (reads_for changes shapes)) right.2 passed.passes;
+      passes = subst (λ (changes : List Planned). AllByRecursion (Passes (behind db changes)) (reads_meant changes shapes)) right.2 passed.passes;
     }))

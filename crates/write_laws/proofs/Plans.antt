@@ -5,7 +5,6 @@ use Rattle.std.specs.List.{AllByRecursion, flat_map}
 use Rattle.value_types.specs.declared.table_name.TableName.{TableName}
 use Rattle.value_types.specs.declared.value.Value.{Value}
 use Rattle.tsql_tree.specs.declared.definition.TableTree.{TableTree}
-use Rattle.tsql_tree.specs.Places.{key_places}
 use Rattle.bound_tree.specs.declared.expr.BoundTest.{BoundTest}
 use Rattle.bound_tree.specs.declared.write.BoundWrite.{BoundWrite}
 use Rattle.bound_tree.specs.Outcomes.{Outcome}
@@ -20,7 +19,7 @@ use Rattle.constraint_check.specs.Local.{first_local}
 use Rattle.dml_exec.specs.declared.rewritten.Rewritten.{Rewritten}
 use Rattle.dml_exec.specs.declared.rewritten.Rewritten.TheVariants.{Inserted, Set, Erased}
 use Rattle.dml_exec.specs.Filling.{Row}
-use Rattle.dml_exec.specs.Planning.{Chg, Plan, changes_of, checked, erasure, has_key, insertion, moved, new_rows, outside_limits, rewrite, rewritten, stays, table_written, unless_wrong}
+use Rattle.dml_exec.specs.Planning.{Chg, Plan, all_changes, changes_of, checked, erasure, has_keys, insertion, moved, new_rows, outside_limits, rewrite, rewritten, stays, table_written, unless_wrong}
 use Rattle.batch_meaning.specs.Changing.{planned_as, planned_in, planned_over, planned_with}
 use Rattle.batch_meaning.specs.Progress.{SessionProgress, system_in, values_of}
 use Rattle.batch_meaning.specs.Raised.{Around}
@@ -29,11 +28,11 @@ use Rattle.write_laws.proofs.Changes.{all_both}
 
 -- ---- a plan is the changes of what is made of rows
 
-abbrev Makes : TableName → TableTree → List Planned → Outcome Rewritten → Type 0
-Makes table shape planned outcome = (came : Rewritten) × (outcome ≡ Ok came) × (planned ≡ changes_of table (key_places (Some shape)) came)
+abbrev pub Makes : TableName → TableTree → List Planned → Outcome Rewritten → Type 0
+Makes table shape planned outcome = (came : Rewritten) × (outcome ≡ Ok came) × (planned ≡ all_changes table shape came)
 
 module _ (table : TableName) (shape : TableTree) (checks : List BoundTest) (planned : List Planned) where
-  made_unless : (came : Rewritten) (fault : Option EvalFault) → unless_wrong fault (changes_of table (key_places (Some shape)) came) ≡ Ok planned → planned ≡ changes_of table (key_places (Some shape)) came
+  made_unless : (came : Rewritten) (fault : Option EvalFault) → unless_wrong fault (all_changes table shape came) ≡ Ok planned → planned ≡ all_changes table shape came
   made_unless came None e = cc
   made_unless came (Some fault) e = cc
 
@@ -47,7 +46,7 @@ module _ (table : TableName) (shape : TableTree) (checks : List BoundTest) (plan
 
 pub made_of : (vars system : List Value) (shape : TableTree) (checks : List BoundTest) (of : BoundWrite) (images : List (List Row)) (planned : List Planned) → Chg vars system shape checks of images ≡ Ok planned
     → Makes (table_written of) shape planned (rewritten vars system shape of images)
-made_of vars system shape checks of images planned e = made_keyed (table_written of) shape checks planned (has_key (key_places (Some shape))) (rewritten vars system shape of images) e
+made_of vars system shape checks of images planned e = made_keyed (table_written of) shape checks planned (has_keys shape) (rewritten vars system shape of images) e
 
 -- ---- what holds of every change of rows
 
@@ -68,14 +67,14 @@ module _ (table : TableName) (key : List ℕ) (P : Planned → Type 0) (erased :
   all_moved [] = tt
   all_moved (pair ∷ pairs) = all_both P (moved table key pair) (flat_map (moved table key) pairs) (moved_all pair) (all_moved pairs)
 
-  pub all_changes : (came : Rewritten) → AllByRecursion P (changes_of table key came)
-  all_changes (Inserted rows) = all_made (insertion table key) inserted rows
-  all_changes (Set olds news) = all_both P (flat_map (moved table key) (zip olds news)) (map (rewrite table key) (zip olds news)) (all_moved (zip olds news)) (all_made (rewrite table key) replaced (zip olds news))
-  all_changes (Erased rows) = all_made (erasure table key) erased rows
+  pub of_changes : (came : Rewritten) → AllByRecursion P (changes_of table key came)
+  of_changes (Inserted rows) = all_made (insertion table key) inserted rows
+  of_changes (Set olds news) = all_both P (flat_map (moved table key) (zip olds news)) (map (rewrite table key) (zip olds news)) (all_moved (zip olds news)) (all_made (rewrite table key) replaced (zip olds news))
+  of_changes (Erased rows) = all_made (erasure table key) erased rows
 
 -- a key has as many values as there are places
 pub keys_long : (table : TableName) (key : List ℕ) (came : Rewritten) → AllByRecursion (λ change. (change.table ≡ table) × (length change.key ≡ length key)) (changes_of table key came)
-keys_long table key came = all_changes table key P (λ row. (refl, long row)) (λ row. (refl, long row)) replaced came
+keys_long table key came = of_changes table key P (λ row. (refl, long row)) (λ row. (refl, long row)) replaced came
   where
     P : Planned → Type 0
     P change = (change.table ≡ table) × (length change.key ≡ length key)

@@ -97,7 +97,7 @@ tie_one_by_one (x ∷ xs) (y ∷ ys) sorted_x sorted_y of_x of_y =
 
 module _ (db : Database) (table : TableName) (one : KeysAreOne db) (shape : TableTree) where
   abbrev keeps : Keeps
-  keeps = fits (Some shape)
+  keeps = fits (Some shape) 0
 
   abbrev kept_rows : List Entry → Rows
   kept_rows entries = map (λ (at : Entry). at.1) (filter keeps entries)

@@ -63,10 +63,11 @@ module _ (table : TableName) (stop : Stop) (lock : KeyPart) where
       on_came rest (more, None) = tt
       on_came rest (more, Some on) = rest on more
 
-  pub in_fetches : (shape : Option TableTree) (one : Bool) (start : Start) → Fetches (rows_in shape one (fetch start))
+  pub in_fetches : (shape : Option TableTree) (number : ℕ) (one : Bool) (start : Start) → Fetches (rows_in shape number one (fetch start))
   unfolding rows_in
-  in_fetches shape true start = asks_ok HoldsIt (fetches (key_width shape) (fits shape) (fetch start) []) (λ came. over (Ok came.0)) (tt, read_by_fetches (key_width shape) (fits shape) []) (λ came. tt)
-  in_fetches shape false start = from_fetches (key_width shape) (fits shape) range_limit start []
+  in_fetches shape number true start =
+      asks_ok HoldsIt (fetches (key_width shape number) (fits shape number) (fetch start) []) (λ came. over (Ok came.0)) (tt, read_by_fetches (key_width shape number) (fits shape number) []) (λ came. tt)
+  in_fetches shape number false start = from_fetches (key_width shape number) (fits shape number) range_limit start []
 
 -- ---- what comes of the replies
 
@@ -129,12 +130,12 @@ module _ (db : Database) (one_key : KeysAreOne db) (manner : Manner) (width : �
 
 -- ---- one whole key
 
-module _ (db : Database) (one_key : KeysAreOne db) (manner : Manner) (shape : Option TableTree) (table : TableName) (lock : KeyPart) (long : KeysHave (key_width shape) db table) (first last : List Value) (is_long : length first ≡ key_width shape) (tied : key_cmp first last ≡ Equal) where
+module _ (db : Database) (one_key : KeysAreOne db) (manner : Manner) (shape : Option TableTree) (number : ℕ) (table : TableName) (lock : KeyPart) (long : KeysHave (key_width shape number) db table) (first last : List Value) (is_long : length first ≡ key_width shape number) (tied : key_cmp first last ≡ Equal) where
   abbrev one_fetch : Op
   one_fetch = fetch table (Within last) lock (At first)
 
   abbrev keeps : Keeps
-  keeps = fits shape
+  keeps = fits shape number
 
   abbrev IsReadAt : Rows → Type 0
   IsReadAt rows = (entries : List Entry) × In db table (At first) (Within last) entries × (rows ≡ map (λ (at : Entry). at.1) (filter keeps entries))
@@ -145,7 +146,7 @@ module _ (db : Database) (one_key : KeysAreOne db) (manner : Manner) (shape : Op
   abbrev came_rows : Rows × Option Start → Dialog (Result Rows Refusal)
   came_rows came = over (Ok came.0)
 
-  on_one : (rows : Rows) (reply : Reply) (later : List Exchange) → CanReply one_fetch reply → AnswersIn db one_fetch reply → Held manner (read_by (key_width shape) keeps [] reply then on_ok came_rows) later (Ok rows) → IsReadAt rows
+  on_one : (rows : Rows) (reply : Reply) (later : List Exchange) → CanReply one_fetch reply → AnswersIn db one_fetch reply → Held manner (read_by (key_width shape number) keeps [] reply then on_ok came_rows) later (Ok rows) → IsReadAt rows
   unfolding Held ◌then◌
   on_one rows (Row key row at) later can answer held = by_room held.0 held.1
     where
@@ -153,16 +154,16 @@ module _ (db : Database) (one_key : KeysAreOne db) (manner : Manner) (shape : Op
       by_room true held =
           ((key, row) ∷ [], in_tied db table (At first) first last tied ((key, row) ∷ []) (one_row_in db table first as_long key row (first_tied db table (At first) first last tied (Some key) answer.0) answer.1), (let is : rows ≡ with_row keeps [] key row = cc in is) ∙ sym (append-nil (with_row keeps [] key row)) ∙ kept (keeps (key, row)) [] key row [])
       by_room false held = absurd (let no : Ok rows ≡ Err Memory = held.1 in cc)
-  on_one rows (Gone key at) later can answer held = by_room (is_short (key_width shape) key) held
+  on_one rows (Gone key at) later can answer held = by_room (is_short (key_width shape number) key) held
     where
       going : rows ≡ [] → IsReadAt rows
       going is = ([], in_tied db table (At first) first last tied [] (one_gone_in db table first as_long one_key key (both (allows (At first) key) (includes (Within last) key) can).0 answer.0 answer.1), is)
 
-      by_enough : (enough : Bool) → Held manner ((if enough then over (Ok ([], Some (behind_gone (key_width shape) key))) else over (Err Memory)) then on_ok came_rows) later (Ok rows) → IsReadAt rows
+      by_enough : (enough : Bool) → Held manner ((if enough then over (Ok ([], Some (behind_gone (key_width shape number) key))) else over (Err Memory)) then on_ok came_rows) later (Ok rows) → IsReadAt rows
       by_enough true held = going (let is : rows ≡ [] = cc in is)
       by_enough false held = absurd (let no : Ok rows ≡ Err Memory = held.1 in cc)
 
-      by_room : (short : Bool) → Held manner (with_room_if short Memory (over (Ok ([], Some (behind_gone (key_width shape) key)))) then on_ok came_rows) later (Ok rows) → IsReadAt rows
+      by_room : (short : Bool) → Held manner (with_room_if short Memory (over (Ok ([], Some (behind_gone (key_width shape number) key)))) then on_ok came_rows) later (Ok rows) → IsReadAt rows
       by_room true held = by_enough held.0 held.1
       by_room false held = going (let is : rows ≡ [] = cc in is)
   on_one rows (End at) later can answer held = ([], none_in db table (At first) (Within last) answer, (let is : rows ≡ [] = cc in is))
@@ -171,7 +172,7 @@ module _ (db : Database) (one_key : KeysAreOne db) (manner : Manner) (shape : Op
   on_one rows (Falls cycle) later can answer held = absurd (let no : Ok rows ≡ Err Victim = held.1 in cc)
   on_one rows reply later can answer held = absurd held
 
-  pub read_one : (rows : Rows) (part : List Exchange) → AllByRecursion (λ x. AnswersIn db x.op x.reply) part → Held manner (rows_in shape true one_fetch) part (Ok rows) → IsReadAt rows
+  pub read_one : (rows : Rows) (part : List Exchange) → AllByRecursion (λ x. AnswersIn db x.op x.reply) part → Held manner (rows_in shape number true one_fetch) part (Ok rows) → IsReadAt rows
   unfolding Held ◌then◌ rows_in
   read_one rows [] answered held = absurd held
   read_one rows (x ∷ later) answered held = on_one rows x.reply later held.2 (subst (λ (op : Op). AnswersIn db op x.reply) held.0 answered.0) held.3
@@ -190,20 +191,20 @@ told_one width (At key) (Within last) = by_test (nat_eq (length key) width && sa
 told_one width (Past key) stop = tt
 
 -- what is answered of one database is read of it
-pub read_in : (db : Database) → KeysAreOne db → (manner : Manner) (shape : Option TableTree) (one : Bool) (range : KeyRange) (lock : KeyPart) (rows : Rows) (part : List Exchange)
-    → AllByRecursion (λ x. AnswersIn db x.op x.reply) part → Held manner (rows_in shape one (fetch_of range Range lock)) part (Ok rows)
-    → KeysHave (key_width shape) db range.table → IfOne one (IsOneKey (key_width shape) range.start range.stop) → IsRead db (fits shape) range rows
+pub read_in : (db : Database) → KeysAreOne db → (manner : Manner) (shape : Option TableTree) (number : ℕ) (one : Bool) (range : KeyRange) (lock : KeyPart) (rows : Rows) (part : List Exchange)
+    → AllByRecursion (λ x. AnswersIn db x.op x.reply) part → Held manner (rows_in shape number one (fetch_of range Range lock)) part (Ok rows)
+    → KeysHave (key_width shape number) db range.table → IfOne one (IsOneKey (key_width shape number) range.start range.stop) → IsRead db (fits shape number) range rows
 unfolding rows_in
-read_in db one_key manner shape false range lock rows part answered held long whole = read_from db one_key manner (key_width shape) (fits shape) range.table range.stop lock long range_limit range.start [] rows part answered held
-read_in db one_key manner shape true range lock rows part answered held long whole = by_ends range.start range.stop whole held
+read_in db one_key manner shape number false range lock rows part answered held long whole = read_from db one_key manner (key_width shape number) (fits shape number) range.table range.stop lock long range_limit range.start [] rows part answered held
+read_in db one_key manner shape number true range lock rows part answered held long whole = by_ends range.start range.stop whole held
   where
-    by_ends : (start : Start) (stop : Stop) → IsOneKey (key_width shape) start stop → Held manner (rows_in shape true (Fetch range.table start stop Range lock)) part (Ok rows)
-        → (entries : List Entry) × In db range.table start stop entries × (rows ≡ map (λ (at : Entry). at.1) (filter (fits shape) entries))
-    by_ends (At key) (Within last) whole held = read_one db one_key manner shape range.table lock long key last whole.1 ((Equal-is (key_cmp key last)).0 whole.0) rows part answered held
+    by_ends : (start : Start) (stop : Stop) → IsOneKey (key_width shape number) start stop → Held manner (rows_in shape number true (Fetch range.table start stop Range lock)) part (Ok rows)
+        → (entries : List Entry) × In db range.table start stop entries × (rows ≡ map (λ (at : Entry). at.1) (filter (fits shape number) entries))
+    by_ends (At key) (Within last) whole held = read_one db one_key manner shape number range.table lock long key last whole.1 ((Equal-is (key_cmp key last)).0 whole.0) rows part answered held
     by_ends start stop whole held = absurd whole
 
 pub range_read : RangeRead
-range_read log mine before part later manner shape one range lock rows is holds held long whole =
-    read_in (at_place log before later) (one_place log before later) manner shape one range lock rows part
-    (answers log mine before part later is holds (all_asked HoldsIt manner (rows_in shape one (fetch_of range Range lock)) part (Ok rows) (in_fetches range.table range.stop lock shape one range.start) held))
+range_read log mine before part later manner shape number one range lock rows is holds held long whole =
+    read_in (at_place log before later) (one_place log before later) manner shape number one range lock rows part
+    (answers log mine before part later is holds (all_asked HoldsIt manner (rows_in shape number one (fetch_of range Range lock)) part (Ok rows) (in_fetches range.table range.stop lock shape number one range.start) held))
     held long whole

@@ -231,7 +231,7 @@ kept_fit {A} test (x ∷ all) = by_test (test x) refl (kept_fit test all)
 
 module _ (shape : TableTree) where
   abbrev Fits : Entry → Type 0
-  Fits at = fits (Some shape) at ≡ true
+  Fits at = fits (Some shape) 0 at ≡ true
 
   own_key : (at : Entry) → Fits at → same_key (key_of shape at.1) at.0 ≡ true
   own_key at fit = (and_parts (has_columns shape.columns at.1) (same_key (key_of shape at.1) at.0) fit).1
@@ -264,11 +264,11 @@ module _ (shape : TableTree) where
 
 pub taken_told : TakenTold
 taken_told part range hold lock shape image rows told some =
-    let kept : List Entry = filter (fits (Some shape)) told.0 in
+    let kept : List Entry = filter (fits (Some shape) 0) told.0 in
     let few = picked (λ (at : Entry). at.1) rows kept (subst (λ (image : List Row). AreSome rows image) told.3 some) in
-    let among : AreSome few.0 told.0 = some_of_some few.0 kept told.0 few.2 (some_filter (fits (Some shape)) told.0) in
+    let among : AreSome few.0 told.0 = some_of_some few.0 kept told.0 few.2 (some_filter (fits (Some shape) 0) told.0) in
     let sorted : Sorted few.0 = sorted_some few.0 told.0 among told.1 in
-    let fit : AllByRecursion (Fits shape) few.0 = all_of_some (Fits shape) few.0 kept few.2 (kept_fit (fits (Some shape)) told.0) in
+    let fit : AllByRecursion (Fits shape) few.0 = all_of_some (Fits shape) few.0 kept few.2 (kept_fit (fits (Some shape) 0) told.0) in
     subst (λ (rows : List Row). AllByRecursion (IsTaken part range hold lock shape) rows × AreApart shape rows) (sym few.1)
     (are_taken shape part range hold lock few.0 (all_of_some (ToldThere part range hold lock) few.0 told.0 among told.2) fit, are_apart shape few.0 sorted fit)
 

@@ -1,5 +1,5 @@
--- What is read for changes is of tables that are there.
-use Rattle.std.proofs.Common.{◌≡◌, ℕ, Bool, true, false, if◌then◌else◌, nat_eq, List, [], ◌∷◌, ◌++◌, map, filter, Option, None, Some, IsTrue, refl, ap, subst}
+-- What is read for changes is of parts whose rows fit.
+use Rattle.std.proofs.Common.{◌≡◌, ℕ, suc, Bool, true, false, if◌then◌else◌, nat_eq, List, [], ◌∷◌, ◌++◌, map, Option, None, Some, IsTrue, refl, sym, subst}
 use Rattle.std.specs.Prelude.{IsSome}
 use Rattle.std.specs.List.{AllByRecursion, flat_map, list_any}
 use Rattle.std.proofs.lemmas.Bool.{eqb-true}
@@ -7,47 +7,33 @@ use Rattle.value_types.specs.Units.{same_units}
 use Rattle.value_types.specs.declared.table_name.TableName.{TableName}
 use Rattle.value_types.specs.declared.value.Value.{Value}
 use Rattle.tsql_tree.specs.declared.definition.ForeignTree.{ForeignTree}
+use Rattle.tsql_tree.specs.declared.definition.KeyTree.{KeyTree}
 use Rattle.tsql_tree.specs.declared.definition.TableTree.{TableTree}
 use Rattle.bound_tree.specs.Meaning.{is_null}
 use Rattle.step_model.specs.declared.change.Planned.{Planned}
-use Rattle.step_model.specs.declared.range.Start.TheVariants.{At}
-use Rattle.step_model.specs.declared.range.Stop.TheVariants.{Within}
+use Rattle.step_model.specs.declared.range.KeyRange.{KeyRange}
+use Rattle.step_model.specs.declared.range.Start.TheVariants.{First, At}
+use Rattle.step_model.specs.declared.range.Stop.TheVariants.{Last, Within}
 use Rattle.step_model.specs.Database.{Database}
 use Rattle.step_model.specs.Own.{row_of}
-use Rattle.table_rows.specs.Rows.{is_shape_of, places_of, rows_table, shape_of, values_at}
+use Rattle.index_laws.proofs.Found.{same_back}
+use Rattle.table_rows.specs.Rows.{has_columns, index_part, index_places, is_shape_of, key_of, part_shape, places_of, row_fits, rows_table, same_key, shape_of, values_at}
+use Rattle.table_rows.proofs.Columns.{index_row_fits}
 use Rattle.constraint_check.specs.declared.check_read.CheckRead.{CheckRead}
-use Rattle.constraint_check.specs.Reads.{all_rows, child_read, child_reads, child_where, is_gone, is_key, of_both, of_key, of_row, parent_read, parent_reads, parent_reads_of, reads_for, row_at, unique_read, unique_reads}
-use Rattle.constraint_check.proofs.Behind.{name_is, name_itself}
-use Rattle.constraint_check.proofs.Lists.{all_more}
+use Rattle.constraint_check.specs.Reads.{all_rows, child_read, child_reads, child_where, first_foreign, index_rows, is_gone, is_key, of_both, of_key, of_row, parent_read, parent_reads, parent_reads_from, parent_reads_of, reads_for, row_at, unique_reads, unique_reads_from}
+use Rattle.constraint_check.proofs.Behind.{name_is}
+use Rattle.constraint_check.proofs.Lists.{all_more, all_two}
 use Rattle.history_laws.proofs.Basics.{both}
 use Rattle.history_laws.proofs.Splits.{all_both}
 use Rattle.dml_exec.specs.Reading.{fits}
+use Rattle.write_laws.specs.Checking.{ArePartsFrom, CanCheck, HasParts, IsPart}
 use Rattle.write_laws.specs.Reading.{ReadsReady}
-use Rattle.write_laws.specs.Reads.{AllFit, HasParent, HaveParents, RowsFit}
+use Rattle.write_laws.specs.Reads.{AllFit, HasParent, RowsFit}
 
 -- ---- shapes by their names
 
 abbrev IsThere : List TableTree → TableName → Type 0
 IsThere shapes table = IsSome (shape_of table shapes)
-
-there_more : (first : TableTree) (shapes : List TableTree) (table : TableName) → IsThere shapes table → IsThere (first ∷ shapes) table
-there_more first shapes table is = by_test (is_shape_of table first)
-  where
-    by_test : (b : Bool) → IsSome (if b then Some first else shape_of table shapes)
-    by_test true = refl
-    by_test false = is
-
--- each of them is there by its name
-all_there : (shapes : List TableTree) → AllByRecursion (λ of. IsThere shapes (rows_table of.name)) shapes
-all_there [] = tt
-all_there (first ∷ shapes) = (
-  ap (λ (b : Bool). is_some_in (if b then Some first else shape_of (rows_table first.name) shapes)) (name_itself first.name),
-  all_more (λ of. IsThere shapes (rows_table of.name)) (λ of. IsThere (first ∷ shapes) (rows_table of.name)) (λ of is. there_more first shapes (rows_table of.name) is) shapes (all_there shapes),
-)
-  where
-    is_some_in : Option TableTree → Bool
-    is_some_in None = false
-    is_some_in (Some of) = true
 
 -- a fact of all of them is one of the one of a name
 of_shape : (P : TableTree → Type 0) (table : TableName) (shapes : List TableTree) (shape : TableTree) → shape_of table shapes ≡ Some shape → AllByRecursion P shapes → P shape
@@ -73,12 +59,16 @@ shape_named table (first ∷ shapes) shape is = by_test (is_shape_of table first
     by_test false named is rest = rest is
 
 -- so all rows of a table that is there fit its shape
-pub fit_there : (db : Database) (shapes : List TableTree) → AllByRecursion (RowsFit db) shapes → (table : TableName) → IsThere shapes table → AllFit db shapes table
+fit_there : (db : Database) (shapes : List TableTree) → AllByRecursion (RowsFit db) shapes → (table : TableName) → IsThere shapes table → AllFit db shapes table
 fit_there db shapes fit table there key row is = by_shape (shape_of table shapes) refl there
   where
-    by_shape : (o : Option TableTree) → shape_of table shapes ≡ o → IsSome o → IsTrue (fits o (key, row))
+    by_shape : (o : Option TableTree) → shape_of table shapes ≡ o → IsSome o → IsTrue (fits (part_shape table shapes) table.part (key, row))
     by_shape None none there = absurd (let no : false ≡ true = there in cc)
-    by_shape (Some shape) shaped there = of_shape (RowsFit db) table shapes shape shaped fit key row (subst (λ (t : TableName). db t key ≡ Some row) (shape_named table shapes shape shaped) is)
+    by_shape (Some shape) shaped there =
+        let named : table ≡ rows_table shape.name = shape_named table shapes shape shaped in
+        let known : shape_of (rows_table shape.name) shapes ≡ Some shape = subst (λ (t : TableName). shape_of t shapes ≡ Some shape) named shaped in
+        subst (λ (t : TableName). IsTrue (fits (part_shape t shapes) t.part (key, row))) (sym named)
+        (subst (λ (o : Option TableTree). IsTrue (fits o 0 (key, row))) (sym known) (of_shape (RowsFit db) table shapes shape shaped fit key row (subst (λ (t : TableName). db t key ≡ Some row) named is)))
 
 -- ---- lists
 
@@ -96,9 +86,58 @@ all_each P (x ∷ xs) all = (all x, all_each P xs all)
 
 -- ---- the reads
 
-module _ (shapes : List TableTree) (parents : HaveParents shapes) where
-  abbrev pub IsGoodRead : CheckRead → Type 0
-  IsGoodRead read = IsThere shapes read.range.table
+-- what is read of such a table fits
+abbrev RangeFits : Database → List TableTree → KeyRange → Type 0
+RangeFits db shapes range = AllFit db shapes range.table
+
+-- the rows that are read of an index part are rows of it
+of_part : (db : Database) (shapes : List TableTree) (shape : TableTree) (part : ℕ) (values : List Value) → AllFit db shapes (index_part shape part) → AllFit db shapes (index_rows shape part values).table
+of_part db shapes shape part values fit = by_test (is_key values)
+  where
+    by_test : (b : Bool)
+        → RangeFits db shapes (if b then (record { table = index_part shape part; start = At values; stop = Within values }) else (record { table = index_part shape part; start = First; stop = Last }))
+    by_test true = fit
+    by_test false = fit
+
+-- of one of the tables, whose rows fit
+module _ (db : Database) (shapes : List TableTree) (shape : TableTree) (known : shape_of (rows_table shape.name) shapes ≡ Some shape) (fit : RowsFit db shape) where
+  abbrev IsFit : CheckRead → Type 0
+  IsFit read = AllFit db shapes read.range.table
+
+  -- each row of an index part is the index row of one that fits
+  part_fits : (part : ℕ) (columns : List (List ℕ)) → IsPart db shape part columns → AllFit db shapes (index_part shape part)
+  part_fits part columns has key row is =
+      let places : List ℕ = index_places shape columns in
+      let from = has.1.stands key row is in
+      let own = both (has_columns shape.columns from.1) (same_key (key_of shape from.1) from.0) (fit from.0 from.1 from.2) in
+      subst (λ (o : Option TableTree). IsTrue (fits o part (key, row))) (sym known)
+      (subst (λ (r : List Value). IsTrue (row_fits shape part key r)) (sym from.3) (index_row_fits shape part places key from.1 has.0 own.0 (same_back key (values_at places from.1) from.4)))
+
+  uniques_fit : (row : List Value) (part : ℕ) (keys : List KeyTree) → ArePartsFrom db shape (λ (key : KeyTree). key.columns) part keys → AllByRecursion IsFit (unique_reads_from shape row part keys)
+  uniques_fit row part [] has = tt
+  uniques_fit row part (key ∷ keys) has = (of_part db shapes shape part (values_at (places_of shape key.columns) row) (part_fits part key.columns has.0), uniques_fit row (suc part) keys has.1)
+
+  parents_fit : (table : TableName) (gone : List Value) (part : ℕ) (foreigns : List ForeignTree) → ArePartsFrom db shape (λ (foreign : ForeignTree). foreign.columns) part foreigns → AllByRecursion IsFit (parent_reads_from table gone shape part foreigns)
+  parents_fit table gone part [] has = tt
+  parents_fit table gone part (foreign ∷ foreigns) has = by_test (same_units foreign.parent table.object) (parents_fit table gone (suc part) foreigns has.1)
+    where
+      by_test : (b : Bool) → AllByRecursion IsFit (parent_reads_from table gone shape (suc part) foreigns)
+          → AllByRecursion IsFit (if b then parent_read gone shape part foreign ∷ parent_reads_from table gone shape (suc part) foreigns else parent_reads_from table gone shape (suc part) foreigns)
+      by_test true rest = (of_part db shapes shape part gone (part_fits part foreign.columns has.0), rest)
+      by_test false rest = rest
+
+module _ (db : Database) (shapes : List TableTree) (can : CanCheck db shapes) where
+  abbrev IsGoodRead : CheckRead → Type 0
+  IsGoodRead read = AllFit db shapes read.range.table
+
+  -- one of the tables: the first of its name, whose rows fit, with its parts
+  abbrev IsGood : TableTree → Type 0
+  IsGood of = (shape_of (rows_table of.name) shapes ≡ Some of) × (RowsFit db of × HasParts db of)
+
+  all_shapes : AllByRecursion IsGood shapes
+  all_shapes =
+      all_two (λ of. shape_of (rows_table of.name) shapes ≡ Some of) (λ of. RowsFit db of × HasParts db of) IsGood (λ of known has. (known, has)) shapes can.each
+      (all_two (RowsFit db) (HasParts db) (λ of. RowsFit db of × HasParts db of) (λ of fit parts. (fit, parts)) shapes can.rows can.parts)
 
   -- the shape of a table and a row, where there are both
   of_good : (reads : TableTree → List Value → List CheckRead) → ((shape : TableTree) (table : TableName) → shape_of table shapes ≡ Some shape → (row : List Value) → AllByRecursion IsGoodRead (reads shape row))
@@ -111,28 +150,28 @@ module _ (shapes : List TableTree) (parents : HaveParents shapes) where
       by_both (Some shape) is (Some row) = good shape change.table is row
 
   unique_good : (shape : TableTree) (table : TableName) → shape_of table shapes ≡ Some shape → (row : List Value) → AllByRecursion IsGoodRead (unique_reads shape row)
-  unique_good shape table is row = all_map_of IsGoodRead (unique_read shape row) shape.uniques (λ key. of_shape (λ of. IsThere shapes (rows_table of.name)) table shapes shape is (all_there shapes))
+  unique_good shape table is row = let has = of_shape IsGood table shapes shape is all_shapes in uniques_fit db shapes shape has.0 has.1.0 row 1 shape.uniques has.1.1.uniques
 
-  row_good : (name : List ℕ) (values : List Value) → IsThere shapes (rows_table name) → IsThere shapes (row_at name values).table
-  row_good name values there = by_test (is_key values)
+  row_good : (name : List ℕ) (values : List Value) → AllFit db shapes (rows_table name) → AllFit db shapes (row_at name values).table
+  row_good name values fit = by_test (is_key values)
     where
-      by_test : (b : Bool) → IsThere shapes (if b then (record { table = rows_table name; start = At values; stop = Within values }) else all_rows name).table
-      by_test true = there
-      by_test false = there
+      by_test : (b : Bool) → AllFit db shapes (if b then (record { table = rows_table name; start = At values; stop = Within values }) else all_rows name).table
+      by_test true = fit
+      by_test false = fit
 
-  where_good : (foreign : ForeignTree) (values : List Value) → IsThere shapes (rows_table foreign.parent) → AllByRecursion IsGoodRead (child_where shapes foreign values)
-  where_good foreign values there = by_test (list_any is_null values)
+  where_good : (foreign : ForeignTree) (values : List Value) → AllFit db shapes (rows_table foreign.parent) → AllByRecursion IsGoodRead (child_where shapes foreign values)
+  where_good foreign values fit = by_test (list_any is_null values)
     where
       by_test : (b : Bool) → AllByRecursion IsGoodRead (if b then [] else child_read shapes foreign values ∷ [])
       by_test true = tt
-      by_test false = (row_good foreign.parent values there, tt)
+      by_test false = (row_good foreign.parent values fit, tt)
 
   child_good : (shape : TableTree) (table : TableName) → shape_of table shapes ≡ Some shape → (row : List Value) → AllByRecursion IsGoodRead (child_reads shapes shape row)
   child_good shape table is row =
       all_flat_of IsGoodRead (λ foreign. child_where shapes foreign (values_at (places_of shape foreign.columns) row)) shape.foreigns
       (all_more (HasParent shapes shape) (λ foreign. AllByRecursion IsGoodRead (child_where shapes foreign (values_at (places_of shape foreign.columns) row)))
-      (λ foreign has. where_good foreign (values_at (places_of shape foreign.columns) row) has.0) shape.foreigns
-      (of_shape (λ of. AllByRecursion (HasParent shapes of) of.foreigns) table shapes shape is parents))
+      (λ foreign has. where_good foreign (values_at (places_of shape foreign.columns) row) (fit_there db shapes can.rows (rows_table foreign.parent) has.0)) shape.foreigns
+      (of_shape (λ of. AllByRecursion (HasParent shapes of) of.foreigns) table shapes shape is can.parents))
 
   key_good : (changes : List Planned) (change : Planned) → AllByRecursion IsGoodRead (of_key shapes changes change)
   key_good changes change = by_test (is_gone changes change)
@@ -140,8 +179,8 @@ module _ (shapes : List TableTree) (parents : HaveParents shapes) where
       by_test : (b : Bool) → AllByRecursion IsGoodRead (if b then parent_reads shapes change.table change.key else [])
       by_test true =
           all_flat_of IsGoodRead (parent_reads_of change.table change.key) shapes
-          (all_more (λ child. IsThere shapes (rows_table child.name)) (λ child. AllByRecursion IsGoodRead (parent_reads_of change.table change.key child))
-          (λ child there. all_map_of IsGoodRead (parent_read change.key child) (filter (λ foreign. same_units foreign.parent change.table.object) child.foreigns) (λ foreign. there)) shapes (all_there shapes))
+          (all_more IsGood (λ child. AllByRecursion IsGoodRead (parent_reads_of change.table change.key child))
+          (λ child has. parents_fit db shapes child has.0 has.1.0 change.table change.key (first_foreign child) child.foreigns has.1.1.foreigns) shapes all_shapes)
       by_test false = tt
 
   pub all_good : (changes : List Planned) → AllByRecursion IsGoodRead (reads_for changes shapes)
@@ -153,5 +192,4 @@ module _ (shapes : List TableTree) (parents : HaveParents shapes) where
       (all_flat_of IsGoodRead (of_key shapes changes) changes (all_each (λ change. AllByRecursion IsGoodRead (of_key shapes changes change)) changes (key_good changes))))
 
 pub reads_ready : ReadsReady
-reads_ready db shapes changes fit parents =
-    all_more (IsGoodRead shapes parents) (λ read. AllFit db shapes read.range.table) (λ read there. fit_there db shapes fit read.range.table there) (reads_for changes shapes) (all_good shapes parents changes)
+reads_ready db shapes changes can = all_good db shapes can changes

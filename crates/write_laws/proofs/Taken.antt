@@ -35,10 +35,10 @@ none_apart shape (row ∷ rows) some = absurd some
 
 module _ (vars : List Value) (shapes : List TableTree) (level : Level) (shape : TableTree) (images : List (List Row)) (part : List Exchange) where
   of_target : (table : TableName) (test : Option BoundTest) (inner : List InnerQuery) (rows : Rewritten) → shape_of table shapes ≡ Some shape → AreSome (rows_taken rows) (target_image inner images)
-      → AreTold part (fits (shape_of table shapes)) (target_read vars shapes table test).0 (hold_at level) U (target_image inner images) → AreTaken part level shape rows
+      → AreTold part (fits (shape_of table shapes) 0) (target_read vars shapes table test).0 (hold_at level) U (target_image inner images) → AreTaken part level shape rows
   of_target table test inner rows known some told =
       let range : KeyRange = (target_read vars shapes table test).0 in
-      let both = taken_told part range (hold_at level) U shape (target_image inner images) (rows_taken rows) (subst (λ (o : Option TableTree). AreTold part (fits o) range (hold_at level) U (target_image inner images)) known told) some in
+      let both = taken_told part range (hold_at level) U shape (target_image inner images) (rows_taken rows) (subst (λ (o : Option TableTree). AreTold part (fits o 0) range (hold_at level) U (target_image inner images)) known told) some in
       record { range = range; table = shape_named table shapes shape known; told = both.0; apart = both.1 }
 
   of_write : (of : BoundWrite) (rows : Rewritten) → shape_of (table_written of) shapes ≡ Some shape → AreSome (rows_taken rows) (rows_offered of images) → TargetTold vars shapes level of part images → AreTaken part level shape rows

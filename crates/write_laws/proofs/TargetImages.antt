@@ -86,7 +86,7 @@ module _ (shape : TableTree) where
   Have = HaveColumns shape
 
   abbrev keeps : Keeps
-  keeps = fits (Some shape)
+  keeps = fits (Some shape) 0
 
   row_kept : (rows : Rows) (key row : List Value) → Have rows → Have (with_row keeps rows key row)
   row_kept rows key row have = by_test (row_fits shape 0 key row) refl
@@ -123,10 +123,10 @@ module _ (shape : TableTree) where
       (behind_have (λ more start. rows_from width keeps left (from start fetch) more) (λ more start. range_have width left (from start fetch) more))
 
   -- or of one whole key
-  in_have : (one : Bool) (fetch : Op) → Comes (rows_in (Some shape) one fetch) (IfWell Have)
+  in_have : (one : Bool) (fetch : Op) → Comes (rows_in (Some shape) 0 one fetch) (IfWell Have)
   unfolding rows_in
-  in_have true fetch = comes_on (fetches (key_width (Some shape)) keeps fetch []) (λ so_far. over (Ok so_far.0)) HaveSoFar Have (fetch_have (key_width (Some shape)) fetch [] tt) (λ so_far have. have)
-  in_have false fetch = range_have (key_width (Some shape)) range_limit fetch [] tt
+  in_have true fetch = comes_on (fetches (key_width (Some shape) 0) keeps fetch []) (λ so_far. over (Ok so_far.0)) HaveSoFar Have (fetch_have (key_width (Some shape) 0) fetch [] tt) (λ so_far have. have)
+  in_have false fetch = range_have (key_width (Some shape) 0) range_limit fetch [] tt
 
   unless_have : (rows_given : Option Rows) (fetched : Dialog (Result Rows Refusal)) → ForSome rows_given Have → Comes fetched (IfWell Have) → Comes (unless_given rows_given fetched) (IfWell Have)
   unless_have None fetched have comes = comes
@@ -136,7 +136,7 @@ module _ (shape : TableTree) where
     table_have : Comes (reads_table given shapes level target) (IfWell Have)
     unfolding reads_table
     table_have = unless_have (given target.0.table) (reads_range (shape_of target.0.table shapes) level target) has
-        (subst (λ (of : Option TableTree). Comes (reads_range of level target) (IfWell Have)) (sym known) (in_have (is_one_key (key_width (Some shape)) target.0.start target.0.stop) (table_fetch level target)))
+        (subst (λ (of : Option TableTree). Comes (reads_range of level target) (IfWell Have)) (sym known) (in_have (is_one_key (key_width (Some shape) 0) target.0.start target.0.stop) (table_fetch level target)))
 
     -- ---- the image of a target
 

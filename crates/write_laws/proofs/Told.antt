@@ -174,10 +174,10 @@ module _ (manner : Manner) (width : ℕ) (keeps : Keeps) (table : TableName) (st
 -- ---- both
 
 seen_in : (manner : Manner) (part : List Exchange) (shape : Option TableTree) (one : Bool) (range : KeyRange) (hold : Hold) (lock : KeyPart) (rows : Rows)
-    → Held manner (rows_in shape one (fetch_of range hold lock)) part (Ok rows) → IsSeenOn manner (key_width shape) (fits shape) range.table range.stop hold lock part range.start [] rows
+    → Held manner (rows_in shape 0 one (fetch_of range hold lock)) part (Ok rows) → IsSeenOn manner (key_width shape 0) (fits shape 0) range.table range.stop hold lock part range.start [] rows
 unfolding rows_in
-seen_in manner part shape false range hold lock rows held = seen_from manner (key_width shape) (fits shape) range.table range.stop hold lock range_limit range.start [] rows part held
-seen_in manner part shape true range hold lock rows held = seen_one manner (key_width shape) (fits shape) range.table range.stop hold lock range.start rows part held
+seen_in manner part shape false range hold lock rows held = seen_from manner (key_width shape 0) (fits shape 0) range.table range.stop hold lock range_limit range.start [] rows part held
+seen_in manner part shape true range hold lock rows held = seen_one manner (key_width shape 0) (fits shape 0) range.table range.stop hold lock range.start rows part held
 
 pub rows_told : RowsTold
 rows_told manner part shape one range hold lock rows held =
@@ -196,7 +196,7 @@ module _ (manner : Manner) (given : GivenRows) (shapes : List TableTree) (level 
   shape = shape_of target.0.table shapes
 
   abbrev Told : List Exchange → Rows → Type 0
-  Told part rows = AreTold part (fits shape) target.0 (hold_at level) (part_of target.1) rows
+  Told part rows = AreTold part (fits shape 0) target.0 (hold_at level) (part_of target.1) rows
 
   told_more : (front part later : List Exchange) (rows : Rows) → Told part rows → Told (front ++ (part ++ later)) rows
   told_more front part later rows told = (
@@ -233,7 +233,7 @@ module _ (manner : Manner) (given : GivenRows) (shapes : List TableTree) (level 
 -- what is read for a write of a target stands behind what its inner queries read
 target_read_told : (manner : Manner) (given : GivenRows) (shapes : List TableTree) (level : Level) (vars : List Value) (table : TableName) (test : Option BoundTest) (inner : List InnerQuery) (part : List Exchange) (images : List Rows)
     → given table ≡ None → Held manner (with_room Memory (images_from given shapes level [] (inner_reads vars inner ++ target_read vars shapes table test ∷ []))) part (Ok images)
-    → AreTold part (fits (shape_of table shapes)) (target_read vars shapes table test).0 (hold_at level) U (target_image inner images)
+    → AreTold part (fits (shape_of table shapes) 0) (target_read vars shapes table test).0 (hold_at level) U (target_image inner images)
 target_read_told manner given shapes level vars table test inner part images fetched held =
     let reads = inner_reads vars inner in
     let many : length (inner_tables inner) ≡ length reads = sym (inner_counted vars inner) in

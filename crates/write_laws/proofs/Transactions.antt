@@ -14,11 +14,12 @@ use Rattle.constraint_check.specs.Laws.{Passes, behind}
 use Rattle.constraint_check.specs.Reads.{reads_for}
 use Rattle.history_laws.proofs.Splits.{not_ended}
 use Rattle.write_laws.specs.Reading.{OnceLeaves, OncePasses}
+use Rattle.write_laws.specs.Checking.{CanCheck}
 use Rattle.write_laws.specs.Once.{WroteOnce}
-use Rattle.write_laws.specs.Reads.{at_place, HaveParents, RowsFit}
+use Rattle.write_laws.specs.Reads.{at_place}
 use Rattle.write_laws.proofs.Commits.{commit_leaves}
 use Rattle.write_laws.proofs.Parts.{from_both}
-use Rattle.write_laws.proofs.Writes.{whole_adds, writes_pass}
+use Rattle.write_laws.proofs.Writes.{applied_adds, writes_pass}
 
 -- ---- the whole transaction
 
@@ -26,7 +27,7 @@ place_past : (behind : ℕ) (between later : List Exchange) → NoneEnds between
 place_past behind [] later none = refl
 place_past behind (e ∷ between) later none = not_ended e.reply (place_of behind (between ++ later)) none.0 ∙ place_past behind between later none.1
 
-module _ (log : List Logged) (mine : List Exchange) (shapes : List TableTree) (changes : List Planned) (place : ℕ) (once : WroteOnce mine shapes changes place) where
+module _ (log : List Logged) (mine : List Exchange) (shapes : List TableTree) (plan changes : List Planned) (place : ℕ) (once : WroteOnce mine shapes plan changes place) where
   abbrev rest : List Exchange
   rest = once.between ++ once.commit ∷ once.later
 
@@ -42,7 +43,7 @@ module _ (log : List Logged) (mine : List Exchange) (shapes : List TableTree) (c
   own_is : (progress_of (once.front ++ (once.part ++ once.between))).own ≡ changes
   own_is =
       once.no_more ∙ ap (λ (p : Progress). p.own) (from_both none_open once.front once.part)
-      ∙ whole_adds once.manner shapes changes once.mark once.part once.wrote (progress_of once.front) ∙ ap (λ (own : List Planned). own ++ changes) once.unwritten
+      ∙ applied_adds once.manner shapes plan changes once.part once.wrote (progress_of once.front) ∙ ap (λ (own : List Planned). own ++ changes) once.unwritten
 
   leaves : (session : ℕ) (begin : List Logged) → inserts_fresh log mine → commits_once session begin log mine → State (take (place + length (commit_of (Net changes))) log) ≡ behind (State (take place log)) changes
   leaves session begin fresh commits =
@@ -51,14 +52,13 @@ module _ (log : List Logged) (mine : List Exchange) (shapes : List TableTree) (c
       (once.split ∙ ap (λ (xs : List Exchange). once.front ++ xs) (sym (append_assoc once.part once.between (once.commit ∷ once.later))) ∙ sym (append_assoc once.front (once.part ++ once.between) (once.commit ∷ once.later)))
       fresh commits once.commits once.ended)
 
-  passes : ranges_hold log mine → HaveParents shapes → AllByRecursion (RowsFit (behind (State (take place log)) changes)) shapes
-      → AllByRecursion (Passes (behind (State (take place log)) changes)) (reads_for changes shapes)
-  passes holds parents rows =
-      subst (λ (db : Database). AllByRecursion (RowsFit (behind db changes)) shapes → AllByRecursion (Passes (behind db changes)) (reads_for changes shapes)) begins_there
-      (λ rows. writes_pass log mine once.front once.part rest once.manner shapes changes once.mark once.split holds once.wrote rows parents) rows
+  passes : ranges_hold log mine → CanCheck (behind (State (take place log)) changes) shapes → AllByRecursion (Passes (behind (State (take place log)) changes)) (reads_for plan shapes)
+  passes holds can =
+      subst (λ (db : Database). CanCheck (behind db changes) shapes → AllByRecursion (Passes (behind db changes)) (reads_for plan shapes)) begins_there
+      (λ can. writes_pass log mine once.front once.part rest once.manner shapes plan changes once.split holds once.wrote can) can
 
 pub once_leaves : OnceLeaves
-once_leaves session begin log mine shapes changes place fresh commits once = leaves log mine shapes changes place once session begin fresh commits
+once_leaves session begin log mine shapes plan planned place fresh commits once = leaves log mine shapes plan planned place once session begin fresh commits
 
 pub once_passes : OncePasses
-once_passes log mine shapes changes place holds once parents rows = passes log mine shapes changes place once holds parents rows
+once_passes log mine shapes plan planned place holds once can = passes log mine shapes plan planned place once holds can

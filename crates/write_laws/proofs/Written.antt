@@ -80,7 +80,7 @@ module _ (db : Database) (shape : TableTree) (planned : List Planned) (firm : Fi
   pub was : (name : List ℕ) (definition : Definition) → IsDefined after name definition → IsDefined db name definition
   was name definition now = defined_by after db name definition (sym (objects_stay (object_key name))) now
 
-  stays : (of : TableTree) → IsTableOf db of → IsTableOf after of
+  pub stays : (of : TableTree) → IsTableOf db of → IsTableOf after of
   stays of before = defined_by db after of.name (Table of) (objects_stay (object_key of.name)) before
 
   known_stays : (table : TableName) → IsKnown db table → IsKnown after table

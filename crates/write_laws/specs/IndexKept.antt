@@ -1,6 +1,6 @@
 -- Own: a database without rows has its index parts as they are to be, and has them so behind each change of definitions; behind DROP TABLE
 -- where its changes erase all rows of all parts. `Indexing` says that a write keeps it.
-use Rattle.std.specs.Prelude.{◌≡◌, ℕ, Bool, true, nat_eq, IsTrue, IsSome, List, [], ◌∷◌, filter}
+use Rattle.std.specs.Prelude.{◌≡◌, ℕ, true, IsTrue, IsSome, List, [], ◌∷◌}
 use Rattle.std.specs.List.{AllByRecursion, list_any}
 use Rattle.value_types.specs.declared.table_name.TableName.{TableName}
 use Rattle.value_types.specs.declared.value.Value.{Value}
@@ -8,7 +8,7 @@ use Rattle.tsql_tree.specs.declared.definition.Definition.{Definition}
 use Rattle.tsql_tree.specs.declared.definition.TableTree.{TableTree}
 use Rattle.step_model.specs.declared.change.Planned.{Planned}
 use Rattle.step_model.specs.Database.{Database, is_at, nothing}
-use Rattle.step_model.specs.Own.{change_of}
+use Rattle.step_model.specs.Own.{change_of, own_changes}
 use Rattle.table_rows.specs.Definitions.{defined_name}
 use Rattle.constraint_check.specs.Laws.{behind}
 use Rattle.constraint_check.specs.Reads.{is_erase}
@@ -18,13 +18,9 @@ use Rattle.write_laws.specs.Keeping.{IsCreated, IsNoTable, IsPut, with_definitio
 use Rattle.write_laws.specs.Sound.{Firm, IsDefined, IsTableOf}
 use Rattle.write_laws.specs.Indexed.{Indexed, own_rows}
 
--- a change of a table's own rows
-abbrev pub is_own : Planned → Bool
-is_own change = nat_eq change.table.part 0
-
 -- the own rows behind changes are those behind the changes of own rows
 abbrev pub OwnBehind : Type 0
-OwnBehind = (db : Database) (changes : List Planned) → own_rows (behind db changes) ≡ behind (own_rows db) (filter is_own changes)
+OwnBehind = (db : Database) (changes : List Planned) → own_rows (behind db changes) ≡ behind (own_rows db) (own_changes changes)
 
 abbrev pub IndexedEmpty : Type 0
 IndexedEmpty = Indexed nothing

@@ -1,47 +1,26 @@
 -- Own: the laws of index parts where rows of a table change. The changes are those of its rows, and then part by part those of their index
 -- rows: what is done at each key. Behind them each part is exact again. Each index row that is to go or to be replaced stands before; and none
 -- that is inserted comes to a key where a row is.
-use Rattle.std.specs.Prelude.{◌≡◌, ℕ, suc, Bool, true, false, IsSome, List, [], ◌∷◌, ◌++◌, length, Some}
-use Rattle.std.specs.List.{AllByRecursion, flat_map}
+use Rattle.std.specs.Prelude.{◌≡◌, Bool, true, false, IsSome, List, ◌++◌, length, Some}
+use Rattle.std.specs.List.{AllByRecursion}
 use Rattle.value_types.specs.declared.value.Value.{Value}
 use Rattle.tsql_tree.specs.declared.definition.TableTree.{TableTree}
-use Rattle.tsql_tree.specs.Places.{key_places}
 use Rattle.step_model.specs.declared.change.Planned.{Planned}
 use Rattle.step_model.specs.Database.{Database, With}
 use Rattle.index_laws.specs.Deeds.{deeds_by, rows_gone}
 use Rattle.index_laws.specs.Laws.{FreshRows, OldsApart, erasures_of, itself, never}
 use Rattle.index_laws.specs.Parts.{Among, IsOld, RowChange}
-use Rattle.index_laws.specs.Whole.{IndexPart, index_of, part_table}
-use Rattle.table_rows.specs.Rows.{key_of, places_of, rows_table}
+use Rattle.table_rows.specs.Rows.{key_of, rows_table}
 use Rattle.constraint_check.specs.Laws.{KeysAreOne, behind}
 use Rattle.dml_exec.specs.Filling.{Row}
+use Rattle.dml_exec.specs.Planning.{index_deeds}
 use Rattle.write_laws.specs.IndexKept.{AreEmptied}
-use Rattle.write_laws.specs.Indexed.{Indexed, index_columns, own_rows}
+use Rattle.write_laws.specs.Indexed.{Indexed, own_rows}
 use Rattle.write_laws.specs.Made.{ComeFree, inserts, inserts_into_part}
 use Rattle.write_laws.specs.Reads.{KeysHave}
 use Rattle.write_laws.specs.Sound.{Firm, IsTableOf}
 
 -- ---- what is done
-
--- the index parts from this number on, of constraints with these columns
-abbrev pub parts_from : TableTree → ℕ → List (List (List ℕ)) → List IndexPart
-parts_from shape number [] = []
-parts_from shape number (names ∷ rest) = record { number = number; places = places_of shape names } ∷ parts_from shape (suc number) rest
-
-abbrev pub parts_of : TableTree → List IndexPart
-parts_of shape = parts_from shape 1 (index_columns shape)
-
--- the index row of a row
-abbrev pub row_in : TableTree → IndexPart → Row → List Value
-row_in shape part = index_of (key_places (Some shape)) part
-
-module _ (shape : TableTree) (equal : List Value → List Value → Bool) (changes : List RowChange) where
-  -- where both of a row's index rows are equal nothing is done
-  abbrev pub part_deeds : IndexPart → List Planned
-  part_deeds part = deeds_by (part_table shape.name part.number) (row_in shape part) (row_in shape part) (λ old new. equal (row_in shape part new) (row_in shape part old)) changes
-
-  abbrev pub index_deeds : List Planned
-  index_deeds = flat_map part_deeds (parts_of shape)
 
 abbrev pub row_deeds : TableTree → List RowChange → List Planned
 row_deeds shape changes = deeds_by (rows_table shape.name) (key_of shape) itself never changes

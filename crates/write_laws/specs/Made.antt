@@ -19,7 +19,7 @@ use Rattle.step_model.specs.Dialog.{Held}
 use Rattle.step_model.specs.Exchange.{Exchange}
 use Rattle.step_model.specs.Fits.{NoRelax, NoneEnds, fetches_current, inserts_fresh, numbers_rise, targets_stable}
 use Rattle.step_model.specs.Log.{Commit as Logged}
-use Rattle.step_model.specs.Own.{change_of, is_insert}
+use Rattle.step_model.specs.Own.{change_of, is_insert, is_own}
 use Rattle.index_laws.specs.Deeds.{deeds_by}
 use Rattle.index_laws.specs.Laws.{FreshRows, erasures_of, itself, never}
 use Rattle.index_laws.specs.Parts.{IsOld, OfRow, RowChange}
@@ -30,7 +30,6 @@ use Rattle.dml_exec.specs.Filling.{Row}
 use Rattle.dml_exec.specs.Reading.{hold_at}
 use Rattle.dml_exec.specs.Writing.{writes_all}
 use Rattle.statement_paths.specs.Asked.{AskOnly, IsFetch}
-use Rattle.write_laws.specs.IndexKept.{is_own}
 use Rattle.write_laws.specs.Reads.{at_place}
 use Rattle.write_laws.specs.Rewrites.{IsTaken}
 

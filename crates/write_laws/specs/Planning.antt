@@ -1,5 +1,5 @@
--- Own: the laws of writes. What a write plans is all erasures and then what is written; it is right by itself, in the words
--- of `Checked` of `constraint_check`. Nothing is asked of what the write was bound to: a value that is given for a place
+-- Own: the laws of writes. What a write plans of its table's own rows is all erasures and then what is written; it is right by itself,
+-- in the words of `Checked` of `constraint_check`. Nothing is asked of what the write was bound to: a value that is given for a place
 -- where no column is is not stored, and a column for which none is given is NULL, or as it was. Of the rows that an UPDATE
 -- reads it is asked that they have their columns, since it writes them again; so have all that are read as rows of a table.
 use Rattle.std.specs.Prelude.{◌≡◌, true, false, IsTrue, IsSome, List, [], ◌++◌, filter_map, get_or, length, Some, None, Ok}
@@ -18,10 +18,11 @@ use Rattle.step_model.specs.declared.manner.Manner.{Manner}
 use Rattle.step_model.specs.Database.{Database}
 use Rattle.step_model.specs.Dialog.{Held}
 use Rattle.step_model.specs.Exchange.{Exchange}
-use Rattle.step_model.specs.Own.{row_of}
+use Rattle.step_model.specs.Own.{own_changes, row_of}
 use Rattle.table_rows.specs.Rows.{has_columns, row_fits, rows_table, shape_of}
 use Rattle.constraint_check.specs.Local.{first_local}
-use Rattle.constraint_check.specs.Reads.{is_erase, reads_for}
+use Rattle.constraint_check.specs.Meant.{reads_meant}
+use Rattle.constraint_check.specs.Reads.{is_erase}
 use Rattle.constraint_check.specs.Integrity.{AreKept, Stands}
 use Rattle.constraint_check.specs.Laws.{KeysAreOne, Passes, behind}
 use Rattle.dml_exec.specs.declared.refusal.Level.{Level}
@@ -65,11 +66,11 @@ pub record AreRight (shape : TableTree) (checks : List BoundTest) (erased writte
 abbrev pub IsRight : TableTree → List BoundTest → List Planned → Type 0
 IsRight shape checks planned = (erased written : List Planned) × (planned ≡ erased ++ written) × AreRight shape checks erased written
 
--- So is what a write plans for its table.
+-- So is what a write plans for its table's own rows.
 abbrev pub PlannedRight : Type 0
 PlannedRight = (vars system : List Value) (shape : TableTree) (checks : List BoundTest) (of : BoundWrite) (images : List (List Row)) (planned : List Planned)
     → table_written of ≡ rows_table shape.name → HaveColumns shape (rows_before of images)
-    → Chg vars system shape checks of images ≡ Ok planned → IsRight shape checks planned
+    → Chg vars system shape checks of images ≡ Ok planned → IsRight shape checks (own_changes planned)
 
 -- ---- the database
 
@@ -89,18 +90,18 @@ RowsFit db shape = (key row : List Value) → Stands db shape key row → IsTrue
 abbrev pub PlannedFits : Type 0
 PlannedFits = (db : Database) (shapes : List TableTree) (vars system : List Value) (shape : TableTree) (checks : List BoundTest) (of : BoundWrite) (images : List (List Row)) (planned : List Planned)
     → AllByRecursion (RowsFit db) shapes → AreOneEach shapes → shape_of (table_written of) shapes ≡ Some shape → HaveColumns shape (rows_before of images)
-    → Chg vars system shape checks of images ≡ Ok planned → AllByRecursion (RowsFit (behind db planned)) shapes
+    → Chg vars system shape checks of images ≡ Ok planned → AllByRecursion (RowsFit (behind db (own_changes planned))) shapes
 
--- what `Checked` asks for beside this: of the database and its tables, and of what is read behind the changes
+-- what `Checked` asks for beside this: of the database and its tables, and of what checks say behind the changes
 pub record ArePassed (db : Database) (shapes : List TableTree) (table : TableName) (shape : TableTree) (planned : List Planned) : Type 0 where
   pub one_key : KeysAreOne db
   pub one_name : AreOneEach shapes
   pub known : shape_of table shapes ≡ Some shape
   pub parents_known : AllByRecursion (λ foreign. IsSome (shape_of (rows_table foreign.parent) shapes)) shape.foreigns
-  pub passes : AllByRecursion (Passes (behind db planned)) (reads_for planned shapes)
+  pub passes : AllByRecursion (Passes (behind db planned)) (reads_meant planned shapes)
 
 -- So a database that keeps its tables' constraints keeps them behind what a write plans, if its checks pass.
 abbrev pub PlannedKept : Type 0
 PlannedKept = (db : Database) (tests : TableTree → List BoundTest) (shapes : List TableTree) (vars system : List Value) (shape : TableTree) (of : BoundWrite) (images : List (List Row)) (planned : List Planned)
-    → AreKept db tests shapes → ArePassed db shapes (table_written of) shape planned → HaveColumns shape (rows_before of images)
-    → Chg vars system shape (tests shape) of images ≡ Ok planned → AreKept (behind db planned) tests shapes
+    → AreKept db tests shapes → ArePassed db shapes (table_written of) shape (own_changes planned) → HaveColumns shape (rows_before of images)
+    → Chg vars system shape (tests shape) of images ≡ Ok planned → AreKept (behind db (own_changes planned)) tests shapes

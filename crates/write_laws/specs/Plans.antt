@@ -1,4 +1,4 @@
--- Own: the laws of plans. What a plan reads of its session, variables and session values, is arbitrary. What a write plans keeps a database firm, if what is read behind its changes for its checks
+-- Own: the laws of plans, said of own rows of tables. What a plan reads of its session, variables and session values, is arbitrary. What a write plans keeps a database firm, if what its checks say behind its changes
 -- passes; so does what DROP TABLE plans, of all rows of the table; and a table whose CREATE TABLE is bound can stand. What is asked of the tables, of the images and of the
 -- plan is what a statement that succeeded has read in that database.
 use Rattle.std.specs.Prelude.{◌≡◌, ℕ, List, [], ◌∷◌, Some, Ok}
@@ -13,20 +13,23 @@ use Rattle.binder.specs.Names.{form_of}
 use Rattle.session_vars.specs.declared.Variable.{Variable}
 use Rattle.step_model.specs.declared.change.Planned.{Planned}
 use Rattle.step_model.specs.Database.{Database}
+use Rattle.step_model.specs.Own.{own_changes}
 use Rattle.table_rows.specs.Definitions.{defined_name, tables_of}
 use Rattle.table_rows.specs.Rows.{shape_of}
-use Rattle.constraint_check.specs.Laws.{Passes, behind}
-use Rattle.constraint_check.specs.Reads.{all_rows, reads_for}
+use Rattle.constraint_check.specs.Laws.{KeysAreOne, Passes, behind}
+use Rattle.constraint_check.specs.Meant.{reads_meant}
+use Rattle.constraint_check.specs.Reads.{all_rows}
 use Rattle.dml_exec.specs.Filling.{Row}
 use Rattle.dml_exec.specs.Planning.{table_written}
 use Rattle.dml_exec.specs.Reading.{fits}
 use Rattle.write_laws.specs.Once.{KeyFits}
 use Rattle.write_laws.specs.Reads.{HaveParents, IsRead, RowsFit}
-use Rattle.write_laws.specs.Planning.{HaveColumns, rows_before}
+use Rattle.write_laws.specs.Planning.{AreOneEach, HaveColumns, rows_before}
 use Rattle.batch_meaning.specs.Raised.{Around}
 use Rattle.batch_meaning.specs.Progress.{SessionProgress}
 use Rattle.batch_meaning.specs.Changing.{dropped, planned_over, unless_referred}
 use Rattle.batch_meaning.specs.Selecting.{bound_over}
+use Rattle.write_laws.specs.Indexed.{Indexed, own_rows}
 use Rattle.write_laws.specs.Sound.{IsDefined, IsTableOf, Firm}
 use Rattle.write_laws.specs.Keeping.{AreDefinitions, AreTables, CanStand, HasNoTrigger}
 
@@ -39,39 +42,47 @@ pub record IsPlanned (around : Around) (p : SessionProgress) (db : Database) (na
   pub read : (shape : TableTree) → shape_of (table_written of) named ≡ Some shape → HaveColumns shape (rows_before of images)
   pub plans : planned_over around p named of images ≡ Ok planned
 
--- behind them rows can be read for checks: they fit their tables, as do the keys of the changes, and parents are there
+-- behind them rows can be read for checks: they fit their tables, as do the keys of the changes; the tables are those that were defined, each of
+-- another name; and parents are there
 pub record AreReadable (db : Database) (shapes : List TableTree) (planned : List Planned) : Type 0 where
   pub keys : AllByRecursion (KeyFits shapes) planned
   pub parents : HaveParents shapes
   pub rows : AllByRecursion (RowsFit (behind db planned)) shapes
+  pub each : AreOneEach shapes
+  pub defined : AllByRecursion (IsTableOf (behind db planned)) shapes
 
 abbrev pub PlannedReadable : Type 0
 PlannedReadable = (around : Around) (p : SessionProgress) (db : Database) (shapes named : List TableTree) (of : BoundWrite) (images : List (List Row)) (planned : List Planned) → Firm db → AreTables db shapes
-    → IsPlanned around p db named of images planned → AreReadable db shapes planned
+    → IsPlanned around p db named of images planned → AreReadable db shapes (own_changes planned)
 
 -- and if all of that passes the database is firm
 abbrev pub FirmPlanned : Type 0
 FirmPlanned = (around : Around) (p : SessionProgress) (db : Database) (shapes named : List TableTree) (of : BoundWrite) (images : List (List Row)) (planned : List Planned) → Firm db → AreTables db shapes
-    → IsPlanned around p db named of images planned → AllByRecursion (Passes (behind db planned)) (reads_for planned shapes) → Firm (behind db planned)
+    → IsPlanned around p db named of images planned → AllByRecursion (Passes (behind db (own_changes planned))) (reads_meant (own_changes planned) shapes) → Firm (behind db (own_changes planned))
 
 -- ---- DROP TABLE
 
 -- All rows of a table were read, to which no other refers; the changes are planned on them, and on all definitions.
 pub record IsDropPlanned (around : Around) (p : SessionProgress) (db : Database) (definitions : List Definition) (shape : TableTree) (rows : List Row) (planned : List Planned) : Type 0 where
   pub defined : IsTableOf db shape
-  pub read : IsRead db (fits (Some shape)) (all_rows shape.name) rows
+  pub read : IsRead db (fits (Some shape) 0) (all_rows shape.name) rows
   pub unreferred : unless_referred shape.name (tables_of definitions) ≡ Ok tt
   pub plans : dropped around p definitions shape shape.name (rows ∷ []) ≡ Ok planned
 
 -- behind them the database is firm
 abbrev pub FirmDropPlanned : Type 0
 FirmDropPlanned = (around : Around) (p : SessionProgress) (db : Database) (definitions : List Definition) (shape : TableTree) (rows : List Row) (planned : List Planned) → Firm db → AreDefinitions db definitions
-    → IsDropPlanned around p db definitions shape rows planned → Firm (behind db planned)
+    → IsDropPlanned around p db definitions shape rows planned → Firm (behind db (own_changes planned))
+
+-- and what is left has its index parts
+abbrev pub IndexedDropPlanned : Type 0
+IndexedDropPlanned = (around : Around) (p : SessionProgress) (db : Database) (definitions : List Definition) (shape : TableTree) (rows : List Row) (planned : List Planned) → KeysAreOne db → Firm (own_rows db) → Indexed db
+    → AreDefinitions (own_rows db) definitions → IsDropPlanned around p (own_rows db) definitions shape rows planned → Indexed (behind db planned)
 
 -- where no trigger is, none comes
 abbrev pub UntriggeredPlanned : Type 0
 UntriggeredPlanned = (around : Around) (p : SessionProgress) (db : Database) (named : List TableTree) (of : BoundWrite) (images : List (List Row)) (planned : List Planned) → Firm db → HasNoTrigger db
-    → IsPlanned around p db named of images planned → HasNoTrigger (behind db planned)
+    → IsPlanned around p db named of images planned → HasNoTrigger (behind db (own_changes planned))
 
 -- ---- CREATE TABLE
 

@@ -19,7 +19,7 @@ use Rattle.step_model.specs.declared.range.Stop.TheVariants.{Within}
 use Rattle.step_model.specs.declared.reply.Reply.TheVariants.{Ended}
 use Rattle.step_model.specs.Database.{Database, In, With}
 use Rattle.step_model.specs.Net.{Net}
-use Rattle.step_model.specs.Own.{change_of, inserts_first, progress_of}
+use Rattle.step_model.specs.Own.{change_of, inserts_first, own_changes, progress_of}
 use Rattle.step_model.specs.declared.manner.Manner.{Manner}
 use Rattle.step_model.specs.declared.op.Hold.{Hold}
 use Rattle.step_model.specs.declared.op.Hold.TheVariants.{Range}
@@ -35,36 +35,37 @@ use Rattle.constraint_check.specs.Reads.{reads_for}
 use Rattle.constraint_check.specs.Laws.{KeysAreOne, Passes, behind}
 use Rattle.range_plan.specs.RangeOf.{whole_table}
 use Rattle.range_plan.specs.Laws.{stands_in}
-use Rattle.dml_exec.specs.declared.written.Written.TheVariants.{Done}
 use Rattle.dml_exec.specs.declared.refusal.Level.{Level}
 use Rattle.dml_exec.specs.declared.refusal.Level.TheVariants.{Serializable}
 use Rattle.dml_exec.specs.declared.refusal.Refusal.{Refusal}
 use Rattle.dml_exec.specs.Planning.{Chg, table_written}
 use Rattle.dml_exec.specs.Reading.{GivenRows, fetch_of, fits, images_of, key_width, reads_of, rows_in}
-use Rattle.dml_exec.specs.Writing.{checks_all, writes}
+use Rattle.dml_exec.specs.Writing.{checks_all}
 use Rattle.step_model.specs.Runs.{Asked, Run, mine_of, opening}
 use Rattle.step_model.specs.State.{Engine}
+use Rattle.write_laws.specs.Checking.{CanCheck}
 use Rattle.write_laws.specs.Once.{KeyFits, WroteOnce}
 use Rattle.statement_paths.specs.Asked.{AskOnly, IsFetch}
-use Rattle.write_laws.specs.Reads.{at_place, key_size, AllFit, AreImages, HaveParents, HoldsIt, IfFetched, IfOne, IsOneKey, IsRead, KeysHave, RowsFit, Tells, Walks, WereRead}
+use Rattle.statement_paths.specs.Paths.{AreApplied}
+use Rattle.write_laws.specs.Reads.{at_place, key_size, AllFit, AreImages, HoldsIt, IfFetched, IfOne, IsOneKey, IsRead, KeysHave, Tells, Walks, WereRead}
 
--- a range that was read and held has the rows that the database has there at the transaction's place
+-- a range of a part that was read and held has the rows that the database has there at the transaction's place
 abbrev pub RangeRead : Type 0
-RangeRead = (log : List Logged) (mine before part later : List Exchange) (manner : Manner) (shape : Option TableTree) (one : Bool) (range : KeyRange) (lock : KeyPart) (rows : Rows)
-    → mine ≡ before ++ (part ++ later) → ranges_hold log mine → Held manner (rows_in shape one (fetch_of range Range lock)) part (Ok rows)
-    → KeysHave (key_width shape) (at_place log before later) range.table → IfOne one (IsOneKey (key_width shape) range.start range.stop)
-    → IsRead (at_place log before later) (fits shape) range rows
+RangeRead = (log : List Logged) (mine before part later : List Exchange) (manner : Manner) (shape : Option TableTree) (number : ℕ) (one : Bool) (range : KeyRange) (lock : KeyPart) (rows : Rows)
+    → mine ≡ before ++ (part ++ later) → ranges_hold log mine → Held manner (rows_in shape number one (fetch_of range Range lock)) part (Ok rows)
+    → KeysHave (key_width shape number) (at_place log before later) range.table → IfOne one (IsOneKey (key_width shape number) range.start range.stop)
+    → IsRead (at_place log before later) (fits shape number) range rows
 
 -- What a range has is what stands in it of all that the table has, of rows of a table of this shape: those that fit, as they are in the whole
 -- table's order.
 abbrev pub RangeOfWhole : Type 0
 RangeOfWhole = (db : Database) (shape : TableTree) (range : KeyRange) (rows all : Rows) → KeysAreOne db
-    → IsRead db (fits (Some shape)) range rows → IsRead db (fits (Some shape)) (whole_table range.table) all → rows ≡ filter (stands_in range (key_places (Some shape))) all
+    → IsRead db (fits (Some shape) 0) range rows → IsRead db (fits (Some shape) 0) (whole_table range.table) all → rows ≡ filter (stands_in range (key_places (Some shape))) all
 
 -- of a range that was not held each row is as it was at its own number
 abbrev pub RowsCurrent : Type 0
 RowsCurrent = (log : List Logged) (mine before part later : List Exchange) (manner : Manner) (shape : Option TableTree) (one : Bool) (range : KeyRange) (hold : Hold) (lock : KeyPart) (rows : Rows)
-    → mine ≡ before ++ (part ++ later) → fetches_current log mine → Held manner (rows_in shape one (fetch_of range hold lock)) part (Ok rows) → WereRead log before (fits shape) range rows
+    → mine ≡ before ++ (part ++ later) → fetches_current log mine → Held manner (rows_in shape 0 one (fetch_of range hold lock)) part (Ok rows) → WereRead log before (fits shape 0) range rows
 
 -- all exchanges that fetch by ranges, which they hold, are answered of one database
 abbrev pub PartAnswers : Type 0
@@ -112,25 +113,23 @@ ChecksRead = (log : List Logged) (mine before part later : List Exchange) (manne
     → mine ≡ before ++ (part ++ later) → ranges_hold log mine → Held manner (checks_all shapes reads) part (Ok tt)
     → AllByRecursion (λ read. AllFit (at_place log before later) shapes read.range.table) reads → AllByRecursion (Passes (at_place log before later)) reads
 
--- So they do in what is read for changes, where the rows of all tables fit and each FOREIGN KEY has its parent.
+-- So they do in what is read for changes, where rows can be read for checks.
 abbrev pub ReadsReady : Type 0
-ReadsReady = (db : Database) (shapes : List TableTree) (changes : List Planned) → AllByRecursion (RowsFit db) shapes → HaveParents shapes
-    → AllByRecursion (λ read. AllFit db shapes read.range.table) (reads_for changes shapes)
+ReadsReady = (db : Database) (shapes : List TableTree) (changes : List Planned) → CanCheck db shapes → AllByRecursion (λ read. AllFit db shapes read.range.table) (reads_for changes shapes)
 
 -- ---- what is written
 
--- Where a write was done, what is read behind its changes passes in the database behind them, if the rows of all tables
--- fit there.
+-- Where a write was done, what is read for its plan passes in the database behind those of its changes that were done, if rows can be
+-- read there for checks.
 abbrev pub WritesPass : Type 0
-WritesPass = (log : List Logged) (mine before part later : List Exchange) (manner : Manner) (shapes : List TableTree) (changes : List Planned) (mark : ℕ)
-    → mine ≡ before ++ (part ++ later) → ranges_hold log mine → Held manner (writes shapes changes) part (Ok (Done mark))
-    → AllByRecursion (RowsFit (behind (at_place log before later) changes)) shapes → HaveParents shapes
-    → AllByRecursion (Passes (behind (at_place log before later) changes)) (reads_for changes shapes)
+WritesPass = (log : List Logged) (mine before part later : List Exchange) (manner : Manner) (shapes : List TableTree) (plan planned : List Planned)
+    → mine ≡ before ++ (part ++ later) → ranges_hold log mine → AreApplied manner shapes plan planned part
+    → CanCheck (behind (at_place log before later) planned) shapes → AllByRecursion (Passes (behind (at_place log before later) planned)) (reads_for plan shapes)
 
 -- and that is the database with which the transaction goes on
 abbrev pub WritesLeave : Type 0
-WritesLeave = (log : List Logged) (before part later : List Exchange) (manner : Manner) (shapes : List TableTree) (changes : List Planned) (mark : ℕ)
-    → Held manner (writes shapes changes) part (Ok (Done mark)) → at_place log (before ++ part) later ≡ behind (at_place log before later) changes
+WritesLeave = (log : List Logged) (before part later : List Exchange) (manner : Manner) (shapes : List TableTree) (plan planned : List Planned)
+    → AreApplied manner shapes plan planned part → at_place log (before ++ part) later ≡ behind (at_place log before later) planned
 
 -- in each such database keys that compare equal are one
 abbrev pub PlacesAreOne : Type 0
@@ -182,17 +181,17 @@ NextState = (asked : List Asked) (engine : Engine) → Run opening asked engine 
 
 -- Its commit leaves the database at its place behind its changes.
 abbrev pub OnceLeaves : Type 0
-OnceLeaves = (session : ℕ) (begin log : List Logged) (mine : List Exchange) (shapes : List TableTree) (changes : List Planned) (place : ℕ)
-    → inserts_fresh log mine → commits_once session begin log mine → WroteOnce mine shapes changes place
-    → State (take (place + length (commit_of (Net changes))) log) ≡ behind (State (take place log)) changes
+OnceLeaves = (session : ℕ) (begin log : List Logged) (mine : List Exchange) (shapes : List TableTree) (plan planned : List Planned) (place : ℕ)
+    → inserts_fresh log mine → commits_once session begin log mine → WroteOnce mine shapes plan planned place
+    → State (take (place + length (commit_of (Net planned))) log) ≡ behind (State (take place log)) planned
 
--- And there what is read for its changes passes, if the rows of all tables fit there.
+-- And there what is read for its plan passes, if the rows of all tables fit there.
 abbrev pub OncePasses : Type 0
-OncePasses = (log : List Logged) (mine : List Exchange) (shapes : List TableTree) (changes : List Planned) (place : ℕ)
-    → ranges_hold log mine → WroteOnce mine shapes changes place → HaveParents shapes → AllByRecursion (RowsFit (behind (State (take place log)) changes)) shapes
-    → AllByRecursion (Passes (behind (State (take place log)) changes)) (reads_for changes shapes)
+OncePasses = (log : List Logged) (mine : List Exchange) (shapes : List TableTree) (plan planned : List Planned) (place : ℕ)
+    → ranges_hold log mine → WroteOnce mine shapes plan planned place → CanCheck (behind (State (take place log)) planned) shapes
+    → AllByRecursion (Passes (behind (State (take place log)) planned)) (reads_for plan shapes)
 
--- The keys of what a write plans have as many values as the key of its table.
+-- The keys of what a write plans for its table's own rows have as many values as the table's key.
 abbrev pub PlannedKeys : Type 0
 PlannedKeys = (vars system : List Value) (shapes : List TableTree) (shape : TableTree) (checks : List BoundTest) (of : BoundWrite) (images : List Rows) (planned : List Planned)
-    → shape_of (table_written of) shapes ≡ Some shape → Chg vars system shape checks of images ≡ Ok planned → AllByRecursion (KeyFits shapes) planned
+    → shape_of (table_written of) shapes ≡ Some shape → Chg vars system shape checks of images ≡ Ok planned → AllByRecursion (KeyFits shapes) (own_changes planned)

@@ -25,7 +25,7 @@ use Rattle.step_model.specs.Exchange.{CanReply, Exchange}
 use Rattle.step_model.specs.Fits.{place_of, view}
 use Rattle.step_model.specs.Log.{Commit as Logged}
 use Rattle.step_model.specs.Ranges.{Keeps, Rows}
-use Rattle.table_rows.specs.Rows.{places_of, row_fits, rows_table, same_key, shape_of}
+use Rattle.table_rows.specs.Rows.{part_shape, places_of, row_fits, rows_table, same_key, shape_of}
 use Rattle.constraint_check.specs.Integrity.{Stands}
 use Rattle.dml_exec.specs.Reading.{GivenRows, TableRead, behind_gone, fits}
 
@@ -93,9 +93,9 @@ IfOne false P = Unit {0}
 
 -- ---- rows that fit
 
--- each row of the table fits its shape
+-- each row of a part fits the shape of its table
 abbrev pub AllFit : Database → List TableTree → TableName → Type 0
-AllFit db shapes table = (key row : List Value) → db table key ≡ Some row → IsTrue (fits (shape_of table shapes) (key, row))
+AllFit db shapes table = (key row : List Value) → db table key ≡ Some row → IsTrue (fits (part_shape table shapes) table.part (key, row))
 
 -- how many values the keys of a table have
 abbrev pub key_size : List TableTree → TableName → ℕ
@@ -121,7 +121,7 @@ IfFetched (Some given) P = Unit {0}
 
 -- the image of a range of a table is its rows that fit, or those that are given for the table
 abbrev pub IsImageOf : Option Rows → Database → List TableTree → KeyRange → Rows → Type 0
-IsImageOf None db shapes range rows = IsRead db (fits (shape_of range.table shapes)) range rows
+IsImageOf None db shapes range rows = IsRead db (fits (shape_of range.table shapes) 0) range rows
 IsImageOf (Some given) db shapes range rows = rows ≡ given
 
 -- and so each of those that were read for a statement

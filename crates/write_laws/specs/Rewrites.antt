@@ -1,4 +1,4 @@
--- Own: a write as rows that change, each as it was and as it is to be. What it plans for its table is what is done at each of their keys. The
+-- Own: a write as rows that change, each as it was and as it is to be. What it plans is what is done at each of their keys, and of those of their index rows. The
 -- rows that it takes are some of its target's image, in their order: so each was told by a fetch that keeps it, and no two are at one key.
 use Rattle.std.specs.Prelude.{◌≡◌, ◌⊎◌, ℕ, false, true, List, [], ◌∷◌, length, Ok, Some}
 use Rattle.std.specs.List.{AllByRecursion}
@@ -7,7 +7,6 @@ use Rattle.lock_modes.specs.declared.KeyPart.TheVariants.{U}
 use Rattle.value_types.specs.declared.table_name.TableName.{TableName}
 use Rattle.value_types.specs.declared.value.Value.{Value}
 use Rattle.tsql_tree.specs.declared.definition.TableTree.{TableTree}
-use Rattle.tsql_tree.specs.Places.{key_places}
 use Rattle.bound_tree.specs.declared.expr.BoundTest.{BoundTest}
 use Rattle.bound_tree.specs.declared.write.BoundWrite.{BoundWrite}
 use Rattle.bound_tree.specs.declared.write.BoundWrite.TheVariants as write
@@ -15,27 +14,21 @@ use Rattle.step_model.specs.declared.change.Planned.{Planned}
 use Rattle.step_model.specs.declared.op.Hold.{Hold}
 use Rattle.step_model.specs.declared.range.KeyRange.{KeyRange}
 use Rattle.step_model.specs.Exchange.{Exchange}
-use Rattle.index_laws.specs.Deeds.{deeds_by, rows_added, rows_gone, rows_set}
+use Rattle.index_laws.specs.Deeds.{deeds_by}
 use Rattle.index_laws.specs.Laws.{OldsApart, itself, never}
-use Rattle.index_laws.specs.Parts.{RowChange}
 use Rattle.table_rows.specs.Rows.{key_of, rows_table, same_key, shape_of, values_at}
 use Rattle.dml_exec.specs.declared.refusal.Level.{Level}
 use Rattle.dml_exec.specs.declared.rewritten.Rewritten.{Rewritten}
 use Rattle.dml_exec.specs.declared.rewritten.Rewritten.TheVariants.{Inserted, Set, Erased}
 use Rattle.dml_exec.specs.Filling.{Row}
-use Rattle.dml_exec.specs.Planning.{Chg, changes_of, table_written}
+use Rattle.dml_exec.specs.Planning.{Chg, all_changes, changes_of, row_changes_of, table_written}
 use Rattle.dml_exec.specs.Reading.{fits, hold_at}
 use Rattle.write_laws.specs.Planning.{target_image}
 use Rattle.write_laws.specs.Told.{AreTold, TargetTold, WasTold}
 
 -- ---- the rows that change
 
-abbrev pub row_changes_of : Rewritten → List RowChange
-row_changes_of (Inserted rows) = rows_added rows
-row_changes_of (Set olds news) = rows_set olds news
-row_changes_of (Erased rows) = rows_gone rows
-
--- what is planned of them is what is done at each key
+-- what is planned of a table's own rows is what is done at each key
 abbrev pub ChangesAreDeeds : Type 0
 ChangesAreDeeds = (table : TableName) (key : List ℕ) (rows : Rewritten) → changes_of table key rows ≡ deeds_by table (values_at key) itself never (row_changes_of rows)
 
@@ -68,7 +61,7 @@ AreSome (x ∷ some) (y ∷ all) = ((x ≡ y) × AreSome some all) ⊎ AreSome (
 -- These are the changes of rows, and the rows that are taken are some of those that are offered.
 pub record IsPlanOf (shape : TableTree) (of : BoundWrite) (images : List (List Row)) (planned : List Planned) : Type 0 where
   pub rows : Rewritten
-  pub changes : planned ≡ changes_of (table_written of) (key_places (Some shape)) rows
+  pub changes : planned ≡ all_changes (table_written of) shape rows
   pub paired : ArePaired rows
   pub some : AreSome (rows_taken rows) (rows_offered of images)
 
@@ -88,7 +81,7 @@ AreApart shape (row ∷ rows) = AllByRecursion (λ other. same_key (key_of shape
 
 -- so it is of some of the rows of an image
 abbrev pub TakenTold : Type 0
-TakenTold = (part : List Exchange) (range : KeyRange) (hold : Hold) (lock : KeyPart) (shape : TableTree) (image rows : List Row) → AreTold part (fits (Some shape)) range hold lock image → AreSome rows image
+TakenTold = (part : List Exchange) (range : KeyRange) (hold : Hold) (lock : KeyPart) (shape : TableTree) (image rows : List Row) → AreTold part (fits (Some shape) 0) range hold lock image → AreSome rows image
     → AllByRecursion (IsTaken part range hold lock shape) rows × AreApart shape rows
 
 -- then no two changes take rows of one key

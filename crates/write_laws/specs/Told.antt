@@ -54,7 +54,7 @@ AreTold part keeps range hold lock rows = (entries : List (List Value × List Va
 -- such are those that were read of a range
 abbrev pub RowsTold : Type 0
 RowsTold = (manner : Manner) (part : List Exchange) (shape : Option TableTree) (one : Bool) (range : KeyRange) (hold : Hold) (lock : KeyPart) (rows : Rows)
-    → Held manner (rows_in shape one (fetch_of range hold lock)) part (Ok rows) → AreTold part (fits shape) range hold lock rows
+    → Held manner (rows_in shape 0 one (fetch_of range hold lock)) part (Ok rows) → AreTold part (fits shape 0) range hold lock rows
 
 -- ---- the rows of a target
 
@@ -62,9 +62,9 @@ RowsTold = (manner : Manner) (part : List Exchange) (shape : Option TableTree) (
 abbrev pub TargetTold : List Value → List TableTree → Level → BoundWrite → List Exchange → List Rows → Type 0
 TargetTold vars shapes level (write.Insert table places given) part images = Unit {0}
 TargetTold vars shapes level (write.Update table sets test inner) part images =
-    AreTold part (fits (shape_of table shapes)) (target_read vars shapes table test).0 (hold_at level) U (target_image inner images)
+    AreTold part (fits (shape_of table shapes) 0) (target_read vars shapes table test).0 (hold_at level) U (target_image inner images)
 TargetTold vars shapes level (write.Delete table test inner) part images =
-    AreTold part (fits (shape_of table shapes)) (target_read vars shapes table test).0 (hold_at level) U (target_image inner images)
+    AreTold part (fits (shape_of table shapes) 0) (target_read vars shapes table test).0 (hold_at level) U (target_image inner images)
 
 -- such were read for a write of a table that is not given
 abbrev pub TargetsRead : Type 0

@@ -19,12 +19,12 @@ ghost use Rattle.write_laws.specs.Keeping.{KeysSized, FirmCreated, FirmDropped, 
 ghost use Rattle.write_laws.specs.Found.{FoundDefined, FoundDefinitions, FoundTables};
 ghost use Rattle.write_laws.specs.IndexKept.{IndexedCleared, IndexedCreated, IndexedDropped, IndexedEmpty, IndexedErased, IndexedPut, OwnBehind};
 ghost use Rattle.write_laws.specs.Indexing.{GoneEmptied, IndexFree, IndexStands, IndexedWritten};
-ghost use Rattle.write_laws.specs.Attempted.{WriteFollows};
+ghost use Rattle.write_laws.specs.Attempted.{AppliedFollows, WriteFollows};
 ghost use Rattle.write_laws.specs.Checking.{PartsPass};
 ghost use Rattle.write_laws.specs.IndexKeys.{AskedStand, FoundAll, KeysTold};
 ghost use Rattle.write_laws.specs.Made.{FreeFresh, MadeLeave, TakenStand, WritesMake};
 ghost use Rattle.write_laws.specs.Rewrites.{ChangesAreDeeds, PlanTaken, PlannedOf, TakenApart, TakenTold};
-ghost use Rattle.write_laws.specs.Plans.{BoundStands, PlannedReadable, FirmDropPlanned, FirmPlanned, UntriggeredPlanned};
+ghost use Rattle.write_laws.specs.Plans.{BoundStands, PlannedReadable, FirmDropPlanned, FirmPlanned, IndexedDropPlanned, UntriggeredPlanned};
 
 // ---- what a write plans
 
@@ -109,7 +109,7 @@ pub fn law_images()
     ensures read { ImagesRead }
 {}
 
-/// Reads that gave no error pass in that database, where all rows of the tables that are read fit their shapes.
+/// Reads that gave no error pass in that database, where all rows of the parts that are read fit their tables' shapes.
 pub fn law_checks_read()
     ensures read { ChecksRead }
     ensures ready { ReadsReady }
@@ -236,7 +236,7 @@ pub fn law_bound_stands()
     ensures { BoundStands }
 {}
 
-// ---- index parts, which no table has yet
+// ---- index parts
 
 /// The own rows behind changes are those behind the changes of own rows.
 pub fn law_own_rows()
@@ -252,6 +252,7 @@ pub fn law_indexed()
     ensures erased { IndexedErased }
     ensures dropped { IndexedDropped }
     ensures cleared { IndexedCleared }
+    ensures planned { IndexedDropPlanned }
 {}
 
 /// What a write plans is what is done at the keys of rows that change; those that it takes are some of its target's image, and each was
@@ -293,10 +294,11 @@ pub fn law_index_keys()
 /// Behind a write whose rows were told, whose index rows were asked for, and whose changes were made as these were found, the database
 /// at the transaction's place is what was planned leaves, and each part follows its table's rows.
 pub fn law_attempted()
-    ensures { WriteFollows }
+    ensures follows { WriteFollows }
+    ensures applied { AppliedFollows }
 {}
 
-/// What passes of index parts that are exact passes of all rows.
+/// What passes as it is read, of index parts that are exact, passes as it is meant, of all rows.
 pub fn law_checking()
     ensures { PartsPass }
 {}

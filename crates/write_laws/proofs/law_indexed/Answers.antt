@@ -1,4 +1,5 @@
 use Rattle.write_laws.proofs.Cleared.{indexed_cleared}
+use Rattle.write_laws.proofs.DropParts.{indexed_drop_planned}
 use Rattle.write_laws.proofs.Indexed.{indexed_created, indexed_dropped, indexed_empty, indexed_erased, indexed_put}
 use Rattle.write_laws.proofs.law_indexed.Goals as goal
 
@@ -19,3 +20,6 @@ returns-clause-dropped c = indexed_dropped
 
 pub returns-clause-cleared : goal.returns-clause-cleared
 returns-clause-cleared c = indexed_cleared
+
+pub returns-clause-planned : goal.returns-clause-planned
+returns-clause-planned c = indexed_drop_planned

@@ -12,11 +12,11 @@ loop-left-init g c = record { may = c.requires.may; fetch = c.requires.fetch; st
 pub returns-in_err-start-clause-asks : goal.returns-in_err-start-clause-asks
 returns-in_err-start-clause-asks g c =
     let p = err_from_is_err_and c.from_residual.result c.from_residual.ensures.1 in
-    rw (p.1, p.2) (range_failed (key_width (option_map (λ of. of.now) c.args.shape)) (fits (option_map (λ of. of.now) c.args.shape)) c.loop-left.fetch c.loop-left.rows.items c.loop-left.left _ c.loop-left-test.true c.loop-left.invariant.leads c.in_err-start.ensures.asks)
+    rw (p.1, p.2) (range_failed (key_width (option_map (λ of. of.now) c.args.shape) c.args.part) (fits (option_map (λ of. of.now) c.args.shape) c.args.part) c.loop-left.fetch c.loop-left.rows.items c.loop-left.left _ c.loop-left-test.true c.loop-left.invariant.leads c.in_err-start.ensures.asks)
 
 pub returns-in-None-clause-asks : goal.returns-in-None-clause-asks
 returns-in-None-clause-asks g c =
-    range_ended (key_width (option_map (λ of. of.now) c.args.shape)) (fits (option_map (λ of. of.now) c.args.shape)) c.loop-left.fetch c.loop-left.rows.items c.loop-left.left _ c.loop-left-test.true c.loop-left.invariant.leads (rw c.in-None.is at c.in_ok-start.ensures.asks)
+    range_ended (key_width (option_map (λ of. of.now) c.args.shape) c.args.part) (fits (option_map (λ of. of.now) c.args.shape) c.args.part) c.loop-left.fetch c.loop-left.rows.items c.loop-left.left _ c.loop-left-test.true c.loop-left.invariant.leads (rw c.in-None.is at c.in_ok-start.ensures.asks)
 
 pub loop-left-preserved : goal.loop-left-preserved
 loop-left-preserved g c = record {
@@ -24,8 +24,8 @@ loop-left-preserved g c = record {
   fetch = rw c.begin_at.ensures (from_fetches _ _ c.loop-left.invariant.fetch);
   standing = c.in_ok-start.ensures.standing ∙ c.loop-left.invariant.standing;
   leads = rw c.begin_at.ensures
-      (range_next (key_width (option_map (λ of. of.now) c.args.shape)) (fits (option_map (λ of. of.now) c.args.shape)) c.loop-left.fetch c.loop-left.rows.items c.loop-left.left _ _ c.loop-left-test.true c.loop-left.invariant.leads (rw c.in-Some.is at c.in_ok-start.ensures.asks));
+      (range_next (key_width (option_map (λ of. of.now) c.args.shape) c.args.part) (fits (option_map (λ of. of.now) c.args.shape) c.args.part) c.loop-left.fetch c.loop-left.rows.items c.loop-left.left _ _ c.loop-left-test.true c.loop-left.invariant.leads (rw c.in-Some.is at c.in_ok-start.ensures.asks));
 }
 
 pub returns-clause-asks : goal.returns-clause-asks
-returns-clause-asks g c = range_limited (key_width (option_map (λ of. of.now) c.args.shape)) (fits (option_map (λ of. of.now) c.args.shape)) c.loop-left.fetch c.loop-left.rows.items c.loop-left.left (omega (arith, c.loop-left-test.false)) c.loop-left.invariant.leads
+returns-clause-asks g c = range_limited (key_width (option_map (λ of. of.now) c.args.shape) c.args.part) (fits (option_map (λ of. of.now) c.args.shape) c.args.part) c.loop-left.fetch c.loop-left.rows.items c.loop-left.left (omega (arith, c.loop-left-test.false)) c.loop-left.invariant.leads

@@ -13,8 +13,8 @@ invariant-loop-left g l = record {
   fetch : IsFetch l.fetch;
   standing : (g.P.Port.past l.port).standing ≡ (g.P.Port.past l.initial.port).standing;
   leads : Leads (g.P.Port.past l.initial.port) (g.P.Port.past l.port) l.manner
-      (rows_from (key_width (option_map (λ of. of.now) l.fn.shape)) (fits (option_map (λ of. of.now) l.fn.shape)) range_limit l.fn.fetch [])
-      (rows_from (key_width (option_map (λ of. of.now) l.fn.shape)) (fits (option_map (λ of. of.now) l.fn.shape)) l.left l.fetch l.rows.items);
+      (rows_from (key_width (option_map (λ of. of.now) l.fn.shape) l.fn.part) (fits (option_map (λ of. of.now) l.fn.shape) l.fn.part) range_limit l.fn.fetch [])
+      (rows_from (key_width (option_map (λ of. of.now) l.fn.shape) l.fn.part) (fits (option_map (λ of. of.now) l.fn.shape) l.fn.part) l.left l.fetch l.rows.items);
 }
 
 abbrev pub decreases-loop-left : goal.decreases-loop-left

@@ -1,12 +1,13 @@
-use Rattle.std.proofs.Common.{refl}
-use Rattle.dml_exec.specs.Writing.{attempts}
-use Rattle.dml_exec.proofs.Held.{asks_one, asks_over, asks_then}
+use Rattle.std.proofs.Common.{[], refl}
+use Rattle.dml_exec.specs.Writing.{asks_keys, attempts, behind_keys}
+use Rattle.dml_exec.proofs.Held.{asks_over, asks_then}
 use Rattle.dml_exec.proofs.writing.attempt_write.Goals as goal
 
-pub returns-in-Marked-clause-asks : goal.returns-in-Marked-clause-asks
+pub returns-in-Ok-clause-asks : goal.returns-in-Ok-clause-asks
 unfolding attempts
-returns-in-Marked-clause-asks g c = asks_one tt _ _ c.in-Marked.ensures.past c.in-Marked.ensures.reply (asks_then _ _ c.work-came.ensures.asks c.end.ensures.asks)
+returns-in-Ok-clause-asks g c =
+    asks_then (asks_keys c.args.changes.now []) (behind_keys c.args.shapes.now c.args.changes.now) c.in-Ok.ensures.asks (rw c.as_slice.ensures.value at c.attempt_found.ensures.asks)
 
-pub returns-in-Memory-clause-asks : goal.returns-in-Memory-clause-asks
+pub returns-in-Err-clause-asks : goal.returns-in-Err-clause-asks
 unfolding attempts
-returns-in-Memory-clause-asks g c = asks_one tt _ _ c.in-Memory.ensures.past c.in-Memory.ensures.reply (asks_over refl)
+returns-in-Err-clause-asks g c = asks_then (asks_keys c.args.changes.now []) (behind_keys c.args.shapes.now c.args.changes.now) c.in-Err.ensures.asks (asks_over refl)

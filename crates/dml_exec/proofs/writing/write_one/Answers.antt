@@ -1,7 +1,7 @@
 use Rattle.std.proofs.Common.{refl}
 use Rattle.dml_exec.specs.Writing.{writes_one}
 use Rattle.dml_exec.proofs.Held.{asks_over, asks_then}
-use Rattle.dml_exec.proofs.Writes.{told_why}
+use Rattle.dml_exec.proofs.Writes.{there_told}
 use Rattle.dml_exec.proofs.writing.write_one.Goals as goal
 
 pub returns-in-Done-clause-asks : goal.returns-in-Done-clause-asks
@@ -10,7 +10,7 @@ returns-in-Done-clause-asks g c = asks_then _ _ c.in-Done.ensures.asks (asks_ove
 
 pub returns-in-Exists-clause-asks : goal.returns-in-Exists-clause-asks
 unfolding writes_one
-returns-in-Exists-clause-asks g c = asks_then _ _ c.in-Exists.ensures.asks (told_why _ _ c.present.ensures)
+returns-in-Exists-clause-asks g c = asks_then _ _ c.in-Exists.ensures.asks (there_told c.args.shapes.now c.args.change.now _ c.there.ensures)
 
 pub returns-in-Missing-clause-asks : goal.returns-in-Missing-clause-asks
 unfolding writes_one
