@@ -193,6 +193,11 @@ class Maker:
         )[0]
 
     def option(self, _place):
+        if self.rand.random() < 0.2:
+            known = self.choose("DATEFIRST 7", "ROWCOUNT 0", "DATEFORMAT ymd", "LANGUAGE English")
+            return f"SET {self.choose(known, known, 'DATEFIRST 1', 'ROWCOUNT 1', 'DATEFORMAT iso', 'LANGUAGE dansk')}"
+        if self.rand.random() < 0.1:
+            return self.choose("USE main", "USE master", "USE other")
         return f"SET {self.choose('XACT_ABORT', 'XACT_ABORT', 'XACT_ABORT', 'NOCOUNT')} {self.choose('ON', 'OFF')}"
 
     def message(self, _place):
@@ -261,7 +266,7 @@ class Maker:
         kinds = ("number", "system", "variable", "NULL", "computed", "count")
         kind = self.rand.choices(kinds, (45, 10, 15, 10, 15, 10))[0]
         if kind == "system":
-            return self.choose("@@TRANCOUNT", "@@ROWCOUNT", "@@ERROR", "XACT_STATE()")
+            return self.choose("@@TRANCOUNT", "@@ROWCOUNT", "@@ERROR", "XACT_STATE()", "@@MAX_PRECISION")
         if kind == "variable":
             return self.rand.choice(place.variables)
         if kind == "NULL":

@@ -45,6 +45,7 @@ client() {
         pdo_odbc) timeout 120 php "$2_odbc.php" ;;
         perl) timeout 120 perl "$2.pl" $3 ;;
         odbc) timeout 120 perl "$2_odbc.pl" ;;
+        alchemy_*) timeout 120 /usr/bin/python3 "$2_alchemy.py" "$host" "$port" "${1#alchemy_}" ;;
         isql) timeout 120 isql tsqld sa A -b -v -d, < "$2_isql.sql" ;;
         tsql) { [ -z "$3" ] || echo "DECLARE @me INT = $3"; cat "$2.sql"; } | sql ;;
     esac > "$work/told.$1.$3" 2>&1
@@ -130,6 +131,7 @@ alone() {
 expected() {
     case $1.$2 in
         drivers.isql) ;;
+        drivers.alchemy_*) cat "$1.out" "$1.alchemy.out" ;;
         drivers.* | example.*) cat "$1.out" ;;
         calls.*) [ -e "calls.$2.out" ] || cat calls.out ;;
     esac
@@ -137,6 +139,6 @@ expected() {
 }
 alone example "go pyodbc pdo odbc"
 alone calls "go pymssql perl odbc"
-alone drivers "go pyodbc pymssql pytds pdo pdo_odbc perl odbc isql"
+alone drivers "go pyodbc pymssql pytds pdo pdo_odbc perl odbc isql alchemy_pyodbc alchemy_pymssql"
 printf 'DROP PROCEDURE add_item\nDROP TABLE items\nDROP TABLE orders\nDROP TABLE account\nDROP TABLE seat\nDROP PROCEDURE add_part\nDROP TABLE parts\ngo\n' | sql > "$work/dropped"
 exit $failed

@@ -33,6 +33,7 @@ TABLE = {
     512: Line(16, S, Y, "Subquery returned more than 1 value."),
     515: Line(16, S, Y, "Cannot insert the value NULL into column '{name}'."),
     547: Line(16, S, Y, "The statement conflicted with the constraint '{name}'."),
+    911: Line(16, B, Y, "Database '{name}' does not exist."),
     2627: Line(14, S, Y, "Violation of constraint '{name}'. Duplicate key."),
     2714: Line(16, B, Y, "There is already an object named '{name}'."),
     2812: Line(16, S, Y, "Could not find stored procedure '{name}'."),

@@ -22,6 +22,10 @@ LEVELS = {
 }
 PRIORITIES = ("LOW", "NORMAL", "HIGH")
 
+# Options that are set to a number, or to a name, and change nothing, each with what is known of it.
+NUMBERS = {"DATEFIRST": 7, "ROWCOUNT": 0}
+NAMES = {"DATEFORMAT": ("MDY", "DMY", "YMD", "YDM", "MYD", "DYM"), "LANGUAGE": ("US_ENGLISH", "ENGLISH")}
+
 
 class Reader(Phrases):
     """Reads one text."""
@@ -227,6 +231,12 @@ class Reader(Phrases):
             return True
         if self.take("LOCK_TIMEOUT"):
             return self.signed() in (0, -1)
+        if self.is_word(*NUMBERS):
+            known = NUMBERS[self.advance().value.upper()]
+            return self.signed() == known
+        if self.is_word(*NAMES):
+            known = NAMES[self.advance().value.upper()]
+            return self.name_or_text().upper() in known
         self.want("DEADLOCK_PRIORITY")
         return self.take(*PRIORITIES) or -10 <= self.signed() <= 10
 
@@ -241,6 +251,9 @@ class Reader(Phrases):
     def signed(self):
         sign = -1 if self.take_sign("-") else 1
         return sign * self.number()
+
+    def name_or_text(self):
+        return self.advance().value if self.peek().kind == "text" else self.name()
 
     def commit(self):
         self.want("COMMIT")
@@ -280,6 +293,10 @@ class Reader(Phrases):
     def deallocate(self):
         self.want("DEALLOCATE")
         return trees.Deallocate(self.name())
+
+    def use(self):
+        self.want("USE")
+        return trees.Use(self.name())
 
     # Calls.
 
@@ -383,6 +400,7 @@ STATEMENTS = {
     "FETCH": Reader.fetch,
     "CLOSE": Reader.close,
     "DEALLOCATE": Reader.deallocate,
+    "USE": Reader.use,
     "EXEC": Reader.execute,
     "EXECUTE": Reader.execute,
 }

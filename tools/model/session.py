@@ -17,6 +17,14 @@ from .values import Failure, Kind, converted
 MOST_STEPS = 20_000
 WRITES = (trees.Insert, trees.Update, trees.Delete)
 TRIGGER_TABLES = ("inserted", "deleted")
+SERVER_VALUES = {
+    "@@VERSION": "Microsoft SQL Server protocol, tsqld - 15.0.0.0",
+    "@@SERVERNAME": "tsqld",
+    "@@MAX_PRECISION": 38,
+    "SCHEMA_NAME": "dbo",
+    "DB_NAME": "main",
+    "USER_NAME": "dbo",
+}
 CATALOG = "objects"
 
 
@@ -347,6 +355,8 @@ class Session:
             "@@FETCH_STATUS": self.fetch_status,
             "XACT_STATE": self.state(),
         }
+        if name in SERVER_VALUES:
+            return SERVER_VALUES[name]
         return own[name] if name in own else error_value(name, around.caught)
 
     def state(self):

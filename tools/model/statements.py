@@ -4,7 +4,7 @@ from dataclasses import dataclass, replace
 from typing import Optional
 
 from . import trees
-from .errors import RAISERROR, THROW, Raised
+from .errors import RAISERROR, SERVER, THROW, Raised
 from .session import AGAIN, LEAVE, ON, Exit, Way, meaning_of
 from .values import INT, Failure, converted, printed, text_kind
 
@@ -308,4 +308,18 @@ def close_cursor(session, _around, statement):
 def deallocate(session, _around, statement):
     cursor_of(session, statement.name)
     del session.cursors[statement.name]
+    return session.succeeds(statement)
+
+
+# ---- the database
+
+
+@meaning_of(trees.Use)
+def use(session, around, statement):
+    """There is one database, by two names; it is told by the first."""
+    if statement.name not in ("main", "master"):
+        raise Failure(911, statement.name)
+    session.lines.append("ENVCHANGE 1 new 'main' old 'main'")
+    text = "Changed database context to 'main'."
+    session.tell("INFO", Raised(5701, 0, 1, text, around.procedure, statement.line, SERVER))
     return session.succeeds(statement)

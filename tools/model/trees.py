@@ -366,6 +366,11 @@ class Deallocate(Statement):
 
 
 @dataclass
+class Use(Statement):
+    name: str
+
+
+@dataclass
 class Argument:
     """Of a call. `value` is a Variable, or a constant: a number, a text or None."""
 

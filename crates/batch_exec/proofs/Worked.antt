@@ -54,6 +54,7 @@ IsWorked form = ((name : Option (List ℕ)) → form ≢ tree.BeginTransaction n
     × ((name : List ℕ) (variables : List (List ℕ)) → form ≢ tree.Fetch name variables)
     × ((name : List ℕ) → form ≢ tree.CloseCursor name)
     × ((name : List ℕ) → form ≢ tree.Deallocate name)
+    × ((name : List ℕ) → form ≢ tree.Use name)
 
 effects_node : (form : TreeForm) (node : Layer) (one : Statement → Meaning) (around : Around) (s : Statement) → IsSimple node → IsOther form → out-Form form ≡ node → mean_form one around s node ≡ does around s On (effects around s node)
 unfolding mean_form
@@ -97,6 +98,7 @@ worked_node form (Form-F.OpenCursor name) around s other is = absurd (other.7 na
 worked_node form (Form-F.Fetch name variables) around s other is = absurd (other.8 name variables (rolled form (Form-F.Fetch name variables) (tree.Fetch name variables) is (tree.rolls-Fetch name variables)))
 worked_node form (Form-F.CloseCursor name) around s other is = absurd (other.9 name (rolled form (Form-F.CloseCursor name) (tree.CloseCursor name) is (tree.rolls-CloseCursor name)))
 worked_node form (Form-F.Deallocate name) around s other is = absurd (other.10 name (rolled form (Form-F.Deallocate name) (tree.Deallocate name) is (tree.rolls-Deallocate name)))
+worked_node form (Form-F.Use name) around s other is = absurd (other.11 name (rolled form (Form-F.Use name) (tree.Use name) is (tree.rolls-Use name)))
 worked_node form node around s other is = refl
 
 pub does_worked : {before after : PortPast} (around : Around) (s : Statement) (form : TreeForm) {p new : SessionProgress} {result : Result (Result Effect Failure) Memory} → out-Form form ≡ form_of s → IsWorked form

@@ -35,6 +35,7 @@ use Rattle.batch_meaning.specs.Working.{known_by, works}
 use Rattle.batch_meaning.specs.Writes.{creates_table, drops}
 use Rattle.batch_meaning.specs.Calls.{Call, call_over, parameter_var}
 use Rattle.batch_meaning.specs.Cursors.{closes_cursor, declares_cursor, fetches_cursor, opens_cursor, removes_cursor}
+use Rattle.batch_meaning.specs.Databases.{uses_database}
 use Rattle.batch_meaning.specs.Transactions.{begins_transaction, commits_transaction, rolls_back_transaction, saves_transaction}
 use Rattle.batch_meaning.specs.Meaning.{decides, mean_of, turns, uneven_end}
 use Rattle.batch_meaning.specs.Rpc.{Placed, is_given, is_output, return_value, rpc_argument}
@@ -82,6 +83,7 @@ effects around statement (Form-F.OpenCursor name) = opens_cursor around statemen
 effects around statement (Form-F.Fetch name variables) = fetches_cursor statement name variables
 effects around statement (Form-F.CloseCursor name) = closes_cursor statement name
 effects around statement (Form-F.Deallocate name) = removes_cursor statement name
+effects around statement (Form-F.Use name) = uses_database around statement name
 effects around statement form = works around statement
 
 -- ---- calls

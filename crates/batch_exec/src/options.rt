@@ -2,7 +2,7 @@
 
 ghost use Rattle.std.specs.Prelude.{◌≡◌, IfOk};
 ghost use Rattle.step_model.specs.Exchange.{IsPriority};
-ghost use Rattle.batch_meaning.specs.Settings.{at_level, is_setting, outside_profile, priority_of, set_option, with_priority, with_timeout};
+ghost use Rattle.batch_meaning.specs.Settings.{at_level, if_known, is_setting, outside_profile, priority_of, set_option, with_priority, with_timeout};
 ghost use Rattle.batch_meaning.specs.Failures.{plain};
 
 use batch_meaning::{Failure, Settings};
@@ -10,6 +10,12 @@ use dml_exec::Level;
 use session_state::OUTSIDE_PROFILE;
 use step_model::{Manner, Patience};
 use tsql_tree::{FixedOption, IsolationLevel, PriorityWord, SessionOption};
+
+/// The day on which a week begins, Sunday.
+const FIRST_OF_WEEK: i64 = 7;
+
+/// The limit of rows that is none.
+const ALL_ROWS: i64 = 0;
 
 /// The settings behind SET of an option.
 pub(crate) fn set_option(option: SessionOption, settings: Settings) -> Result<Settings, Failure>
@@ -28,17 +34,28 @@ pub(crate) fn set_option(option: SessionOption, settings: Settings) -> Result<Se
         }),
         SessionOption::ImplicitTransactions(true) => Err(not_known()),
         SessionOption::ImplicitTransactions(false) => Ok(settings),
-        SessionOption::Fixed(which, is_on) => {
-            if is_setting(which, is_on) {
-                Ok(settings)
-            } else {
-                Err(not_known())
-            }
-        }
+        SessionOption::Fixed(which, is_on) => if_known(is_setting(which, is_on), settings),
         SessionOption::Isolation(level) => at_level(level, settings),
         SessionOption::LockTimeout(number) => with_timeout(number, settings),
         SessionOption::TextSize(_) => Ok(settings),
         SessionOption::DeadlockPriority(word) => with_priority(priority_of(word), settings),
+        SessionOption::DateFirst(number) => if_known(number == FIRST_OF_WEEK, settings),
+        SessionOption::RowCount(number) => if_known(number == ALL_ROWS, settings),
+        SessionOption::DateFormat(known) => if_known(known, settings),
+        SessionOption::Language(known) => if_known(known, settings),
+    }
+}
+
+/// Of an option that changes nothing, by whether its setting is known.
+fn if_known(known: bool, settings: Settings) -> Result<Settings, Failure>
+    requires { IsPriority settings.manner.priority }
+    ensures set { result ≡ if_known known settings }
+    ensures priority { IfOk result (λ set. IsPriority set.manner.priority) }
+{
+    if known {
+        Ok(settings)
+    } else {
+        Err(not_known())
     }
 }
 

@@ -26,7 +26,7 @@ use session_state::{Around, Effect, OUTSIDE_PROFILE, SessionState, is_message, m
 use sqlite_items::Boxed;
 use statement_exec::{
     close_cursor, compose, create_table, declare_cursor, drop_object, fetch, open_cursor,
-    remove_cursor, status, work,
+    remove_cursor, status, use_database, work,
 };
 use std::alloc::Global;
 use step_model::Port;
@@ -133,6 +133,7 @@ fn work_by_form<P: Port>(
         }
         Form::CloseCursor(name) => close_cursor(alloc, session, statement, name),
         Form::Deallocate(name) => remove_cursor(alloc, session, statement, name),
+        Form::Use(name) => use_database(alloc, session, statement, name, around),
         _ => work(alloc, session, port, statement, around),
     }
 }

@@ -23,6 +23,7 @@ use Rattle.batch_meaning.specs.declared.stop.Stop.TheVariants.{Failed, Left}
 use Rattle.batch_meaning.specs.Asking.{assigns_all, comes_to, fails}
 use Rattle.batch_meaning.specs.Calls.{Call, call_vars, depth_limit, finds_call, given_back, too_deep}
 use Rattle.batch_meaning.specs.Cursors.{closes_cursor, declares_cursor, fetches_cursor, opens_cursor, removes_cursor}
+use Rattle.batch_meaning.specs.Databases.{uses_database}
 use Rattle.batch_meaning.specs.Doing.{Doing, makes, over, reads, ◌then◌, Held}
 use Rattle.batch_meaning.specs.Failures.{plain}
 use Rattle.batch_meaning.specs.Firing.{closes_own, in_trigger, leaves_fired, relaxes_then, trigger_end, undone_to}
@@ -119,6 +120,7 @@ module _ (one : Statement → Meaning) (around : Around) (statement : Statement)
   named_held (Form-F.Fetch name variables) work is held = same_work work (fetches_cursor statement name variables) is held
   named_held (Form-F.CloseCursor name) work is held = same_work work (closes_cursor statement name) is held
   named_held (Form-F.Deallocate name) work is held = same_work work (removes_cursor statement name) is held
+  named_held (Form-F.Use name) work is held = same_work work (uses_database around statement name) is held
   named_held form work is held = absurd (let no : None ≡ Some work = is in cc)
 
 pub named_does : NamedDoes

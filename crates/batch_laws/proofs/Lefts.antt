@@ -317,6 +317,7 @@ module _ (around : Around) (statement : Statement) (p : SessionProgress) (shut :
   form_went one new exchanges (Form-F.Fetch name variables) is plain_one left = absurd (let no : false ≡ true = plain_one in cc)
   form_went one new exchanges (Form-F.CloseCursor name) is plain_one left = absurd (let no : false ≡ true = plain_one in cc)
   form_went one new exchanges (Form-F.Deallocate name) is plain_one left = absurd (let no : false ≡ true = plain_one in cc)
+  form_went one new exchanges (Form-F.Use name) is plain_one left = absurd (let no : false ≡ true = plain_one in cc)
   form_went one new exchanges (Form-F.Return value) is plain_one left = inl (returns_went new exchanges value is left)
   form_went one new exchanges (Form-F.Insert table columns rows) is plain_one left = writes_went one new exchanges (Form-F.Insert table columns rows) is refl left
   form_went one new exchanges (Form-F.Update table sets filter) is plain_one left = writes_went one new exchanges (Form-F.Update table sets filter) is refl left

@@ -53,6 +53,7 @@ use Rattle.batch_meaning.specs.Asking.{assigns_all, comes_to, fails, fails_namin
 use Rattle.batch_meaning.specs.Calls.{Call, call_over, call_vars, depth_limit, finds_call, given_back, no_procedure, too_deep, uneven}
 use Rattle.batch_meaning.specs.Changing.{object_present}
 use Rattle.batch_meaning.specs.Cursors.{answered, fails_for_cursor, opens_bound, opens_cursor, opens_kept, select_statement, closes_cursor, declares_cursor, fetches_cursor, removes_cursor}
+use Rattle.batch_meaning.specs.Databases.{uses_database}
 use Rattle.batch_meaning.specs.Doing.{Doing, asks, makes, over, reads, ◌then◌, Held}
 use Rattle.batch_meaning.specs.Failures.{plain}
 use Rattle.batch_meaning.specs.Firing.{closes_own, has_mark, in_trigger, leaves_fired, relaxes_then, settles, trigger_end, undone_to}
@@ -71,7 +72,7 @@ use Rattle.batch_meaning.specs.Writes.{Written, change_bound, creates, creates_d
 use Rattle.statement_paths.specs.Paths.{IsEntered, IsFired, changes_of, is_write}
 use Rattle.statement_paths.proofs.Only.{AnyOp, Only, held_keeps, only_bind, only_comes, only_if, only_mono, only_naming}
 use Rattle.statement_paths.proofs.Apart.{held_apart}
-use Rattle.statement_paths.proofs.Cursors.{IsCursorStep, Silent, closes_silent, declares_silent, fetches_silent, looks_own, only_fault, opens_look, removes_silent}
+use Rattle.statement_paths.proofs.Cursors.{IsCursorStep, Silent, closes_silent, declares_silent, fetches_silent, looks_own, only_fault, opens_look, removes_silent, uses_silent}
 use Rattle.statement_paths.proofs.Owned.{Owned, Refused, nothing_more, own_held}
 use Rattle.statement_paths.proofs.Statements.{NoOp}
 use Rattle.statement_paths.proofs.Working.{status_read}
@@ -826,6 +827,7 @@ module _ (one : Statement → Meaning) (each : (inner : Statement) (at : Around)
     form_settles (Form-F.Fetch name variables) is = does_settles around statement On (fetches_cursor statement name variables) (silent_settles (fetches_cursor statement name variables) (fetches_silent statement name variables))
     form_settles (Form-F.CloseCursor name) is = does_settles around statement On (closes_cursor statement name) (silent_settles (closes_cursor statement name) (closes_silent statement name))
     form_settles (Form-F.Deallocate name) is = does_settles around statement On (removes_cursor statement name) (silent_settles (removes_cursor statement name) (removes_silent statement name))
+    form_settles (Form-F.Use name) is = does_settles around statement On (uses_database around statement name) (silent_settles (uses_database around statement name) (uses_silent around statement name))
     form_settles form is = does_settles around statement On (works around statement) (works_settles around p0 statement)
 
     by_settles : Settles (mean_by one statement around)

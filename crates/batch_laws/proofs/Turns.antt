@@ -217,6 +217,7 @@ module _ (around : Around) (statement : Statement) (p new : SessionProgress) (ex
   form_finished one (Form-F.Fetch name variables) is plain_one held = absurd (let no : false ≡ true = plain_one in cc)
   form_finished one (Form-F.CloseCursor name) is plain_one held = absurd (let no : false ≡ true = plain_one in cc)
   form_finished one (Form-F.Deallocate name) is plain_one held = absurd (let no : false ≡ true = plain_one in cc)
+  form_finished one (Form-F.Use name) is plain_one held = absurd (let no : false ≡ true = plain_one in cc)
   form_finished one (Form-F.Return value) is plain_one held = inl (returns_finished value is held)
   form_finished one (Form-F.Insert table columns rows) is plain_one held = writes_finished one (Form-F.Insert table columns rows) is refl held
   form_finished one (Form-F.Update table sets filter) is plain_one held = writes_finished one (Form-F.Update table sets filter) is refl held

@@ -191,6 +191,7 @@ is_plain (Form-F.OpenCursor name) = false
 is_plain (Form-F.Fetch name variables) = false
 is_plain (Form-F.CloseCursor name) = false
 is_plain (Form-F.Deallocate name) = false
+is_plain (Form-F.Use name) = false
 is_plain form = true
 
 abbrev pub ArePlain : List Statement → Type 0

@@ -23,6 +23,7 @@ use Rattle.batch_meaning.specs.declared.stop.Stop.{Stop}
 use Rattle.batch_meaning.specs.declared.stop.Stop.TheVariants.{Failed, Left}
 use Rattle.batch_meaning.specs.Calls.{Call, call_vars, depth_limit, finds_call, given_back, too_deep, uneven}
 use Rattle.batch_meaning.specs.Cursors.{closes_cursor, declares_cursor, fetches_cursor, opens_cursor, removes_cursor}
+use Rattle.batch_meaning.specs.Databases.{uses_database}
 use Rattle.batch_meaning.specs.Doing.{Doing, over, Held}
 use Rattle.batch_meaning.specs.Failures.{plain}
 use Rattle.batch_meaning.specs.Firing.{closes_own, in_trigger, leaves_fired, relaxes_then, trigger_end, undone_to}
@@ -77,6 +78,7 @@ work_named around statement (Form-F.OpenCursor name) = Some (opens_cursor around
 work_named around statement (Form-F.Fetch name variables) = Some (fetches_cursor statement name variables)
 work_named around statement (Form-F.CloseCursor name) = Some (closes_cursor statement name)
 work_named around statement (Form-F.Deallocate name) = Some (removes_cursor statement name)
+work_named around statement (Form-F.Use name) = Some (uses_database around statement name)
 work_named around statement form = None
 
 -- that comes first, and then what it came to is told, and the next statement comes; or its error strikes

@@ -14,6 +14,7 @@ pub mod Working  -- within, works: what a statement that reads tables asks, and 
 pub mod Writes  -- changes, drops, creates_definition: what a statement that changes something asks, up to where its triggers run
 pub mod Transactions  -- begins_transaction: what the statements on transactions ask
 pub mod Cursors  -- opens_cursor: what the statements on cursors ask, and what comes of them
+pub mod Databases  -- uses_database: what USE sends
 pub mod Calls  -- finds_call, given_back: what a call runs, and what it gives back
 pub mod Firing  -- leaves_fired: what becomes of a write by how its triggers end
 pub mod Meaning  -- batch: what statements ask, what they end, and what comes of the replies

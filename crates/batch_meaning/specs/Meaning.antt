@@ -45,6 +45,7 @@ use Rattle.batch_meaning.specs.Writes.{Written, change_bound, creates_definition
 use Rattle.batch_meaning.specs.Calls.{Call, call_vars, depth_limit, finds_call, given_back, too_deep, uneven}
 use Rattle.batch_meaning.specs.Firing.{closes_own, in_trigger, leaves_fired, relaxes_then, trigger_end, undone_to}
 use Rattle.batch_meaning.specs.Cursors.{closes_cursor, declares_cursor, fetches_cursor, opens_cursor, removes_cursor}
+use Rattle.batch_meaning.specs.Databases.{uses_database}
 use Rattle.batch_meaning.specs.Transactions.{begins_transaction, commits_transaction, rolls_back_transaction, saves_transaction}
 
 abbrev pub Meaning : Type 0
@@ -405,6 +406,7 @@ module _ (one : Statement → Meaning) where
   mean_form around statement (Form-F.Fetch name variables) = does around statement On (fetches_cursor statement name variables)
   mean_form around statement (Form-F.CloseCursor name) = does around statement On (closes_cursor statement name)
   mean_form around statement (Form-F.Deallocate name) = does around statement On (removes_cursor statement name)
+  mean_form around statement (Form-F.Use name) = does around statement On (uses_database around statement name)
   mean_form around statement form = does around statement On (works around statement)
 
   -- what is refused in a doomed transaction is, before it is bound or asks anything

@@ -75,6 +75,13 @@ is_setting fixed.FormatOnly is_on = not is_on
 is_setting fixed.NumericRoundAbort is_on = not is_on
 is_setting other is_on = is_on
 
+-- the one day on which a week begins, which is Sunday, and the one limit of rows, which is none
+abbrev pub first_of_week : ℤ
+first_of_week = pos 7
+
+abbrev pub all_rows : ℤ
+all_rows = pos 0
+
 -- the settings behind SET
 abbrev pub set_option : SessionOption → Settings → Result Settings Failure
 set_option (option.XactAbort is_on) settings = Ok (record settings { xact_abort = is_on })
@@ -86,3 +93,7 @@ set_option (option.Isolation level) settings = at_level level settings
 set_option (option.LockTimeout number) settings = with_timeout number settings
 set_option (option.TextSize number) settings = Ok settings
 set_option (option.DeadlockPriority word) settings = with_priority (priority_of word) settings
+set_option (option.DateFirst number) settings = if_known (int_eq number first_of_week) settings
+set_option (option.RowCount number) settings = if_known (int_eq number all_rows) settings
+set_option (option.DateFormat known) settings = if_known known settings
+set_option (option.Language known) settings = if_known known settings

@@ -90,6 +90,7 @@ module _ (vars : List Variable) where
   names_outside (Form-F.Fetch name variables) = is_long name || list_any is_odd_variable variables
   names_outside (Form-F.CloseCursor name) = is_long name
   names_outside (Form-F.Deallocate name) = is_long name
+  names_outside (Form-F.Use name) = is_long name
   names_outside (Form-F.Execute status name arguments) = is_odd_call status name arguments
   names_outside _ = false
 

@@ -214,6 +214,7 @@ fn note_tables(form: &Form, names: &mut TableNames) -> Result<(), Memory>
         Form::Fetch(_, _) => Ok(()),
         Form::CloseCursor(_) => Ok(()),
         Form::Deallocate(_) => Ok(()),
+        Form::Use(_) => Ok(()),
         Form::Execute(_, _, _) => Ok(()),
     }
 }
@@ -253,5 +254,6 @@ fn note_objects(form: &Form, names: &mut TableNames) -> Result<(), Memory>
         Form::Fetch(_, _) => Ok(()),
         Form::CloseCursor(_) => Ok(()),
         Form::Deallocate(_) => Ok(()),
+        Form::Use(_) => Ok(()),
     }
 }

@@ -128,6 +128,7 @@ pub(crate) fn names_outside(form: &Form, vars: &Vars) -> bool
         }
         Form::CloseCursor(name) => is_long(name),
         Form::Deallocate(name) => is_long(name),
+        Form::Use(name) => is_long(name),
         Form::Execute(status, procedure, arguments) => {
             is_odd_call(status, procedure, arguments.as_slice(), vars)
         }

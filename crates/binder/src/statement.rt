@@ -122,6 +122,7 @@ fn made_by<'d>(binder: &Binder<'_, 'd>, form: &'d Form) -> Result<Made, BindFaul
         Form::Fetch(_, _) => Ok(plain_made(false)),
         Form::CloseCursor(_) => Ok(plain_made(false)),
         Form::Deallocate(_) => Ok(plain_made(false)),
+        Form::Use(_) => Ok(plain_made(false)),
         Form::Execute(_, _, _) => Ok(plain_made(false)),
     }
 }

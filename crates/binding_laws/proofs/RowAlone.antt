@@ -144,8 +144,8 @@ module _ (one two : SettingTypes) (same : one.row ≡ two.row) where
   system_alone : (word : SystemWord) → GivesAlone E (operand.system_expr word)
   system_alone word at alone done = by_row at.row_alone alone.alone
     where
-      by_row : (b : Bool) → b ≡ true → E (if b then operand.left_out (Some (operand.system_kind (operand.system_value word))) else node.leaf (operand.system_kind (operand.system_value word)) (bound.System (operand.system_value word)))
-      by_row true e = left_alike (Some (operand.system_kind (operand.system_value word)))
+      by_row : (b : Bool) → b ≡ true → E (if b then operand.left_out (operand.system_node word).facts.kind else operand.system_node word)
+      by_row true e = left_alike (operand.system_node word).facts.kind
       by_row false e = absurd (cc)
 
   column_alone : (table : Option (List ℕ)) (name : List ℕ) → GivesAlone E (operand.column table name)

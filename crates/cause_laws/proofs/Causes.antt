@@ -41,6 +41,7 @@ use Rattle.batch_meaning.specs.declared.stop.Stop.TheVariants.{Failed, Left}
 use Rattle.batch_meaning.specs.Asking.{assigns_all, comes_to, fails_naming, where_done, where_ended}
 use Rattle.batch_meaning.specs.Calls.{Call, call_over, call_vars, depth_limit, finds_call, given_back, no_procedure, too_deep, uneven}
 use Rattle.batch_meaning.specs.Cursors.{closes_cursor, declares_cursor, fetches_cursor, opens_cursor, removes_cursor}
+use Rattle.batch_meaning.specs.Databases.{uses_database}
 use Rattle.batch_meaning.specs.Doing.{Doing, asks, makes, over, reads, ◌then◌, Held}
 use Rattle.batch_meaning.specs.Failures.{plain}
 use Rattle.batch_meaning.specs.Firing.{closes_own, ended_in_trigger, doomed_in_trigger, has_mark, in_trigger, leaves_fired, relaxes_then, settles, trigger_end, undone_to}
@@ -64,7 +65,7 @@ use Rattle.cause_laws.proofs.Watch.{CaughtBy, CaughtOther, Guard, IsOther, Leave
 use Rattle.cause_laws.proofs.Locks.{caught_other, leaves_other, lock_watch, told_none}
 use Rattle.cause_laws.proofs.Clean.{Clean, OtherOr, clean_bind, clean_comes, clean_done, clean_ended, clean_enough, clean_if, clean_naming, clean_room, clean_then, held_clean, usual_other}
 use Rattle.cause_laws.proofs.CleanParts.{EffectOther, Effects, Plainly, RaisesOther, WrittenOther, clean_assigns, clean_binds, clean_bound, clean_call, clean_change, clean_closes, clean_composes, clean_drops, clean_enters, clean_leaves, clean_relaxes, clean_statuses, clean_tests, clean_works, messages_other}
-use Rattle.cause_laws.proofs.CleanForms.{clean_begins, clean_commits, clean_create, clean_declares, clean_definition, clean_fetches, clean_opens, clean_removes, clean_rolls, clean_saves, clean_shuts}
+use Rattle.cause_laws.proofs.CleanForms.{clean_begins, clean_commits, clean_create, clean_declares, clean_definition, clean_fetches, clean_opens, clean_removes, clean_rolls, clean_saves, clean_shuts, clean_uses}
 
 module _ (error : Guard) where
   -- a statement, or what comes of it
@@ -422,6 +423,7 @@ module _ (error : Guard) where
       clean_form (Form-F.Fetch name variables) = clean_does around statement (fetches_cursor statement name variables) (clean_fetches error statement name variables)
       clean_form (Form-F.CloseCursor name) = clean_does around statement (closes_cursor statement name) (clean_shuts error statement name)
       clean_form (Form-F.Deallocate name) = clean_does around statement (removes_cursor statement name) (clean_removes error statement name)
+      clean_form (Form-F.Use name) = clean_does around statement (uses_database around statement name) (clean_uses error around statement name)
       clean_form form = clean_does around statement (works around statement) (clean_works error around statement)
 
       clean_by : Exits (mean_by one statement around)

@@ -7,7 +7,7 @@ use Rattle.tsql_tree.specs.declared.definition.Definition.{Definition}
 use Rattle.tsql_tree.specs.declared.definition.Definition.TheVariants.{Table, Procedure, Trigger}
 use Rattle.tsql_tree.specs.declared.definition.TableTree.{TableTree}
 use Rattle.tsql_tree.specs.declared.query.Select.{Select}
-use Rattle.tsql_tree.specs.declared.statement.Statement.{Statement}
+use Rattle.tsql_tree.specs.declared.statement.Statement.{Statement, out-Statement}
 use Rattle.bound_tree.specs.declared.write.Bound.{Bound}
 use Rattle.bound_tree.specs.declared.write.Bound.TheVariants as bound
 use Rattle.binder.specs.Names.{looked_up}
@@ -31,6 +31,7 @@ use Rattle.batch_meaning.specs.declared.failure.Failure.{Failure}
 use Rattle.batch_meaning.specs.Asking.{comes_to, fails, fails_naming, look_up, marked, takes_back, unless_refused, where_begun, with_room}
 use Rattle.batch_meaning.specs.Changing.{created, object_present, unknown_table}
 use Rattle.batch_meaning.specs.Cursors.{already_there, answered, assigns_row, closes_cursor, declares_cursor, fails_for_cursor, fetches_cursor, fetches_into, fetches_row, fills_with, kinds_of, no_such_cursor, opens_bound, opens_cursor, opens_kept, other_count, removes_cursor, select_statement}
+use Rattle.batch_meaning.specs.Databases.{context_tokens, is_database, no_database, tells_context, uses_database, uses_named}
 use Rattle.batch_meaning.specs.Doing.{Doing, asks, makes, over, reads, ◌then◌}
 use Rattle.batch_meaning.specs.Failures.{naming, plain}
 use Rattle.batch_meaning.specs.Progress.{SessionProgress, declares, fetches, fills, opens, removes, saves, shuts}
@@ -239,3 +240,12 @@ module _ (error : Guard) where
   pub clean_removes : (statement : Statement) (name : List ℕ) → Effects error (removes_cursor statement name)
   unfolding removes_cursor
   clean_removes statement name = clean_first statement _ (λ p. clean_answered name (λ done. makes (removes name) (over (Ok no_effect))) (list.remove_answer name p.cursors) (known_in {A = Unit {0}} (λ cursor. Ok tt) (list.cursor_of name p.cursors) (λ cursor. tt)) (λ done. (tt, tt)))
+
+  -- ---- USE
+
+  pub clean_uses : (around : Around) (statement : Statement) (name : List ℕ) → Effects error (uses_database around statement name)
+  unfolding uses_database
+  clean_uses around statement name = clean_first statement (λ p. uses_named around statement name) (λ p.
+      clean_if error (OtherOr error (EffectOther error)) (is_database name) (tells_context (context_tokens around.procedure (pos (out-Statement statement).line))) (fails_naming no_database name)
+      (clean_left error (EffectOther error) (context_tokens around.procedure (pos (out-Statement statement).line)) _ (tt, (tt, tt)))
+      (clean_naming error Effect (EffectOther error) no_database name refl))

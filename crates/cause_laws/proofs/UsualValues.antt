@@ -64,7 +64,7 @@ use Rattle.batch_meaning.specs.Changing.{dropped, dropped_as, planned_as, planne
 use Rattle.batch_meaning.specs.Failures.{naming, plain}
 use Rattle.batch_meaning.specs.Progress.{SessionProgress, system_in, values_of}
 use Rattle.batch_meaning.specs.Raised.{Around}
-use Rattle.batch_meaning.specs.Settings.{if_known, is_priority, is_setting, not_known, outside_profile, priority_of, set_option, with_manner}
+use Rattle.batch_meaning.specs.Settings.{all_rows, first_of_week, if_known, is_priority, is_setting, not_known, outside_profile, priority_of, set_option, with_manner}
 use Rattle.batch_meaning.specs.Statements.{IsRead, ReadsAs, text_of}
 use Rattle.batch_meaning.specs.Selecting.{answer_as, answer_in, bound_as, bound_over, raised_by}
 use Rattle.batch_meaning.specs.Values.{Assigned, any_text, assigned_at, assigned_next, assigned_onto, assigned_to, cast_as, cast_to, first_of, greatest_class, greatest_number, greatest_state, kind_or, least_number, number_between, number_in, outside_limits, places_onto, rows_assigned, standing, status_of, text_in, whole_of, ◌>>=◌}
@@ -350,16 +350,16 @@ save_usual txn = by_tests (is_closed txn) txn.doomed
 
 -- ---- options
 
+known_usual : (known : Bool) (settings : Settings) → UsualOr Anything (if_known known settings)
+known_usual true settings = tt
+known_usual false settings = refl
+
 pub option_usual : (option : SessionOption) (settings : Settings) → UsualOr Anything (set_option option settings)
 option_usual (options.XactAbort is_on) settings = tt
 option_usual (options.NoCount is_on) settings = tt
 option_usual (options.ImplicitTransactions true) settings = refl
 option_usual (options.ImplicitTransactions false) settings = tt
-option_usual (options.Fixed which is_on) settings = by_setting (is_setting which is_on)
-  where
-    by_setting : (known : Bool) → UsualOr Anything (if_known known settings)
-    by_setting true = tt
-    by_setting false = refl
+option_usual (options.Fixed which is_on) settings = known_usual (is_setting which is_on) settings
 option_usual (options.Isolation isolation.ReadCommitted) settings = tt
 option_usual (options.Isolation isolation.Serializable) settings = tt
 option_usual (options.Isolation other) settings = refl
@@ -370,6 +370,10 @@ option_usual (options.LockTimeout number) settings = by_tests (int_eq number (po
     by_tests false true = tt
     by_tests false false = refl
 option_usual (options.TextSize number) settings = tt
+option_usual (options.DateFirst number) settings = known_usual (int_eq number first_of_week) settings
+option_usual (options.RowCount number) settings = known_usual (int_eq number all_rows) settings
+option_usual (options.DateFormat known) settings = known_usual known settings
+option_usual (options.Language known) settings = known_usual known settings
 option_usual (options.DeadlockPriority word) settings = by_test (is_priority (priority_of word))
   where
     by_test : (b : Bool) → UsualOr Anything (if b then Ok (with_manner (record settings.manner { priority = priority_of word }) settings) else not_known)

@@ -33,6 +33,7 @@ use Rattle.clause_binder.specs.declared.scope.Found.{Found}
 use Rattle.clause_binder.specs.declared.operand.Selected.{Selected}
 use Rattle.clause_binder.specs.declared.progress.Progress.{Progress}
 use Rattle.clause_binder.specs.Progress.{Binding, Context, beyond_where, given, is_deep}
+use Rattle.clause_binder.specs.Server.{database_name, max_precision, name_size, schema_name, server_name, server_text, user_name, version_size, version_text}
 
 -- ---- places
 
@@ -59,20 +60,7 @@ column_in qualifier name at = after (column_of qualifier name at.sources) (λ fo
 abbrev pub column : Option (List ℕ) → List ℕ → Binding TypedExpr
 column qualifier name at done = given (column_in qualifier name at) at done
 
--- ---- values of the session
-
-abbrev pub system_value : SystemWord → SystemValue
-system_value word.TranCount = system.TranCount
-system_value word.Error = system.Error
-system_value word.RowCount = system.RowCount
-system_value word.FetchStatus = system.FetchStatus
-system_value word.XactState = system.XactState
-system_value word.ErrorNumber = system.ErrorNumber
-system_value word.ErrorSeverity = system.ErrorSeverity
-system_value word.ErrorState = system.ErrorState
-system_value word.ErrorLine = system.ErrorLine
-system_value word.ErrorMessage = system.ErrorMessage
-system_value word.ErrorProcedure = system.ErrorProcedure
+-- ---- values of the session, and of the server
 
 -- XACT_STATE() is a SMALLINT, the message and the procedure are texts, and all else is INT
 abbrev pub system_kind : SystemValue → SqlType
@@ -88,8 +76,31 @@ system_kind system.ErrorLine = Int
 system_kind system.ErrorMessage = NText 4000
 system_kind system.ErrorProcedure = NText 128
 
+abbrev pub session_value : SystemValue → TypedExpr
+session_value of = leaf (system_kind of) (bound.System of)
+
+-- what a word for a value is bound to
+abbrev pub system_node : SystemWord → TypedExpr
+system_node word.TranCount = session_value system.TranCount
+system_node word.Error = session_value system.Error
+system_node word.RowCount = session_value system.RowCount
+system_node word.FetchStatus = session_value system.FetchStatus
+system_node word.XactState = session_value system.XactState
+system_node word.ErrorNumber = session_value system.ErrorNumber
+system_node word.ErrorSeverity = session_value system.ErrorSeverity
+system_node word.ErrorState = session_value system.ErrorState
+system_node word.ErrorLine = session_value system.ErrorLine
+system_node word.ErrorMessage = session_value system.ErrorMessage
+system_node word.ErrorProcedure = session_value system.ErrorProcedure
+system_node word.Version = server_text version_size version_text
+system_node word.ServerName = server_text name_size server_name
+system_node word.MaxPrecision = max_precision
+system_node word.SchemaName = server_text name_size schema_name
+system_node word.DatabaseName = server_text name_size database_name
+system_node word.UserName = server_text name_size user_name
+
 abbrev pub system_at : Context → SystemWord → TypedExpr
-system_at at word = if at.row_alone then left_out (Some (system_kind (system_value word))) else leaf (system_kind (system_value word)) (bound.System (system_value word))
+system_at at word = if at.row_alone then left_out (system_node word).facts.kind else system_node word
 
 abbrev pub system_expr : SystemWord → Binding TypedExpr
 system_expr word at done = Ok (system_at at word, done)

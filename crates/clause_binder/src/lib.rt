@@ -28,6 +28,7 @@ mod operand;
 mod order;
 mod progress;
 mod scope;
+mod server;
 mod settling;
 mod shape;
 mod signs;

@@ -17,6 +17,7 @@ use crate::fault::{
 };
 use crate::progress::{Context, Progress, is_deep};
 use crate::scope::{Found, behind, column_of, is_long};
+use crate::server::{database_name, max_precision, schema_name, server_name, user_name, version};
 use bound_tree::{BoundExpr, BoundQuery, BoundTest, InnerQuery, Item, Sum, SumKind, SystemValue};
 use session_vars::Vars;
 use sqlite_items::{Boxed, Items};
@@ -96,35 +97,52 @@ pub fn column(
     }
 }
 
-/// A value of the session.
-pub fn system_expr(word: SystemWord, at: &Context<'_, '_>) -> TypedExpr
-    ensures { result ≡ spec.system_at at.now word }
+/// A value of the session, or what the server says of itself.
+pub fn system_expr(
+    alloc: Global,
+    word: SystemWord,
+    at: &Context<'_, '_>,
+) -> Result<TypedExpr, BindFault>
+    ensures { Gives result (Ok (spec.system_at at.now word)) }
 {
-    let of = system_value(word);
-    let kind = system_kind(of);
+    let node = system_node(alloc, word)?;
     if at.row_alone {
-        left_out(Some(kind))
-    } else {
-        TypedExpr::leaf(kind, BoundExpr::System(of))
+        let kind = node.facts.kind;
+        drop(node);
+        return Ok(left_out(kind));
+    }
+    Ok(node)
+}
+
+/// What a word for a value is bound to.
+fn system_node(alloc: Global, word: SystemWord) -> Result<TypedExpr, BindFault>
+    ensures { Gives result (Ok (spec.system_node word)) }
+{
+    match word {
+        SystemWord::TranCount => Ok(session_value(SystemValue::TranCount)),
+        SystemWord::Error => Ok(session_value(SystemValue::Error)),
+        SystemWord::RowCount => Ok(session_value(SystemValue::RowCount)),
+        SystemWord::FetchStatus => Ok(session_value(SystemValue::FetchStatus)),
+        SystemWord::XactState => Ok(session_value(SystemValue::XactState)),
+        SystemWord::ErrorNumber => Ok(session_value(SystemValue::ErrorNumber)),
+        SystemWord::ErrorSeverity => Ok(session_value(SystemValue::ErrorSeverity)),
+        SystemWord::ErrorState => Ok(session_value(SystemValue::ErrorState)),
+        SystemWord::ErrorLine => Ok(session_value(SystemValue::ErrorLine)),
+        SystemWord::ErrorMessage => Ok(session_value(SystemValue::ErrorMessage)),
+        SystemWord::ErrorProcedure => Ok(session_value(SystemValue::ErrorProcedure)),
+        SystemWord::Version => version(alloc),
+        SystemWord::ServerName => server_name(alloc),
+        SystemWord::MaxPrecision => max_precision(alloc),
+        SystemWord::SchemaName => schema_name(alloc),
+        SystemWord::DatabaseName => database_name(alloc),
+        SystemWord::UserName => user_name(alloc),
     }
 }
 
-fn system_value(word: SystemWord) -> SystemValue
-    ensures { result ≡ spec.system_value word }
+fn session_value(of: SystemValue) -> TypedExpr
+    ensures { result ≡ spec.session_value of }
 {
-    match word {
-        SystemWord::TranCount => SystemValue::TranCount,
-        SystemWord::Error => SystemValue::Error,
-        SystemWord::RowCount => SystemValue::RowCount,
-        SystemWord::FetchStatus => SystemValue::FetchStatus,
-        SystemWord::XactState => SystemValue::XactState,
-        SystemWord::ErrorNumber => SystemValue::ErrorNumber,
-        SystemWord::ErrorSeverity => SystemValue::ErrorSeverity,
-        SystemWord::ErrorState => SystemValue::ErrorState,
-        SystemWord::ErrorLine => SystemValue::ErrorLine,
-        SystemWord::ErrorMessage => SystemValue::ErrorMessage,
-        SystemWord::ErrorProcedure => SystemValue::ErrorProcedure,
-    }
+    TypedExpr::leaf(system_kind(of), BoundExpr::System(of))
 }
 
 fn system_kind(of: SystemValue) -> SqlType

@@ -43,6 +43,7 @@ error_lines =
     ∷ line 515 16 S Y (codes "Cannot insert the value NULL into column '{name}'.")
     ∷ line 547 16 S Y (codes "The statement conflicted with the constraint '{name}'.")
     ∷ line 701 17 S Y (codes "There is insufficient memory to run this statement.")
+    ∷ line 911 16 B Y (codes "Database '{name}' does not exist.")
     ∷ line 1205 13 T Y (codes "The transaction was chosen as the deadlock victim.")
     ∷ line 1222 16 S Y (codes "Lock request time out period exceeded.")
     ∷ line 2627 14 S Y (codes "Violation of constraint '{name}'. Duplicate key.")

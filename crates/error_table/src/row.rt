@@ -64,7 +64,7 @@ macro_rules! rows {
 }
 
 /// The table, in the order of the numbers.
-const ERRORS: [ErrorRow; 57] = rows! {
+const ERRORS: [ErrorRow; 58] = rows! {
     102 15 Batch LevelUp "Incorrect syntax near '{near}'.",
     116 16 Batch LevelUp "Only one item is allowed in this subquery.",
     137 15 Batch LevelUp "Must declare the scalar variable \"{name}\".",
@@ -82,6 +82,7 @@ const ERRORS: [ErrorRow; 57] = rows! {
     515 16 Statement Yes "Cannot insert the value NULL into column '{name}'.",
     547 16 Statement Yes "The statement conflicted with the constraint '{name}'.",
     701 17 Statement Yes "There is insufficient memory to run this statement.",
+    911 16 Batch Yes "Database '{name}' does not exist.",
     1205 13 BatchAndTransaction Yes "The transaction was chosen as the deadlock victim.",
     1222 16 Statement Yes "Lock request time out period exceeded.",
     2627 14 Statement Yes "Violation of constraint '{name}'. Duplicate key.",

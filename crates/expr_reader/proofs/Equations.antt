@@ -124,7 +124,10 @@ literal w other =
     (when (expect (c.One k.TranCount) w) (λ x. Some (expr.System system.TranCount, x.1))
     (when (expect (c.One k.Error) w) (λ x. Some (expr.System system.Error, x.1))
     (when (expect (c.One k.RowCount) w) (λ x. Some (expr.System system.RowCount, x.1))
-    (when (expect (c.One k.FetchStatus) w) (λ x. Some (expr.System system.FetchStatus, x.1)) other))))))
+    (when (expect (c.One k.FetchStatus) w) (λ x. Some (expr.System system.FetchStatus, x.1))
+    (when (expect (c.One k.Version) w) (λ x. Some (expr.System system.Version, x.1))
+    (when (expect (c.One k.ServerName) w) (λ x. Some (expr.System system.ServerName, x.1))
+    (when (expect (c.One k.MaxPrecision) w) (λ x. Some (expr.System system.MaxPrecision, x.1)) other)))))))))
 
 pub other_primary_is : (w : List Terminal) → read r.OtherPrimary w
     ≡ literal w
@@ -183,6 +186,9 @@ arguments_is f.ErrorState w = by_order [] (r.FunctionArguments f.ErrorState) w r
 arguments_is f.ErrorLine w = by_order [] (r.FunctionArguments f.ErrorLine) w refl
 arguments_is f.ErrorMessage w = by_order [] (r.FunctionArguments f.ErrorMessage) w refl
 arguments_is f.ErrorProcedure w = by_order [] (r.FunctionArguments f.ErrorProcedure) w refl
+arguments_is f.SchemaName w = by_order [] (r.FunctionArguments f.SchemaName) w refl
+arguments_is f.DatabaseName w = by_order [] (r.FunctionArguments f.DatabaseName) w refl
+arguments_is f.UserName w = by_order [] (r.FunctionArguments f.UserName) w refl
 
 -- what is read behind the names of functions
 pub named_rest : List Terminal → Outcome Expr

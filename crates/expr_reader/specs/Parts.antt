@@ -107,6 +107,9 @@ arguments_from f.ErrorState w = system_from system.ErrorState w
 arguments_from f.ErrorLine w = system_from system.ErrorLine w
 arguments_from f.ErrorMessage w = system_from system.ErrorMessage w
 arguments_from f.ErrorProcedure w = system_from system.ErrorProcedure w
+arguments_from f.SchemaName w = system_from system.SchemaName w
+arguments_from f.DatabaseName w = system_from system.DatabaseName w
+arguments_from f.UserName w = system_from system.UserName w
 
 -- signs and an operand
 abbrev pub signed_from : List Terminal → Outcome Expr

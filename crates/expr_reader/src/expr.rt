@@ -214,6 +214,15 @@ impl<F: Fn(Global, &mut Lexemes<'_>, usize, Nested) -> Result<Found, ReadFault>>
         if lexemes.accept(Class::One(Kind::FetchStatus)) {
             return Ok(Expr::System(SystemWord::FetchStatus));
         }
+        if lexemes.accept(Class::One(Kind::Version)) {
+            return Ok(Expr::System(SystemWord::Version));
+        }
+        if lexemes.accept(Class::One(Kind::ServerName)) {
+            return Ok(Expr::System(SystemWord::ServerName));
+        }
+        if lexemes.accept(Class::One(Kind::MaxPrecision)) {
+            return Ok(Expr::System(SystemWord::MaxPrecision));
+        }
         if lexemes.accept_word(Reserved::Case) {
             return self.case(lexemes);
         }

@@ -76,6 +76,9 @@ impl<F: Fn(Global, &mut Lexemes<'_>, usize, Nested) -> Result<Found, ReadFault>>
             Function::ErrorLine => system(lexemes, SystemWord::ErrorLine),
             Function::ErrorMessage => system(lexemes, SystemWord::ErrorMessage),
             Function::ErrorProcedure => system(lexemes, SystemWord::ErrorProcedure),
+            Function::SchemaName => system(lexemes, SystemWord::SchemaName),
+            Function::DatabaseName => system(lexemes, SystemWord::DatabaseName),
+            Function::UserName => system(lexemes, SystemWord::UserName),
         }
     }
 

@@ -28,7 +28,7 @@ const COMPARES: [Class; 6] = [
     Class::One(Kind::Sign(Sign::GreaterEqual)),
 ];
 
-const BEGINS_SIMPLE: [Class; 12] = [
+const BEGINS_SIMPLE: [Class; 15] = [
     Class::Name,
     Class::One(Kind::Variable),
     Class::One(Kind::Number),
@@ -37,6 +37,9 @@ const BEGINS_SIMPLE: [Class; 12] = [
     Class::One(Kind::Error),
     Class::One(Kind::RowCount),
     Class::One(Kind::FetchStatus),
+    Class::One(Kind::Version),
+    Class::One(Kind::ServerName),
+    Class::One(Kind::MaxPrecision),
     Class::One(Kind::Reserved(Reserved::Case)),
     Class::One(Kind::Reserved(Reserved::Coalesce)),
     Class::One(Kind::Reserved(Reserved::Null)),

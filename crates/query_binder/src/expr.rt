@@ -49,7 +49,7 @@ impl<'t, 'd> Binder<'t, 'd> {
             Expr::Text(units) => TypedExpr::text(self.alloc, units),
             Expr::Null => Ok(TypedExpr::lone_null()),
             Expr::Variable(name) => variable_in(self.alloc, at, name, self.vars),
-            Expr::System(word) => Ok(system_expr(*word, at)),
+            Expr::System(word) => system_expr(self.alloc, *word, at),
             Expr::Column(table, name) => column(self.alloc, table, name, at),
             Expr::Parens(a) => self.bind_node(a.get(), at, done),
             Expr::Query(select) => {

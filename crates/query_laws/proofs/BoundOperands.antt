@@ -4,7 +4,7 @@ use Rattle.std.proofs.lemmas.List.{append_assoc, append-nil, map-append, length-
 use Rattle.std.proofs.Common.{◌≡◌, ◌⊎◌, inl, inr, refl, sym, ap, subst, ℕ, zero, suc, ◌+◌, ◌≤◌, ◌<◌, min, List, [], ◌∷◌, ◌++◌, map, length, slice_get, Bool, true, false, ◌||◌, not, nat_le, ◌==◌, is_some, option_map, Option, Some, None, Ok, Err, arith, if◌then◌else◌}
 use Rattle.value_types.specs.Units.{same_units}
 use Rattle.value_types.specs.declared.sql_type.SqlType.{SqlType}
-use Rattle.value_types.specs.declared.sql_type.SqlType.TheVariants.{Int}
+use Rattle.value_types.specs.declared.sql_type.SqlType.TheVariants.{Int, NText, TinyInt}
 use Rattle.session_vars.specs.declared.Variable.{Variable}
 use Rattle.session_vars.specs.Variables.{place_of}
 use Rattle.tsql_tree.specs.declared.definition.ColumnTree.{ColumnTree}
@@ -33,18 +33,21 @@ use Rattle.bound_tree.specs.declared.query.Item.{Item}
 use Rattle.bound_tree.specs.declared.expr.BoundTest.TheVariants as test
 use Rattle.bound_tree.specs.Typed.{column_kind, is_column, system_kinds}
 use Rattle.bound_tree.specs.Setting.{system_place}
+use Rattle.bound_tree.specs.declared.system.SystemValue.{SystemValue}
+use Rattle.bound_tree.specs.declared.system.SystemValue.TheVariants as system
 use Rattle.typed_nodes.specs.Facts.{no_facts, outside}
-use Rattle.typed_nodes.specs.Nodes.{is_kind, side_kind}
+use Rattle.typed_nodes.specs.Nodes.{is_kind, number_expr, side_kind, text_expr}
 use Rattle.typed_nodes.specs.Tests.{in_query_test, test_node}
 use Rattle.clause_binder.specs.declared.operand.Selected.{Selected}
 use Rattle.clause_binder.specs.Progress.{an_inner_query}
+use Rattle.clause_binder.specs.Server.{database_name, most_digits, name_size, schema_name, server_name, server_text, user_name, version_size, version_text}
 use Rattle.clause_binder.specs.Scope.{is_long, max_columns, max_inner, max_variables}
-use Rattle.clause_binder.specs.Operands.{column, column_in, exists, exists_from, in_query, in_query_from, in_query_with, inner_place, items_of, only_kind, scalar, scalar_from, scalar_with, system_expr, system_kind, system_value, test_left_out, test_placed, variable, variable_at, variable_from, variable_in, variable_of, variable_of_kind, with_inner}
+use Rattle.clause_binder.specs.Operands.{column, column_in, exists, exists_from, in_query, in_query_from, in_query_with, inner_place, items_of, only_kind, scalar, scalar_from, scalar_with, session_value, system_expr, system_kind, system_node, test_left_out, test_placed, variable, variable_at, variable_from, variable_in, variable_of, variable_of_kind, with_inner}
 use Rattle.query_laws.specs.Formed.{QueryFound, inner_found, inner_step, items_kinds, query_found, query_step}
 use Rattle.query_laws.proofs.FoundKinds.{as_side, same_self, trans}
 use Rattle.query_laws.specs.Laws.{AllOf, IsFit}
 use Rattle.query_laws.proofs.Lists.{all_of_both}
-use Rattle.query_laws.proofs.FormedNodes.{IsFormed, IsFormedTest, found_cell, found_scalar, found_system, found_variable, leaf_formed, outside_formed, test_exists, test_formed, test_in_query}
+use Rattle.query_laws.proofs.FormedNodes.{IsFormed, IsFormedTest, cast_formed, found_cell, found_scalar, found_system, found_variable, leaf_formed, number_formed, outside_formed, test_exists, test_formed, test_in_query, text_formed}
 use Rattle.query_laws.specs.Columns.{tables_in, kinds, variable_kinds}
 use Rattle.query_laws.specs.Parts.{AreSound, IsSound, inner_kinds}
 use Rattle.query_laws.proofs.Reading.{Binds, Bound, Grows, Lasts, Leads, Reads, ReadsInner, ReadsRow, binds_given, cells, grows_not, reads_before, sum_kinds}
@@ -235,39 +238,64 @@ module _ (definitions : List Definition) (vars : List Variable) where
       by_row at done x true e = let same : left_out None ≡ x = cc in subst (FormedAt at done) same (left_out_formed at done None)
       by_row at done x false e = variable_formed at done name x e
 
-  system_found : (word : SystemWord) → slice_get system_kinds (system_place (system_value word)) ≡ Some (system_kind (system_value word))
-  system_found word.TranCount = refl
-  system_found word.Error = refl
-  system_found word.RowCount = refl
-  system_found word.FetchStatus = refl
-  system_found word.XactState = refl
-  system_found word.ErrorNumber = refl
-  system_found word.ErrorSeverity = refl
-  system_found word.ErrorState = refl
-  system_found word.ErrorLine = refl
-  system_found word.ErrorMessage = refl
-  system_found word.ErrorProcedure = refl
+  system_found : (of : SystemValue) → slice_get system_kinds (system_place of) ≡ Some (system_kind of)
+  system_found system.TranCount = refl
+  system_found system.Error = refl
+  system_found system.RowCount = refl
+  system_found system.FetchStatus = refl
+  system_found system.XactState = refl
+  system_found system.ErrorNumber = refl
+  system_found system.ErrorSeverity = refl
+  system_found system.ErrorState = refl
+  system_found system.ErrorLine = refl
+  system_found system.ErrorMessage = refl
+  system_found system.ErrorProcedure = refl
 
-  system_real : (word : SystemWord) → is_kind (system_kind (system_value word)) ≡ true
-  system_real word.TranCount = refl
-  system_real word.Error = refl
-  system_real word.RowCount = refl
-  system_real word.FetchStatus = refl
-  system_real word.XactState = refl
-  system_real word.ErrorNumber = refl
-  system_real word.ErrorSeverity = refl
-  system_real word.ErrorState = refl
-  system_real word.ErrorLine = refl
-  system_real word.ErrorMessage = refl
-  system_real word.ErrorProcedure = refl
+  system_real : (of : SystemValue) → is_kind (system_kind of) ≡ true
+  system_real system.TranCount = refl
+  system_real system.Error = refl
+  system_real system.RowCount = refl
+  system_real system.FetchStatus = refl
+  system_real system.XactState = refl
+  system_real system.ErrorNumber = refl
+  system_real system.ErrorSeverity = refl
+  system_real system.ErrorState = refl
+  system_real system.ErrorLine = refl
+  system_real system.ErrorMessage = refl
+  system_real system.ErrorProcedure = refl
+
+  session_formed : (at : Context) (done : Progress) (of : SystemValue) → FormedAt at done (session_value of)
+  session_formed at done of types r = leaf_formed types (system_kind of) (bound.System of)
+      (trans (found_system types of) (ap found_at (trans (ap (λ xs. slice_get xs (system_place of)) r.session) (system_found of)))) (system_real of)
+
+  server_text_formed : (at : Context) (done : Progress) (size : ℕ) (text : List ℕ) → FormedAt at done (server_text size text)
+  server_text_formed at done size text types r = cast_formed types (NText size) (text_expr text) (text_formed types text)
+
+  system_formed : (at : Context) (done : Progress) (word : SystemWord) → FormedAt at done (system_node word)
+  system_formed at done word.TranCount = session_formed at done system.TranCount
+  system_formed at done word.Error = session_formed at done system.Error
+  system_formed at done word.RowCount = session_formed at done system.RowCount
+  system_formed at done word.FetchStatus = session_formed at done system.FetchStatus
+  system_formed at done word.XactState = session_formed at done system.XactState
+  system_formed at done word.ErrorNumber = session_formed at done system.ErrorNumber
+  system_formed at done word.ErrorSeverity = session_formed at done system.ErrorSeverity
+  system_formed at done word.ErrorState = session_formed at done system.ErrorState
+  system_formed at done word.ErrorLine = session_formed at done system.ErrorLine
+  system_formed at done word.ErrorMessage = session_formed at done system.ErrorMessage
+  system_formed at done word.ErrorProcedure = session_formed at done system.ErrorProcedure
+  system_formed at done word.Version = server_text_formed at done version_size version_text
+  system_formed at done word.ServerName = server_text_formed at done name_size server_name
+  system_formed at done word.MaxPrecision = λ types r. cast_formed types TinyInt (number_expr most_digits) (number_formed types most_digits refl)
+  system_formed at done word.SchemaName = server_text_formed at done name_size schema_name
+  system_formed at done word.DatabaseName = server_text_formed at done name_size database_name
+  system_formed at done word.UserName = server_text_formed at done name_size user_name
 
   pub system_binds : (word : SystemWord) → Binds definitions vars FormedAt nothing (system_expr word)
   system_binds word at done calm = (grows_not definitions vars at done calm, by_row at.row_alone)
     where
-      by_row : (b : Bool) → FormedAt at done (if b then left_out (Some (system_kind (system_value word))) else leaf (system_kind (system_value word)) (bound.System (system_value word)))
-      by_row true = left_out_formed at done (Some (system_kind (system_value word)))
-      by_row false = λ types r. leaf_formed types (system_kind (system_value word)) (bound.System (system_value word))
-          (trans (found_system types (system_value word)) (ap found_at (trans (ap (λ xs. slice_get xs (system_place (system_value word))) r.session) (system_found word)))) (system_real word)
+      by_row : (b : Bool) → FormedAt at done (if b then left_out (system_node word).facts.kind else system_node word)
+      by_row true = left_out_formed at done (system_node word).facts.kind
+      by_row false = system_formed at done word
 
   -- ---- inner queries
 

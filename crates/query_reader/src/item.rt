@@ -16,13 +16,16 @@ use tsql_lexer::Sign;
 use tsql_tree::{Expr, Item};
 use value_types::{Units, beside};
 
-const BEGINS_OTHER: [Class; 10] = [
+const BEGINS_OTHER: [Class; 13] = [
     Class::One(Kind::Number),
     Class::One(Kind::Text),
     Class::One(Kind::TranCount),
     Class::One(Kind::Error),
     Class::One(Kind::RowCount),
     Class::One(Kind::FetchStatus),
+    Class::One(Kind::Version),
+    Class::One(Kind::ServerName),
+    Class::One(Kind::MaxPrecision),
     Class::One(Kind::Reserved(Reserved::Case)),
     Class::One(Kind::Reserved(Reserved::Coalesce)),
     Class::One(Kind::Reserved(Reserved::Null)),

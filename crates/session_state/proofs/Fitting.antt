@@ -1,5 +1,5 @@
 -- The tokens that are sent have bytes: counts and texts fit their fields.
-use Rattle.std.proofs.Common.{◌≡◌, ℕ, ℤ, ◌≤◌, Bool, true, false, List, [], ◌∷◌, ◌++◌, length, take, refl, sym, subst, length-take, arith, if◌then◌else◌}
+use Rattle.std.proofs.Common.{◌≡◌, ℕ, ℤ, ◌≤◌, Bool, true, false, List, [], ◌∷◌, ◌++◌, length, take, inl, refl, sym, subst, length-take, arith, if◌then◌else◌}
 use Rattle.error_table.specs.declared.action.Action.{Action}
 use Rattle.error_table.specs.declared.action.Action.TheVariants.{Statement as EndsStatement, Batch, BatchAndTransaction, Doom}
 use Rattle.tds_tokens.specs.declared.columns.ColumnInfo.{ColumnInfo}
@@ -12,6 +12,7 @@ use Rattle.tds_tokens.specs.Fit.{FitsNotice, FitTokens}
 use Rattle.tds_tokens.specs.Spelling.{columns_after}
 use Rattle.tds_tokens.proofs.Lengths.{length-notice_bytes}
 use Rattle.batch_meaning.specs.declared.raised.Raised.{Raised}
+use Rattle.batch_meaning.specs.Databases.{context_told, context_tokens}
 use Rattle.batch_meaning.specs.Meaning.{told_tokens}
 use Rattle.batch_meaning.specs.Raised.{error_token, info_token}
 use Rattle.session_state.specs.Sendable.{IsFit}
@@ -61,6 +62,11 @@ told_fits kind Doom command raised named = λ columns. (notice_fits raised named
 pub info_fits : (raised : Raised) → HasName raised → IsFit (info_token raised ∷ [])
 unfolding FitTokens
 info_fits raised named = λ columns. (notice_fits raised named, tt)
+
+-- the database, and the message that tells it
+pub context_fits : (procedure : List ℕ) (line : ℤ) → HasName (context_told procedure line) → IsFit (context_tokens procedure line)
+unfolding FitTokens
+context_fits procedure line named = λ columns. ((inl refl, omega arith, omega arith), (notice_fits (context_told procedure line) named, tt))
 
 -- the end of a procedure, and an error in front of it
 pub procedure_fits : (status : ℤ) → IsFit (procedure_done status)

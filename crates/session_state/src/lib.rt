@@ -26,7 +26,7 @@ pub use failures::{naming, no_memory, stopped_by, unbound_by, unplanned_by};
 pub use fired::Fired;
 pub use numbers::{
     CURSOR_OPEN, CURSOR_PRESENT, CURSOR_SHUT, DEADLOCK, DOOMED_AT_END, DOOMED_IN_TRIGGER,
-    DOOMED_WRITE, ENDED_IN_TRIGGER, IS_PARENT, LOCK_TIMEOUT, NO_MEMORY, NO_PROCEDURE,
+    DOOMED_WRITE, ENDED_IN_TRIGGER, IS_PARENT, LOCK_TIMEOUT, NO_DATABASE, NO_MEMORY, NO_PROCEDURE,
     NO_SUCH_CURSOR, NOT_THERE, NOTHING_OPEN, OBJECT_PRESENT, OTHER_COUNT, OUTSIDE_LIMITS,
     OUTSIDE_PROFILE, RANGE_FULL, RESULT_FULL, STATEMENTS_SPENT, TOO_DEEP, UNEVEN, UNKNOWN_TABLE,
     WANTING,
@@ -35,8 +35,9 @@ pub use sendable::TokenList;
 pub use state::SessionState;
 pub use system::system_in;
 pub use tokens::{
-    LONGEST_NAME, command_of, error_and_done, error_in_front, error_of, error_tokens, is_message,
-    last_tokens, messages, procedure_done, raised_at, raised_in, result_tokens, returned_tokens,
-    told_tokens, transaction_begun, transaction_rolled_back, written_tokens,
+    LONGEST_NAME, command_of, context_tokens, error_and_done, error_in_front, error_of,
+    error_tokens, is_message, last_tokens, messages, procedure_done, raised_at, raised_in,
+    result_tokens, returned_tokens, told_tokens, transaction_begun, transaction_rolled_back,
+    written_tokens,
 };
 pub use values::{first_row, is_true, made_of, raised_by, rows_assigned, sets_of, status_of};

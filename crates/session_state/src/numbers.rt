@@ -9,6 +9,9 @@ pub const NO_MEMORY: u16 = 701;
 /// The same, as the number of a failure.
 pub const WANTING: i32 = 701;
 
+/// The error of a database that is not there.
+pub const NO_DATABASE: u16 = 911;
+
 /// The error of a session that fell as a deadlock's victim.
 pub const DEADLOCK: u16 = 1205;
 

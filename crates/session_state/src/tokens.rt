@@ -5,6 +5,7 @@ ghost use Rattle.error_table.specs.Text.{text_with};
 ghost use Rattle.tsql_tree.specs.declared.statement.Form.{out-Form};
 ghost use Rattle.session_state.specs.Sendable.{IsFit, IsResult};
 ghost use Rattle.tds_tokens.specs.declared.token.Token.TheVariants.{ReturnStatus};
+ghost use Rattle.batch_meaning.specs.Databases.{context_tokens};
 ghost use Rattle.batch_meaning.specs.Meaning.{told_tokens};
 ghost use Rattle.batch_meaning.specs.Raised.{error_token, named, raised_at, raised_in};
 ghost use Rattle.batch_meaning.specs.Selecting.{messages};
@@ -19,7 +20,7 @@ use std::alloc::Global;
 use tds_tokens::{
     Bytes, COMMAND_DELETE, COMMAND_INSERT, COMMAND_NONE, COMMAND_SELECT, COMMAND_UPDATE,
     ColumnList, DONE_COUNT, DONE_ERROR, DONE_FINAL, DONE_MORE, DoneKind, ENV_BEGIN, ENV_COMMIT,
-    ENV_ROLLBACK, Notice, Token,
+    ENV_DATABASE, ENV_ROLLBACK, Notice, Token,
 };
 use tsql_tree::Form;
 use value_types::{Memory, Row, Units};
@@ -238,6 +239,33 @@ fn descriptor(alloc: Global, serial: u64) -> Result<Bytes, Memory>
     ensures { IfOk result (λ bytes. bytes ≡ descriptor serial) }
 {
     Ok(Bytes::from(Vec::from_slice(alloc, &serial.to_le_bytes())?))
+}
+
+// ---- the database
+
+/// The number of the message that tells the database.
+const CONTEXT_TOLD: i32 = 5701;
+
+/// The context is the one database, as it was.
+pub fn context_tokens(alloc: Global, procedure: Units, line: i32) -> Result<TokenList, Memory>
+    ensures { IfOk result (λ tokens. tokens ≡ context_tokens procedure line) }
+{
+    let raised = Raised {
+        number: CONTEXT_TOLD,
+        class: 0,
+        state: 1,
+        text: Units::of_ascii(alloc, b"Changed database context to 'main'.")?,
+        procedure,
+        line,
+        by: RaisedBy::Engine,
+    };
+    let notice = notice_of(alloc, &raised)?;
+    let database = Token::EnvText {
+        kind: ENV_DATABASE,
+        fresh: Units::of_ascii(alloc, b"main")?,
+        former: Units::of_ascii(alloc, b"main")?,
+    };
+    Ok(TokenList::new(vec![in alloc; database, Token::Info(notice)]?))
 }
 
 // ---- errors and messages

@@ -1,10 +1,10 @@
 -- What the statements on cursors ask writes nothing.
-use Rattle.std.proofs.Common.{◌==◌, ℕ, Bool, List, [], Option, Some, None, Result, Ok, Err, length}
+use Rattle.std.proofs.Common.{◌==◌, ℕ, pos, Bool, List, [], Option, Some, None, Result, Ok, Err, length}
 use Rattle.value_types.specs.declared.sql_type.SqlType.{SqlType}
 use Rattle.value_types.specs.declared.value.Value.{Value}
 use Rattle.tsql_tree.specs.declared.definition.TableTree.{TableTree}
 use Rattle.tsql_tree.specs.declared.query.Select.{Select}
-use Rattle.tsql_tree.specs.declared.statement.Statement.{Statement}
+use Rattle.tsql_tree.specs.declared.statement.Statement.{Statement, out-Statement}
 use Rattle.bound_tree.specs.declared.write.Bound.{Bound}
 use Rattle.bound_tree.specs.declared.write.Bound.TheVariants as bound
 use Rattle.session_cursors.specs.declared.fault.CursorFault.{CursorFault}
@@ -12,19 +12,20 @@ use Rattle.session_cursors.specs.declared.fault.CursorFault.TheVariants.{NoSuch,
 use Rattle.session_cursors.specs.Cursors.{close_answer, declare_answer, fill_answer, kinds_of as kinds_left, next_of, query_of, remove_answer}
 use Rattle.binder.specs.Names.{looked_up}
 use Rattle.batch_meaning.specs.declared.failure.Failure.{Failure}
-use Rattle.batch_meaning.specs.Asking.{comes_to, fails, with_room}
+use Rattle.batch_meaning.specs.Asking.{comes_to, fails, fails_naming, with_room}
 use Rattle.batch_meaning.specs.Cursors.{already_there, answered, assigns_row, closes_cursor, declares_cursor, fails_for_cursor, fetches_cursor, fetches_into, fetches_row, fills_with, kinds_of, no_such_cursor, opens_bound, opens_cursor, opens_kept, other_count, removes_cursor, select_statement}
+use Rattle.batch_meaning.specs.Databases.{context_tokens, is_database, no_database, tells_context, uses_database, uses_named}
 use Rattle.batch_meaning.specs.Doing.{Doing, makes, over, reads}
 use Rattle.batch_meaning.specs.Progress as step
 use Rattle.batch_meaning.specs.Progress.{SessionProgress}
 use Rattle.batch_meaning.specs.Raised.{Around}
-use Rattle.batch_meaning.specs.Selecting.{Effect, bound_over, no_effect}
+use Rattle.batch_meaning.specs.Selecting.{Effect, bound_over, no_effect, sending}
 use Rattle.batch_meaning.specs.Transactions.{bound_first}
 use Rattle.batch_meaning.specs.Values.{Assigned, assigned_to}
 use Rattle.batch_meaning.specs.Working.{answers, asks_any, binds, enters, known_by, own, prepares, within}
 use Rattle.statement_paths.proofs.Only.{AnyStep, only_bind, only_comes, only_if, only_naming, only_room, only_then}
 use Rattle.sound_laws.proofs.Preparing.{prepares_read}
-use Rattle.sound_laws.proofs.Statements.{answers_still, enters_still, left_still}
+use Rattle.sound_laws.proofs.Statements.{answers_still, bytes_still, enters_still, left_still}
 use Rattle.sound_laws.proofs.Steps.{IsStill}
 use Rattle.sound_laws.proofs.Trees.{WritesNothing, reads_still}
 
@@ -74,6 +75,13 @@ closes_still statement name = first_still statement _ (λ p. answer_still name (
 pub removes_still : (statement : Statement) (name : List ℕ) → WritesNothing (removes_cursor statement name)
 unfolding removes_cursor
 removes_still statement name = first_still statement _ (λ p. answer_still name (λ done. makes (step.removes name) (over (Ok no_effect))) (remove_answer name p.cursors) (λ done. (tt, tt)))
+
+pub uses_still : (around : Around) (statement : Statement) (name : List ℕ) → WritesNothing (uses_database around statement name)
+unfolding uses_database
+uses_still around statement name = first_still statement (λ p. uses_named around statement name) (λ p.
+    only_if AnyStep IsStill (is_database name) (tells_context (context_tokens around.procedure (pos (out-Statement statement).line))) (fails_naming no_database name)
+    (bytes_still (context_tokens around.procedure (pos (out-Statement statement).line)) (over (Ok (sending (context_tokens around.procedure (pos (out-Statement statement).line))))) tt)
+    (only_naming AnyStep IsStill Effect no_database name))
 
 -- ---- OPEN
 

@@ -43,6 +43,7 @@ use Rattle.batch_meaning.specs.declared.stop.Stop.TheVariants.{Failed, Left}
 use Rattle.batch_meaning.specs.Asking.{assigns_all, comes_to, fails, fails_naming, finds_by, marked, unless_refused, where_begun, where_ended, with_room, ◌>>=◌}
 use Rattle.batch_meaning.specs.Calls.{Call, call_over, call_vars, depth_limit, finds_call, given_back, no_procedure, too_deep, uneven}
 use Rattle.batch_meaning.specs.Cursors.{closes_cursor, declares_cursor, fetches_cursor, opens_cursor, removes_cursor}
+use Rattle.batch_meaning.specs.Databases.{uses_database}
 use Rattle.batch_meaning.specs.Doing.{Doing, asks, makes, over, reads, room, ◌then◌}
 use Rattle.batch_meaning.specs.Failures.{naming, plain}
 use Rattle.batch_meaning.specs.Firing.{closes_own, has_mark, in_trigger, leaves_fired, relaxes_then, settles, trigger_end, undone_to}
@@ -67,7 +68,7 @@ use Rattle.sound_laws.specs.Runs.Task.{Runs, Calls}
 use Rattle.sound_laws.specs.Stands.{Carries, Stands}
 use Rattle.text_laws.specs.Laws.{BodyReadsBack, CallReadsBack, EachIn, Everywhere, ReadsBack, ReadsBackAs, TextReadsBack, Within}
 use Rattle.sound_laws.proofs.Bringing.{brings_room, brings_then}
-use Rattle.sound_laws.proofs.Cursors.{closes_still, declares_still, fetches_still, first_still, opens_still, own_still, removes_still}
+use Rattle.sound_laws.proofs.Cursors.{closes_still, declares_still, fetches_still, first_still, opens_still, own_still, removes_still, uses_still}
 use Rattle.sound_laws.proofs.Defining.{defines_carry}
 use Rattle.sound_laws.proofs.Statements.{begun_still, bytes_still, carries_if, carries_makes, carries_reads, carries_then, change_carry, closes_still as own_closes_still, composes_carry, creates_carry, done_still, drops_carry, ended_still, enters_still, leaves_still, relaxes_still, statuses_carry, tests_carry, works_carry}
 use Rattle.sound_laws.proofs.Steps.{IsStill}
@@ -508,6 +509,7 @@ module _ (one : Statement → Meaning) (around : Around) (statement : Statement)
   form_carry carry (Form-F.Fetch name variables) is back each self = does_carry around statement On (fetches_cursor statement name variables) (carries_still (fetches_cursor statement name variables) (fetches_still statement name variables))
   form_carry carry (Form-F.CloseCursor name) is back each self = does_carry around statement On (closes_cursor statement name) (carries_still (closes_cursor statement name) (closes_still statement name))
   form_carry carry (Form-F.Deallocate name) is back each self = does_carry around statement On (removes_cursor statement name) (carries_still (removes_cursor statement name) (removes_still statement name))
+  form_carry carry (Form-F.Use name) is back each self = does_carry around statement On (uses_database around statement name) (carries_still (uses_database around statement name) (uses_still around statement name))
   form_carry carry form is back each self = does_carry around statement On (works around statement) (works_carry around statement)
 
   by_carry : ((inner : Statement) → Everywhere ReadsBack inner → AllCarry one inner) → ReadsBack statement → EachIn (AllCarry one) (form_of statement) → AllCarry one statement → Carries (mean_by one statement around)

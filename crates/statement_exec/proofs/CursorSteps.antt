@@ -70,7 +70,7 @@ module _ {Q : Type 0} (name : List ℕ) where
 -- ---- what is answered of a cursor
 
 -- it is refused
-stepped_naming : {A : Type 0} (number : ℕ) (name : List ℕ) (failure : Failure) {p : SessionProgress} → IsNamed number name failure → Stepped (fails_naming {A = A} number name) p (Ok (Err failure)) p
+pub stepped_naming : {A : Type 0} (number : ℕ) (name : List ℕ) (failure : Failure) {p : SessionProgress} → IsNamed number name failure → Stepped (fails_naming {A = A} number name) p (Ok (Err failure)) p
 stepped_naming number name failure (inl same) = stepped_room true (stepped_made (ap Err same))
 stepped_naming number name failure (inr none) = stepped_room false (stepped_made (ap Err none))
 

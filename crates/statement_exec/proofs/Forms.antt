@@ -81,6 +81,9 @@ module _ (form : TreeForm) where
   pub is_Deallocate : (name : List ℕ) → form ≡ tree.Deallocate name → out-Form form ≡ Form-F.Deallocate name
   is_Deallocate name is = ap out-Form (is ∙ sym (tree.rolls-Deallocate name)) ∙ out-roll-Form (Form-F.Deallocate name)
 
+  pub is_Use : (name : List ℕ) → form ≡ tree.Use name → out-Form form ≡ Form-F.Use name
+  is_Use name is = ap out-Form (is ∙ sym (tree.rolls-Use name)) ∙ out-roll-Form (Form-F.Use name)
+
   pub is_Execute : (status : Option (List ℕ)) (name : List ℕ) (arguments : List Argument) → form ≡ tree.Execute status name arguments → out-Form form ≡ Form-F.Execute status name arguments
   is_Execute status name arguments is = ap out-Form (is ∙ sym (tree.rolls-Execute status name arguments)) ∙ out-roll-Form (Form-F.Execute status name arguments)
 

@@ -20,3 +20,4 @@ pub mod Results
 pub mod Seeing
 pub mod Slots
 pub mod Telling
+pub mod Using

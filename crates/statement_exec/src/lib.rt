@@ -12,6 +12,7 @@
 mod changing;
 mod creating;
 mod cursors;
+mod databases;
 mod dialogs;
 mod discard;
 mod dropping;
@@ -30,6 +31,7 @@ mod working;
 pub use changing::{Change, Written, write};
 pub use creating::{create_definition, create_table, is_odd_procedure};
 pub use cursors::{close_cursor, declare_cursor, fetch, open_cursor, remove_cursor};
+pub use databases::use_database;
 pub use dropping::drop_object;
 pub use home::{close, enter, leave, relax, relax_again};
 pub use known::asks_named;

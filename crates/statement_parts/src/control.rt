@@ -14,7 +14,7 @@ use tsql_lexer::Sign;
 use tsql_tree::{Expr, Form};
 
 /// What expressions begin with.
-const BEGINS_EXPR: [Class; 15] = [
+const BEGINS_EXPR: [Class; 18] = [
     Class::One(Kind::Sign(Sign::Open)),
     Class::One(Kind::Sign(Sign::Plus)),
     Class::One(Kind::Sign(Sign::Minus)),
@@ -26,6 +26,9 @@ const BEGINS_EXPR: [Class; 15] = [
     Class::One(Kind::Error),
     Class::One(Kind::RowCount),
     Class::One(Kind::FetchStatus),
+    Class::One(Kind::Version),
+    Class::One(Kind::ServerName),
+    Class::One(Kind::MaxPrecision),
     Class::One(Kind::Reserved(Reserved::Case)),
     Class::One(Kind::Reserved(Reserved::Coalesce)),
     Class::One(Kind::Reserved(Reserved::Null)),

@@ -116,7 +116,7 @@ pub fn after_set(alloc: Global, lexemes: &mut Lexemes<'_>) -> Result<Form, ReadF
         let on = on_off(lexemes)?;
         return Ok(Form::SetOption(SessionOption::ImplicitTransactions(on)));
     }
-    set_other(lexemes)
+    set_other(alloc, lexemes)
 }
 
 /// The value that a variable is set to.

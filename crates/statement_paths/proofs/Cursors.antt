@@ -1,10 +1,10 @@
 -- The statements on cursors: all but OPEN ask nothing, and what OPEN does with what its select is bound to only reads.
-use Rattle.std.proofs.Common.{ℕ, ◌==◌, List, [], length, Option, Some, None, Result, Ok, Err}
+use Rattle.std.proofs.Common.{ℕ, ◌==◌, nat_lt, pos, List, [], length, Option, Some, None, Result, Ok, Err}
 use Rattle.value_types.specs.declared.sql_type.SqlType.{SqlType}
 use Rattle.value_types.specs.declared.value.Value.{Value}
 use Rattle.tsql_tree.specs.declared.definition.TableTree.{TableTree}
 use Rattle.tsql_tree.specs.declared.query.Select.{Select}
-use Rattle.tsql_tree.specs.declared.statement.Statement.{Statement}
+use Rattle.tsql_tree.specs.declared.statement.Statement.{Statement, out-Statement}
 use Rattle.bound_tree.specs.declared.query.BoundQuery.{BoundQuery}
 use Rattle.bound_tree.specs.declared.write.Bound.{Bound}
 use Rattle.bound_tree.specs.declared.write.Bound.TheVariants as bound
@@ -16,11 +16,12 @@ use Rattle.session_cursors.specs.Cursors as list
 use Rattle.statement_paths.specs.Asked.{IsFetch}
 use Rattle.batch_meaning.specs.declared.failure.Failure.{Failure}
 use Rattle.batch_meaning.specs.Raised.{Around}
-use Rattle.batch_meaning.specs.Asking.{comes_to, fails, with_room}
+use Rattle.batch_meaning.specs.Asking.{comes_to, fails, fails_naming, with_room}
 use Rattle.batch_meaning.specs.Cursors.{already_there, answered, assigns_row, closes_cursor, declares_cursor, fails_for_cursor, fetches_cursor, fetches_into, fetches_row, fills_with, kinds_of, no_such_cursor, opens_bound, opens_cursor, opens_kept, other_count, removes_cursor, select_statement}
+use Rattle.batch_meaning.specs.Databases.{context_tokens, is_database, no_database, tells_context, uses_database, uses_named}
 use Rattle.batch_meaning.specs.Doing.{Doing, makes, over, reads}
-use Rattle.batch_meaning.specs.Progress.{SessionProgress, SessionStep, declares, fetches, fills, removes, shuts, tells_fetch, touches}
-use Rattle.batch_meaning.specs.Selecting.{Effect, bound_over, no_effect}
+use Rattle.batch_meaning.specs.Progress.{SessionProgress, SessionStep, size_of, declares, fetches, fills, removes, shuts, tells_fetch, touches}
+use Rattle.batch_meaning.specs.Selecting.{Effect, bound_over, no_effect, result_full, sending}
 use Rattle.batch_meaning.specs.Transactions.{bound_first}
 use Rattle.batch_meaning.specs.Values.{Assigned, assigned_to}
 use Rattle.batch_meaning.specs.Working.{answers, within}
@@ -82,6 +83,15 @@ closes_silent statement name = only_step IsCursorStep NoOp statement name (shuts
 pub removes_silent : (statement : Statement) (name : List ℕ) → Silent (removes_cursor statement name)
 unfolding removes_cursor
 removes_silent statement name = only_step IsCursorStep NoOp statement name (removes name) (λ p. list.remove_answer name p.cursors) tt
+
+-- USE makes no step
+pub uses_silent : (around : Around) (statement : Statement) (name : List ℕ) → Silent (uses_database around statement name)
+unfolding uses_database
+uses_silent around statement name = only_first IsCursorStep NoOp statement (λ p. uses_named around statement name) (λ p.
+    only_if IsCursorStep NoOp (is_database name) (tells_context (context_tokens around.procedure (pos (out-Statement statement).line))) (fails_naming no_database name)
+    (λ q. only_if IsCursorStep NoOp (nat_lt q.bytes_left (size_of (context_tokens around.procedure (pos (out-Statement statement).line)))) (fails result_full)
+    (over (Ok (sending (context_tokens around.procedure (pos (out-Statement statement).line))))) tt tt)
+    (only_naming IsCursorStep NoOp Effect no_database name))
 
 row_silent : (p : SessionProgress) (name : List ℕ) (variables : List (List ℕ)) (row : Option (List Value)) → Silent (fetches_row p name variables row)
 row_silent p name variables None = (tt, tt)

@@ -59,7 +59,7 @@ chain text a w other =
     (or_formed text a word.If w (or_formed text a word.While w (or_formed text a word.Begin w (or_formed text a word.Print w (or_formed text a word.RaiseError w
     (or_formed text a word.Return w (or_formed text a word.Throw w (or_formed text a word.Declare w (or_formed text a word.Set w (or_formed text a word.Commit w
     (or_formed text a word.Rollback w (or_formed text a word.Save w (or_formed text a word.Open w (or_formed text a word.Fetch w (or_formed text a word.Close w
-    (or_formed text a word.Deallocate w other))))))))))))))))))))
+    (or_formed text a word.Deallocate w (or_formed text a word.Use w other)))))))))))))))))))))
 
 abbrev chain_last : List ℕ → Bool → Bool → List Terminal → Outcome Statement
 chain_last text true y w = or_formed text (around true y) word.Execute w (or_formed text (around true y) word.Break w (formed text (around true y) word.Continue w))

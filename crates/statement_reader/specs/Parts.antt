@@ -21,7 +21,7 @@ use Rattle.tsql_grammar.specs.Terminals.{Terminal}
 use Rattle.tsql_grammar.specs.Trees.{slice, statement}
 use Rattle.lexeme_reader.specs.Reading.{Outcome, read, read_in, expect, sees_any, ◌>>=◌}
 use Rattle.statement_parts.specs.Forms.{select_form, insert_form, update_form, delete_form, print_form, raise_error_form, return_form}
-use Rattle.statement_words.specs.Forms.{drop_form, commit_form, rollback_form, save_form, open_cursor_form, fetch_form, close_cursor_form, deallocate_form}
+use Rattle.statement_words.specs.Forms.{drop_form, commit_form, rollback_form, save_form, open_cursor_form, fetch_form, close_cursor_form, deallocate_form, use_form}
 use Rattle.statement_words.specs.Signatures.{events_from}
 
 -- ---- statements
@@ -105,6 +105,7 @@ form_from text a word.Open w = open_cursor_form w
 form_from text a word.Fetch w = fetch_form w
 form_from text a word.Close w = close_cursor_form w
 form_from text a word.Deallocate w = deallocate_form w
+form_from text a word.Use w = use_form w
 form_from text a word.Execute w = read r.AfterExecute w
 form_from text a word.Break w = if a.in_while then Some (form.Break, w) else None
 form_from text a word.Continue w = if a.in_while then Some (form.Continue, w) else None

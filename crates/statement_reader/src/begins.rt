@@ -7,7 +7,7 @@ use lexeme_reader::Lexemes;
 use tsql_grammar::{Around, Class, Kind, Reserved};
 
 /// What statements begin with inside a WHILE.
-const IN_WHILE: [Class; 25] = [
+const IN_WHILE: [Class; 26] = [
     Class::One(Kind::Reserved(Reserved::Create)),
     Class::One(Kind::Reserved(Reserved::Begin)),
     Class::One(Kind::Reserved(Reserved::Close)),
@@ -30,13 +30,14 @@ const IN_WHILE: [Class; 25] = [
     Class::One(Kind::Reserved(Reserved::Set)),
     Class::One(Kind::Reserved(Reserved::Throw)),
     Class::One(Kind::Reserved(Reserved::Update)),
+    Class::One(Kind::Reserved(Reserved::Use)),
     Class::One(Kind::Reserved(Reserved::While)),
     Class::One(Kind::Reserved(Reserved::Break)),
     Class::One(Kind::Reserved(Reserved::Continue)),
 ];
 
 /// What they begin with elsewhere.
-const OUTSIDE: [Class; 23] = [
+const OUTSIDE: [Class; 24] = [
     Class::One(Kind::Reserved(Reserved::Create)),
     Class::One(Kind::Reserved(Reserved::Begin)),
     Class::One(Kind::Reserved(Reserved::Close)),
@@ -59,11 +60,12 @@ const OUTSIDE: [Class; 23] = [
     Class::One(Kind::Reserved(Reserved::Set)),
     Class::One(Kind::Reserved(Reserved::Throw)),
     Class::One(Kind::Reserved(Reserved::Update)),
+    Class::One(Kind::Reserved(Reserved::Use)),
     Class::One(Kind::Reserved(Reserved::While)),
 ];
 
 /// What statements but CREATE TABLE begin with, outside a WHILE.
-const OTHER: [Class; 22] = [
+const OTHER: [Class; 23] = [
     Class::One(Kind::Reserved(Reserved::Begin)),
     Class::One(Kind::Reserved(Reserved::Close)),
     Class::One(Kind::Reserved(Reserved::Commit)),
@@ -85,6 +87,7 @@ const OTHER: [Class; 22] = [
     Class::One(Kind::Reserved(Reserved::Set)),
     Class::One(Kind::Reserved(Reserved::Throw)),
     Class::One(Kind::Reserved(Reserved::Update)),
+    Class::One(Kind::Reserved(Reserved::Use)),
     Class::One(Kind::Reserved(Reserved::While)),
 ];
 

@@ -18,7 +18,7 @@ use statement_parts::{
 };
 use statement_words::{
     after_execute, close_cursor, commit, deallocate, drop_object, fetch, open_cursor, rollback,
-    save,
+    save, use_database,
 };
 use std::alloc::Global;
 use table_reader::table;
@@ -138,6 +138,7 @@ impl<
             Reserved::Fetch => fetch(alloc, lexemes),
             Reserved::Close => close_cursor(alloc, lexemes),
             Reserved::Deallocate => deallocate(alloc, lexemes),
+            Reserved::Use => use_database(alloc, lexemes),
             Reserved::Execute => after_execute(alloc, lexemes),
             Reserved::Break if around.in_while => Ok(Form::Break),
             Reserved::Continue if around.in_while => Ok(Form::Continue),

@@ -102,6 +102,10 @@ pub priority_is : (w : List Terminal) → read r.Priority w
     (when (expect (plain v.High) w) (λ x. Some (priority.High, x.1)) (do x ← read r.SignedNumber w; Some (priority.Number x.0, x.1))))
 priority_is w = by_order [] r.Priority w refl
 
+pub option_name_is : (w : List Terminal) → read r.OptionName w
+    ≡ when (expect c.Name w) (λ x. Some (units x.0, x.1)) (do x ← expect (c.One k.Text) w; Some (units x.0, x.1))
+option_name_is w = by_order [] r.OptionName w refl
+
 -- ---- EXEC
 
 pub after_execute_is : (w : List Terminal) → read r.AfterExecute w

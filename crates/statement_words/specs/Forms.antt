@@ -12,6 +12,7 @@ use Rattle.tsql_grammar.specs.declared.rule.Class.TheVariants as c
 use Rattle.tsql_grammar.specs.declared.rule.Rule.TheVariants as r
 use Rattle.tsql_grammar.specs.Kinds.{fixed_options}
 use Rattle.tsql_grammar.specs.Terminals.{Terminal, units}
+use Rattle.tsql_grammar.specs.Words.{is_date_order, is_language}
 use Rattle.lexeme_reader.specs.Reading.{Outcome, read, expect, ◌>>=◌, when}
 
 abbrev pub drop_form : List Terminal → Outcome Form
@@ -66,6 +67,11 @@ deallocate_form w = do
   name ← expect c.Name w
   Some (form.Deallocate (units name.0), name.1)
 
+abbrev pub use_form : List Terminal → Outcome Form
+use_form w = do
+  name ← expect c.Name w
+  Some (form.Use (units name.0), name.1)
+
 -- an option whose known settings change nothing: this one, or one of these
 abbrev pub known_option_form : FixedOption → List Terminal → Outcome Form
 known_option_form a w = do
@@ -81,7 +87,16 @@ known_option_forms (a ∷ b ∷ more) w = when (expect (c.One (k.Fixed a)) w) (�
 unfoldable pub fixed_option_form : List Terminal → Outcome Form
 fixed_option_form w = known_option_forms fixed_options w
 
--- the options of SET that are no switches, and these
+-- those with a number or a name, whose known settings change nothing, and these
+abbrev pub named_option_form : List Terminal → Outcome Form
+named_option_form w =
+    when (expect (c.One (k.Word v.DateFirst)) w) (λ x. do n ← read r.SignedNumber x.1; Some (form.SetOption (option.DateFirst n.0), n.1))
+    (when (expect (c.One (k.Word v.RowCount)) w) (λ x. do n ← read r.SignedNumber x.1; Some (form.SetOption (option.RowCount n.0), n.1))
+    (when (expect (c.One (k.Word v.DateFormat)) w) (λ x. do name ← read r.OptionName x.1; Some (form.SetOption (option.DateFormat (is_date_order name.0)), name.1))
+    (when (expect (c.One (k.Word v.Language)) w) (λ x. do name ← read r.OptionName x.1; Some (form.SetOption (option.Language (is_language name.0)), name.1))
+    (fixed_option_form w))))
+
+-- the other options of SET that are no switches, and these
 abbrev pub other_option_form : List Terminal → Outcome Form
 other_option_form w =
     when (expect (c.One (k.Reserved word.Transaction)) w)
@@ -89,4 +104,4 @@ other_option_form w =
     (when (expect (c.One (k.Word v.LockTimeout)) w) (λ x. do n ← read r.SignedNumber x.1; Some (form.SetOption (option.LockTimeout n.0), n.1))
     (when (expect (c.One (k.Word v.TextSize)) w) (λ x. do n ← read r.SignedNumber x.1; Some (form.SetOption (option.TextSize n.0), n.1))
     (when (expect (c.One (k.Word v.DeadlockPriority)) w) (λ x. do priority ← read r.Priority x.1; Some (form.SetOption (option.DeadlockPriority priority.0), priority.1))
-    (fixed_option_form w))))
+    (named_option_form w))))

@@ -10,6 +10,7 @@
 
 mod call;
 mod cursor;
+mod database;
 mod drops;
 mod names_list;
 mod options;
@@ -18,6 +19,7 @@ mod transaction;
 
 pub use call::after_execute;
 pub use cursor::{close_cursor, deallocate, fetch, open_cursor};
+pub use database::use_database;
 pub use drops::drop_object;
 pub use names_list::names;
 pub use options::{on_off, set_other};

@@ -3,15 +3,17 @@
 ghost use Rattle.std.specs.Prelude.{◌≡◌};
 ghost use Rattle.tsql_grammar.specs.declared.rule.Rule.TheVariants as r;
 ghost use Rattle.lexeme_reader.specs.Reading.{read, Gives};
-ghost use Rattle.statement_words.specs.Forms.{other_option_form, fixed_option_form, known_option_form};
+ghost use Rattle.statement_words.specs.Forms.{other_option_form, named_option_form, fixed_option_form, known_option_form};
 
 use lexeme_reader::{Lexemes, ReadFault};
-use tsql_grammar::{Class, Kind, Reserved, Word};
+use std::alloc::Global;
+use tsql_grammar::{Class, Kind, Reserved, Word, is_date_order, is_language};
 use tsql_lexer::Sign;
 use tsql_tree::{FixedOption, Form, IsolationLevel, PriorityWord, SessionOption};
+use value_types::Units;
 
-/// An option that is no switch, or of which one setting is known.
-pub fn set_other(lexemes: &mut Lexemes<'_>) -> Result<Form, ReadFault>
+/// An option that is no switch, or whose known settings change nothing.
+pub fn set_other(alloc: Global, lexemes: &mut Lexemes<'_>) -> Result<Form, ReadFault>
     ensures { Gives (other_option_form lexemes.old) result lexemes.new }
 {
     if lexemes.accept_word(Reserved::Transaction) {
@@ -32,7 +34,43 @@ pub fn set_other(lexemes: &mut Lexemes<'_>) -> Result<Form, ReadFault>
         let priority = priority(lexemes)?;
         return Ok(Form::SetOption(SessionOption::DeadlockPriority(priority)));
     }
+    set_named(alloc, lexemes)
+}
+
+/// An option with a number or a name, or a switch, whose known settings change nothing.
+fn set_named(alloc: Global, lexemes: &mut Lexemes<'_>) -> Result<Form, ReadFault>
+    ensures { Gives (named_option_form lexemes.old) result lexemes.new }
+{
+    if lexemes.accept(Class::One(Kind::Word(Word::DateFirst))) {
+        let number = signed_number(lexemes)?;
+        return Ok(Form::SetOption(SessionOption::DateFirst(number)));
+    }
+    if lexemes.accept(Class::One(Kind::Word(Word::RowCount))) {
+        let number = signed_number(lexemes)?;
+        return Ok(Form::SetOption(SessionOption::RowCount(number)));
+    }
+    if lexemes.accept(Class::One(Kind::Word(Word::DateFormat))) {
+        let name = option_name(alloc, lexemes)?;
+        let known = is_date_order(&name);
+        return Ok(Form::SetOption(SessionOption::DateFormat(known)));
+    }
+    if lexemes.accept(Class::One(Kind::Word(Word::Language))) {
+        let name = option_name(alloc, lexemes)?;
+        let known = is_language(&name);
+        return Ok(Form::SetOption(SessionOption::Language(known)));
+    }
     set_fixed(lexemes)
+}
+
+/// The name that an option is set to.
+#[tactic(auto, using(crate::proofs::Clauses::option_name_is))]
+fn option_name(alloc: Global, lexemes: &mut Lexemes<'_>) -> Result<Units, ReadFault>
+    ensures { Gives (read r.OptionName lexemes.old) result lexemes.new }
+{
+    if let Some(name) = lexemes.take_units(alloc, Class::Name)? {
+        return Ok(name);
+    }
+    lexemes.want_units(alloc, Class::One(Kind::Text))
 }
 
 /// An option whose known settings change nothing.

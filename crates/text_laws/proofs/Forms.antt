@@ -101,7 +101,11 @@ module _ (text : List ℕ) (most : ℕ) (declared : Bool) where
   set_kept (suc h) w f s t (Some (Some (Some (Some (Some (Some (Some (Some (Some (Some (Some (Some (Some (Some (Some None)))))))))))))), vs, e, d) = kept_by most declared _ _ e (made most declared _ _ (form.rolls-SetOption _) refl)
   set_kept (suc h) w f s t (Some (Some (Some (Some (Some (Some (Some (Some (Some (Some (Some (Some (Some (Some (Some (Some None))))))))))))))), vs, e, d) = kept_by most declared _ _ e (made most declared _ _ (form.rolls-SetOption _) refl)
   set_kept (suc h) w f s t (Some (Some (Some (Some (Some (Some (Some (Some (Some (Some (Some (Some (Some (Some (Some (Some (Some None)))))))))))))))), vs, e, d) = kept_by most declared _ _ e (made most declared _ _ (form.rolls-SetOption _) refl)
-  set_kept (suc h) w f s t (Some (Some (Some (Some (Some (Some (Some (Some (Some (Some (Some (Some (Some (Some (Some (Some (Some (Some p))))))))))))))))), vs, e, d) = absurd p
+  set_kept (suc h) w f s t (Some (Some (Some (Some (Some (Some (Some (Some (Some (Some (Some (Some (Some (Some (Some (Some (Some (Some None))))))))))))))))), vs, e, d) = kept_by most declared _ _ e (made most declared _ _ (form.rolls-SetOption _) refl)
+  set_kept (suc h) w f s t (Some (Some (Some (Some (Some (Some (Some (Some (Some (Some (Some (Some (Some (Some (Some (Some (Some (Some (Some None)))))))))))))))))), vs, e, d) = kept_by most declared _ _ e (made most declared _ _ (form.rolls-SetOption _) refl)
+  set_kept (suc h) w f s t (Some (Some (Some (Some (Some (Some (Some (Some (Some (Some (Some (Some (Some (Some (Some (Some (Some (Some (Some (Some None))))))))))))))))))), vs, e, d) = kept_by most declared _ _ e (made most declared _ _ (form.rolls-SetOption _) refl)
+  set_kept (suc h) w f s t (Some (Some (Some (Some (Some (Some (Some (Some (Some (Some (Some (Some (Some (Some (Some (Some (Some (Some (Some (Some (Some None)))))))))))))))))))), vs, e, d) = kept_by most declared _ _ e (made most declared _ _ (form.rolls-SetOption _) refl)
+  set_kept (suc h) w f s t (Some (Some (Some (Some (Some (Some (Some (Some (Some (Some (Some (Some (Some (Some (Some (Some (Some (Some (Some (Some (Some (Some p))))))))))))))))))))), vs, e, d) = absurd p
 
   pub execute_kept : (h : ℕ) (w : List Terminal) (f : Form) (s t : Noted) → Within (P text) h r.AfterExecute w f s t → Kept most declared f
   execute_kept zero w f s t d = absurd d

@@ -256,8 +256,11 @@ module _ (text : List ℕ) (declared : Bool) where
                                           (
                                             calmly h a _ refl (λ w vs s t d. stands_in _ _ (made _ _ _ _ (form.rolls-Deallocate _) refl)),
                                             (
-                                              calmly h a _ refl (λ w vs s t (u1, e1, k1, (u2, v2, m2, e2, o2, d)). stands_in _ _ (execute_kept text _ _ h u2 vs.1.0 (see s vs.0) m2 o2)),
-                                              loop_steady h a a.in_while,
+                                              calmly h a _ refl (λ w vs s t d. stands_in _ _ (made _ _ _ _ (form.rolls-Use _) refl)),
+                                              (
+                                                calmly h a _ refl (λ w vs s t (u1, e1, k1, (u2, v2, m2, e2, o2, d)). stands_in _ _ (execute_kept text _ _ h u2 vs.1.0 (see s vs.0) m2 o2)),
+                                                loop_steady h a a.in_while,
+                                              ),
                                             ),
                                           ),
                                         ),

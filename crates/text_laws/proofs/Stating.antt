@@ -201,7 +201,10 @@ other_like text a = (
                                         λ xs ys l. stated xs.0 ys.0 _ _ (λ i. form.CloseCursor (units (l.1.0 i))),
                                         (
                                           λ xs ys l. stated xs.0 ys.0 _ _ (λ i. form.Deallocate (units (l.1.0 i))),
-                                          (λ xs ys l. stated xs.0 ys.0 _ _ l.1.0, loop_like a a.in_while),
+                                          (
+                                            λ xs ys l. stated xs.0 ys.0 _ _ (λ i. form.Use (units (l.1.0 i))),
+                                            (λ xs ys l. stated xs.0 ys.0 _ _ l.1.0, loop_like a a.in_while),
+                                          ),
                                         ),
                                       ),
                                     ),

@@ -328,6 +328,9 @@ function_leads text f.ErrorState = (λ _ _ e. tt, tt)
 function_leads text f.ErrorLine = (λ _ _ e. tt, tt)
 function_leads text f.ErrorMessage = (λ _ _ e. tt, tt)
 function_leads text f.ErrorProcedure = (λ _ _ e. tt, tt)
+function_leads text f.SchemaName = (λ _ _ e. tt, tt)
+function_leads text f.DatabaseName = (λ _ _ e. tt, tt)
+function_leads text f.UserName = (λ _ _ e. tt, tt)
 
 -- every production
 leads : (text : List ℕ) (q : Rule) → counts q ≡ true → AllLead q (productions text q)
@@ -489,12 +492,21 @@ leads text r.OtherPrimary e = (
             (
               λ _ e. tt,
               (
-                λ _ first b1 k1 more b2 k2 other b3 k3 _ e.
-                    let m = both_of _ (some_of (map arm_leaves (first ∷ more))) (maybe_so (option_map expr_leaves other)) (case_is (first ∷ more) other) e in
-                    (k3 m.1, (k2 (none_second (arm_leaves first) _ m.0), (k1 (none_first (arm_leaves first) _ m.0), tt))),
+                λ _ e. tt,
                 (
-                  λ _ _ first b1 k1 _ second b2 k2 _ e. let m = both_of _ (expr_leaves first) (expr_leaves second) (null_if_is first second) e in (k2 m.1, (k1 m.0, tt)),
-                  (λ _ _ exprs b k _ e. (k (sym (coalesce_is exprs) ∙ e), tt), tt),
+                  λ _ e. tt,
+                  (
+                    λ _ e. tt,
+                    (
+                      λ _ first b1 k1 more b2 k2 other b3 k3 _ e.
+                          let m = both_of _ (some_of (map arm_leaves (first ∷ more))) (maybe_so (option_map expr_leaves other)) (case_is (first ∷ more) other) e in
+                          (k3 m.1, (k2 (none_second (arm_leaves first) _ m.0), (k1 (none_first (arm_leaves first) _ m.0), tt))),
+                      (
+                        λ _ _ first b1 k1 _ second b2 k2 _ e. let m = both_of _ (expr_leaves first) (expr_leaves second) (null_if_is first second) e in (k2 m.1, (k1 m.0, tt)),
+                        (λ _ _ exprs b k _ e. (k (sym (coalesce_is exprs) ∙ e), tt), tt),
+                      ),
+                    ),
+                  ),
                 ),
               ),
             ),
@@ -505,7 +517,7 @@ leads text r.OtherPrimary e = (
   ),
 )
 leads text r.Enclosed e = (λ _ select b k e. absurd (is_leaving _ (query_leaves select) e), (λ inner b k e. (k (sym (parens_leaves inner) ∙ e), tt), tt))
-leads text r.NamedPrimary e = (λ name after b k e. (k (units name) e, tt), (λ name after b k e. (k (units name) e, tt), (λ name after b k e. (k (units name) e, tt), (λ name after b k e. (k (units name) e, tt), (λ name after b k e. (k (units name) e, tt), (λ name after b k e. (k (units name) e, tt), (λ name after b k e. (k (units name) e, tt), (λ name after b k e. (k (units name) e, tt), (λ name after b k e. (k (units name) e, tt), (λ name after b k e. (k (units name) e, tt), (λ name after b k e. (k (units name) e, tt), (λ name after b k e. (k (units name) e, tt), (λ name after b k e. (k (units name) e, tt), (λ name after b k e. (k (units name) e, tt), (λ name after b k e. (k (units name) e, tt), (λ name after b k e. (k (units name) e, tt), tt))))))))))))))))
+leads text r.NamedPrimary e = (λ name after b k e. (k (units name) e, tt), (λ name after b k e. (k (units name) e, tt), (λ name after b k e. (k (units name) e, tt), (λ name after b k e. (k (units name) e, tt), (λ name after b k e. (k (units name) e, tt), (λ name after b k e. (k (units name) e, tt), (λ name after b k e. (k (units name) e, tt), (λ name after b k e. (k (units name) e, tt), (λ name after b k e. (k (units name) e, tt), (λ name after b k e. (k (units name) e, tt), (λ name after b k e. (k (units name) e, tt), (λ name after b k e. (k (units name) e, tt), (λ name after b k e. (k (units name) e, tt), (λ name after b k e. (k (units name) e, tt), (λ name after b k e. (k (units name) e, tt), (λ name after b k e. (k (units name) e, tt), (λ name after b k e. (k (units name) e, tt), (λ name after b k e. (k (units name) e, tt), (λ name after b k e. (k (units name) e, tt), tt)))))))))))))))))))
 leads text (r.FunctionArguments a) e = function_leads text a
 leads text r.CountArguments e = (λ _ e. tt, (λ distinct b1 k1 operand b2 k2 e. (k2 (sym (aggregate_is _ distinct operand) ∙ e), (k1, tt)), tt))
 leads text r.MoreTerms e = (λ sign b1 k1 operand b2 k2 more b3 k3 e. (k3 (none_second (term_leaves _) _ e), (k2 (sym (term_is sign operand) ∙ none_first (term_leaves _) _ e), (k1, tt))), (λ e. tt, tt))

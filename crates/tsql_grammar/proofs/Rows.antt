@@ -11,6 +11,7 @@ use Rattle.tsql_tree.specs.declared.query.Expr.{Expr}
 use Rattle.tsql_tree.specs.declared.query.Expr.TheVariants as expr
 use Rattle.tsql_tree.specs.declared.query.Factor.{roll-Factor}
 use Rattle.tsql_tree.specs.declared.query.MultiplySign.TheVariants as multiply
+use Rattle.tsql_tree.specs.declared.query.SystemWord.TheVariants as system
 use Rattle.tsql_tree.specs.declared.query.Term.{roll-Term}
 use Rattle.tsql_tree.specs.declared.query.Test.TheVariants as test
 use Rattle.tsql_tree.specs.declared.statement.Form.TheVariants as form
@@ -20,7 +21,7 @@ use Rattle.tsql_grammar.specs.declared.rule.Rule.TheVariants as r
 use Rattle.tsql_grammar.specs.Language.{read_rule}
 use Rattle.tsql_grammar.specs.Productions.{Tree}
 use Rattle.tsql_grammar.specs.Terminals.{terminals}
-use Rattle.tsql_grammar.specs.Words.{word_kind}
+use Rattle.tsql_grammar.specs.Words.{system_kind, word_kind}
 use Rattle.grammar_laws.specs.Descent.{read}
 
 -- lexemes that stand in line 1
@@ -56,6 +57,20 @@ functions : IsRead r.Expr (x.Word (codes "len") ∷ sign s.Open ∷ x.Word (code
     (expr.Length (expr.Column (Some (codes "dbo")) (codes "len")))
 unfolding read word_kind
 functions = refl
+
+-- schema_name ( ), and the column of that name
+named_or_called : IsRead r.Expr (x.Word (codes "schema_name") ∷ sign s.Open ∷ sign s.Close ∷ []) (expr.System system.SchemaName)
+unfolding read word_kind
+named_or_called = refl
+
+called_alone : IsRead r.Expr (x.Word (codes "schema_name") ∷ []) (expr.Column None (codes "schema_name"))
+unfolding read word_kind
+called_alone = refl
+
+-- @@Version
+versions : IsRead r.Expr (x.SystemName (codes "@@Version") ∷ []) (expr.System system.Version)
+unfolding read system_kind
+versions = refl
 
 -- ( ( 1 ) = 1 ): the outer parentheses enclose a test, the inner ones an expression
 parentheses : IsRead r.Test (sign s.Open ∷ sign s.Open ∷ number 1 ∷ sign s.Close ∷ sign s.Equal ∷ number 1 ∷ sign s.Close ∷ [])

@@ -6,12 +6,18 @@ use Rattle.std.proofs.lemmas.Bool.Decides.{nat_tests}
 use Rattle.grammar_laws.proofs.Booleans.{and_true}
 use Rattle.value_types.specs.Units.{same_units}
 use Rattle.tsql_grammar.specs.declared.kind.Kind.{Kind}
-use Rattle.tsql_grammar.specs.declared.words.TheConstants.{OF_NONE, OF_A, OF_B, OF_C, OF_D, OF_E, OF_F, OF_G, OF_H, OF_I, OF_J, OF_K, OF_L, OF_M, OF_N, OF_O, OF_P, OF_Q, OF_R, OF_S, OF_T, OF_U, OF_V, OF_W, OF_X, SYSTEM_SPELLINGS}
-use Rattle.tsql_grammar.specs.Words.{look_up, spellings, system_spellings}
+use Rattle.tsql_grammar.specs.declared.words.TheConstants.{OF_NONE, OF_A, OF_B, OF_C, OF_D, OF_E, OF_F, OF_G, OF_H, OF_I, OF_J, OF_K, OF_L, OF_M, OF_N, OF_O, OF_P, OF_Q, OF_R, OF_S, OF_T, OF_U, OF_V, OF_W, OF_X, SYSTEM_SPELLINGS, DATE_ORDERS, LANGUAGES}
+use Rattle.tsql_grammar.specs.Words.{date_orders, languages, look_up, spellings, system_spellings}
 use Rattle.tsql_grammar.specs.WordLetters.{place_of, is_at, words_at}
 
 pub systems_same : map (λ row. (row.0.now, row.1)) SYSTEM_SPELLINGS ≡ system_spellings
 systems_same = refl
+
+pub orders_same : map (λ word. word.now) DATE_ORDERS ≡ date_orders
+orders_same = refl
+
+pub languages_same : map (λ word. word.now) LANGUAGES ≡ languages
+languages_same = refl
 
 pub same_0 : map (λ row. (row.0.now, row.1)) OF_A ≡ words_at 0
 unfolding words_at

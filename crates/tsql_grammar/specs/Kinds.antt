@@ -27,7 +27,8 @@ fixed_options =
 abbrev pub functions : List Function
 functions =
     f.Cast ∷ f.IsNull ∷ f.Len ∷ f.Count ∷ f.Sum ∷ f.Avg ∷ f.Min ∷ f.Max ∷ f.XactState ∷ f.ErrorNumber ∷
-    f.ErrorSeverity ∷ f.ErrorState ∷ f.ErrorLine ∷ f.ErrorMessage ∷ f.ErrorProcedure ∷ []
+    f.ErrorSeverity ∷ f.ErrorState ∷ f.ErrorLine ∷ f.ErrorMessage ∷ f.ErrorProcedure ∷ f.SchemaName ∷
+    f.DatabaseName ∷ f.UserName ∷ []
 
 abbrev pub words : List Word
 words =
@@ -35,7 +36,7 @@ words =
     v.Catch ∷ v.XactAbort ∷ v.NoCount ∷ v.ImplicitTransactions ∷ v.Off ∷ v.Isolation ∷ v.Level ∷
     v.LockTimeout ∷ v.TextSize ∷ v.DeadlockPriority ∷ v.Low ∷ v.Normal ∷ v.High ∷ v.Read ∷ v.Committed ∷
     v.Uncommitted ∷ v.Repeatable ∷ v.Snapshot ∷ v.Serializable ∷ v.Local ∷ v.Global ∷ v.Static ∷
-    v.ReadOnly ∷ v.Next ∷ []
+    v.ReadOnly ∷ v.Next ∷ v.DateFirst ∷ v.DateFormat ∷ v.Language ∷ v.RowCount ∷ []
 
 abbrev pub reserved_words : List Reserved
 reserved_words =
@@ -46,7 +47,7 @@ reserved_words =
     w.Into ∷ w.Is ∷ w.Join ∷ w.Key ∷ w.Left ∷ w.Not ∷ w.Null ∷ w.NullIf ∷ w.On ∷ w.Open ∷ w.Or ∷ w.Order
     ∷ w.Outer ∷ w.Primary ∷ w.Print ∷ w.Procedure ∷ w.RaiseError ∷ w.References ∷ w.Return ∷ w.Rollback
     ∷ w.Save ∷ w.Select ∷ w.Set ∷ w.Table ∷ w.Then ∷ w.Throw ∷ w.Top ∷ w.Tran ∷ w.Transaction ∷
-    w.Trigger ∷ w.Unique ∷ w.Update ∷ w.Values ∷ w.When ∷ w.Where ∷ w.While ∷ w.LeftOut ∷ []
+    w.Trigger ∷ w.Unique ∷ w.Update ∷ w.Use ∷ w.Values ∷ w.When ∷ w.Where ∷ w.While ∷ w.LeftOut ∷ []
 
 -- the place of each in its list
 abbrev pub sign_place : Sign → ℕ
@@ -95,6 +96,9 @@ function_place f.ErrorState = 11
 function_place f.ErrorLine = 12
 function_place f.ErrorMessage = 13
 function_place f.ErrorProcedure = 14
+function_place f.SchemaName = 15
+function_place f.DatabaseName = 16
+function_place f.UserName = 17
 
 abbrev pub word_place : Word → ℕ
 word_place v.Output = 0
@@ -130,6 +134,10 @@ word_place v.Global = 29
 word_place v.Static = 30
 word_place v.ReadOnly = 31
 word_place v.Next = 32
+word_place v.DateFirst = 33
+word_place v.DateFormat = 34
+word_place v.Language = 35
+word_place v.RowCount = 36
 
 abbrev pub reserved_place : Reserved → ℕ
 reserved_place w.And = 0
@@ -201,16 +209,18 @@ reserved_place w.Transaction = 65
 reserved_place w.Trigger = 66
 reserved_place w.Unique = 67
 reserved_place w.Update = 68
-reserved_place w.Values = 69
-reserved_place w.When = 70
-reserved_place w.Where = 71
-reserved_place w.While = 72
-reserved_place w.LeftOut = 73
+reserved_place w.Use = 69
+reserved_place w.Values = 70
+reserved_place w.When = 71
+reserved_place w.Where = 72
+reserved_place w.While = 73
+reserved_place w.LeftOut = 74
 
 -- all kinds
 abbrev pub kinds : List Kind
 kinds =
-    k.Number ∷ k.Text ∷ k.Variable ∷ k.Name ∷ k.Dbo ∷ k.OtherSystem ∷ k.TranCount ∷ k.Error ∷ k.RowCount ∷ k.FetchStatus ∷ k.BeforeElse ∷ []
+    k.Number ∷ k.Text ∷ k.Variable ∷ k.Name ∷ k.Dbo ∷ k.OtherSystem ∷ k.TranCount ∷ k.Error ∷ k.RowCount ∷ k.FetchStatus ∷
+    k.Version ∷ k.ServerName ∷ k.MaxPrecision ∷ k.BeforeElse ∷ []
     ++ map k.Sign signs ++ map k.Fixed fixed_options ++ map k.Function functions ++ map k.Word words ++ map k.Reserved reserved_words
 
 -- the place of a kind among all kinds
@@ -225,12 +235,15 @@ kind_place k.TranCount = 6
 kind_place k.Error = 7
 kind_place k.RowCount = 8
 kind_place k.FetchStatus = 9
-kind_place k.BeforeElse = 10
-kind_place (k.Sign x) = 11 + sign_place x
-kind_place (k.Fixed x) = 27 + option_place x
-kind_place (k.Function x) = 37 + function_place x
-kind_place (k.Word x) = 52 + word_place x
-kind_place (k.Reserved x) = 85 + reserved_place x
+kind_place k.Version = 10
+kind_place k.ServerName = 11
+kind_place k.MaxPrecision = 12
+kind_place k.BeforeElse = 13
+kind_place (k.Sign x) = 14 + sign_place x
+kind_place (k.Fixed x) = 30 + option_place x
+kind_place (k.Function x) = 40 + function_place x
+kind_place (k.Word x) = 58 + word_place x
+kind_place (k.Reserved x) = 95 + reserved_place x
 
 -- two kinds are one
 abbrev pub same_kind : Kind → Kind → Bool

@@ -36,15 +36,15 @@ abbrev pub begins_statement : Around → List Class
 begins_statement a =
     map the_reserved (w.Begin ∷ w.Close ∷ w.Commit ∷ w.Deallocate ∷ w.Declare ∷ w.Delete ∷ w.Drop
     ∷ w.Execute ∷ w.Fetch ∷ w.If ∷ w.Insert ∷ w.Open ∷ w.Print ∷ w.RaiseError ∷ w.Return ∷
-    w.Rollback ∷ w.Save ∷ w.Select ∷ w.Set ∷ w.Throw ∷ w.Update ∷ w.While ∷ [])
+    w.Rollback ∷ w.Save ∷ w.Select ∷ w.Set ∷ w.Throw ∷ w.Update ∷ w.Use ∷ w.While ∷ [])
     ++ (if a.in_while then the_reserved w.Break ∷ the_reserved w.Continue ∷ [] else [])
 
 -- what operands and expressions begin with
 abbrev pub begins_other : List Class
 begins_other =
     c.One k.Number ∷ c.One k.Text ∷ c.One k.TranCount ∷ c.One k.Error ∷ c.One k.RowCount ∷ c.One
-    k.FetchStatus ∷ the_reserved w.Case ∷ the_reserved w.Coalesce ∷ the_reserved w.Null ∷
-    the_reserved w.NullIf ∷ []
+    k.FetchStatus ∷ c.One k.Version ∷ c.One k.ServerName ∷ c.One k.MaxPrecision ∷ the_reserved w.Case ∷
+    the_reserved w.Coalesce ∷ the_reserved w.Null ∷ the_reserved w.NullIf ∷ []
 
 abbrev pub begins_simple : List Class
 begins_simple = c.Name ∷ c.One k.Variable ∷ begins_other
@@ -154,14 +154,15 @@ first_classes r.CursorStatic = the_word v.Static ∷ []
 first_classes r.CursorReadOnly = the_word v.ReadOnly ∷ []
 first_classes r.AfterSet =
     c.One k.Variable ∷ the_reserved w.Transaction ∷ map the_word (v.XactAbort ∷ v.NoCount ∷
-    v.ImplicitTransactions ∷ v.LockTimeout ∷ v.TextSize ∷ v.DeadlockPriority ∷ []) ++
-    fixed_classes
+    v.ImplicitTransactions ∷ v.LockTimeout ∷ v.TextSize ∷ v.DeadlockPriority ∷ v.DateFirst ∷
+    v.RowCount ∷ v.DateFormat ∷ v.Language ∷ []) ++ fixed_classes
 first_classes r.OnOff = the_word v.Off ∷ the_reserved w.On ∷ []
 first_classes r.Level = map the_word (v.Read ∷ v.Repeatable ∷ v.Snapshot ∷ v.Serializable ∷ [])
 first_classes r.AfterRead = the_word v.Committed ∷ the_word v.Uncommitted ∷ []
 first_classes r.SignedNumber = c.One k.Number ∷ the_sign s.Minus ∷ []
 first_classes r.Priority =
     c.One k.Number ∷ the_sign s.Minus ∷ map the_word (v.Low ∷ v.Normal ∷ v.High ∷ [])
+first_classes r.OptionName = c.Name ∷ c.One k.Text ∷ []
 first_classes r.TransactionWord = the_reserved w.Tran ∷ the_reserved w.Transaction ∷ []
 first_classes r.TransactionEnd = the_reserved w.Tran ∷ the_reserved w.Transaction ∷ []
 first_classes r.OptionalName = c.Name ∷ []
@@ -330,6 +331,7 @@ further_classes r.Level = []
 further_classes r.AfterRead = []
 further_classes r.SignedNumber = []
 further_classes r.Priority = []
+further_classes r.OptionName = []
 further_classes r.TransactionWord = []
 further_classes r.TransactionEnd = c.Name ∷ the_reserved w.Tran ∷ the_reserved w.Transaction ∷ []
 further_classes r.OptionalName = c.Name ∷ []

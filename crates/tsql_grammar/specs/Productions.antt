@@ -74,6 +74,7 @@ use Rattle.tsql_grammar.specs.declared.rule.Rule.{Rule}
 use Rattle.tsql_grammar.specs.declared.rule.Rule.TheVariants as r
 use Rattle.tsql_grammar.specs.Kinds.{functions, fixed_options}
 use Rattle.tsql_grammar.specs.Terminals.{Terminal, units, number, line, size}
+use Rattle.tsql_grammar.specs.Words.{is_date_order, is_language}
 use Rattle.tsql_grammar.specs.Trees.{with_signs, product, sum, all_of, any_of, with_nots, statement, slice, Draft, empty_draft, add_column, add_key, add_unique, add_check, add_foreign, Traits, no_traits, constrained}
 use Rattle.grammar_laws.specs.Grammar.{Symbol}
 use Rattle.grammar_laws.specs.Grammar.Symbol.{lexeme, rule, mark}
@@ -162,6 +163,7 @@ Tree r.Level = IsolationLevel
 Tree r.AfterRead = IsolationLevel
 Tree r.SignedNumber = ℤ
 Tree r.Priority = PriorityWord
+Tree r.OptionName = List ℕ
 Tree r.TransactionWord = Unit {0}
 Tree r.TransactionEnd = Option (List ℕ)
 Tree r.OptionalName = Option (List ℕ)
@@ -284,7 +286,7 @@ function_arguments f.Min =
     way (sign s.Open ∷ mark Enter ∷ rule r.Distinct ∷ rule r.Expr ∷ sign s.Close ∷ mark Leave ∷ []) (λ _ distinct operand _. expr.Aggregate aggregate.Min distinct operand) ∷ []
 function_arguments f.Max =
     way (sign s.Open ∷ mark Enter ∷ rule r.Distinct ∷ rule r.Expr ∷ sign s.Close ∷ mark Leave ∷ []) (λ _ distinct operand _. expr.Aggregate aggregate.Max distinct operand) ∷ []
--- XACT_STATE "(" ")" | (ERROR_NUMBER|..) "(" ")"
+-- XACT_STATE "(" ")" | (ERROR_NUMBER|..) "(" ")" | (SCHEMA_NAME|DB_NAME|USER_NAME) "(" ")"
 function_arguments f.XactState = way (sign s.Open ∷ mark Enter ∷ sign s.Close ∷ mark Leave ∷ []) (λ _ _. expr.System system.XactState) ∷ []
 function_arguments f.ErrorNumber = way (sign s.Open ∷ mark Enter ∷ sign s.Close ∷ mark Leave ∷ []) (λ _ _. expr.System system.ErrorNumber) ∷ []
 function_arguments f.ErrorSeverity = way (sign s.Open ∷ mark Enter ∷ sign s.Close ∷ mark Leave ∷ []) (λ _ _. expr.System system.ErrorSeverity) ∷ []
@@ -292,6 +294,9 @@ function_arguments f.ErrorState = way (sign s.Open ∷ mark Enter ∷ sign s.Clo
 function_arguments f.ErrorLine = way (sign s.Open ∷ mark Enter ∷ sign s.Close ∷ mark Leave ∷ []) (λ _ _. expr.System system.ErrorLine) ∷ []
 function_arguments f.ErrorMessage = way (sign s.Open ∷ mark Enter ∷ sign s.Close ∷ mark Leave ∷ []) (λ _ _. expr.System system.ErrorMessage) ∷ []
 function_arguments f.ErrorProcedure = way (sign s.Open ∷ mark Enter ∷ sign s.Close ∷ mark Leave ∷ []) (λ _ _. expr.System system.ErrorProcedure) ∷ []
+function_arguments f.SchemaName = way (sign s.Open ∷ mark Enter ∷ sign s.Close ∷ mark Leave ∷ []) (λ _ _. expr.System system.SchemaName) ∷ []
+function_arguments f.DatabaseName = way (sign s.Open ∷ mark Enter ∷ sign s.Close ∷ mark Leave ∷ []) (λ _ _. expr.System system.DatabaseName) ∷ []
+function_arguments f.UserName = way (sign s.Open ∷ mark Enter ∷ sign s.Close ∷ mark Leave ∷ []) (λ _ _. expr.System system.UserName) ∷ []
 
 -- The productions of each rule, for the batch's text, which the trees of definitions keep a part of.
 abbrev pub productions : List ℕ → (a : Rule) → List (Production a)
@@ -391,6 +396,8 @@ productions text (r.OtherStatement a) =
     (λ at _ _ name _ variables. statement at (form.Fetch (units name) variables))
     ∷ way (reserved w.Close ∷ name ∷ []) (λ at name. statement at (form.CloseCursor (units name)))
     ∷ way (reserved w.Deallocate ∷ name ∷ []) (λ at name. statement at (form.Deallocate (units name)))
+    -- use = USE name
+    ∷ way (reserved w.Use ∷ name ∷ []) (λ at name. statement at (form.Use (units name)))
     -- call = (EXEC|EXECUTE) [variable "="] object [list([variable "="] argument)]
     ∷ way (reserved w.Execute ∷ rule r.AfterExecute ∷ []) (λ at after. statement at after)
     -- BREAK and CONTINUE stand only inside a WHILE
@@ -482,6 +489,7 @@ productions text r.MoreVariables = way (sign s.Comma ∷ variable ∷ mark Uses 
 -- option = (XACT_ABORT|NOCOUNT|IMPLICIT_TRANSACTIONS|fixed) (ON|OFF)
 --        | TRANSACTION ISOLATION LEVEL level | LOCK_TIMEOUT ["-"] number | TEXTSIZE ["-"] number
 --        | DEADLOCK_PRIORITY (LOW|NORMAL|HIGH|["-"] number)
+--        | DATEFIRST ["-"] number | ROWCOUNT ["-"] number | (DATEFORMAT|LANGUAGE) (name|text)
 productions text r.AfterSet =
     way (variable ∷ mark Uses ∷ sign s.Equal ∷ rule r.Expr ∷ []) (λ name _ value. form.SetVariable (units name) value)
     ∷ way (word v.XactAbort ∷ rule r.OnOff ∷ []) (λ _ on. form.SetOption (option.XactAbort on))
@@ -491,6 +499,10 @@ productions text r.AfterSet =
     ∷ way (word v.LockTimeout ∷ rule r.SignedNumber ∷ []) (λ _ n. form.SetOption (option.LockTimeout n))
     ∷ way (word v.TextSize ∷ rule r.SignedNumber ∷ []) (λ _ n. form.SetOption (option.TextSize n))
     ∷ way (word v.DeadlockPriority ∷ rule r.Priority ∷ []) (λ _ priority. form.SetOption (option.DeadlockPriority priority))
+    ∷ way (word v.DateFirst ∷ rule r.SignedNumber ∷ []) (λ _ n. form.SetOption (option.DateFirst n))
+    ∷ way (word v.RowCount ∷ rule r.SignedNumber ∷ []) (λ _ n. form.SetOption (option.RowCount n))
+    ∷ way (word v.DateFormat ∷ rule r.OptionName ∷ []) (λ _ name. form.SetOption (option.DateFormat (is_date_order name)))
+    ∷ way (word v.Language ∷ rule r.OptionName ∷ []) (λ _ name. form.SetOption (option.Language (is_language name)))
     -- fixed = ANSI_NULLS|ANSI_NULL_DFLT_ON|ANSI_PADDING|ANSI_WARNINGS|ARITHABORT
     --       | CONCAT_NULL_YIELDS_NULL|QUOTED_IDENTIFIER
     --       | CURSOR_CLOSE_ON_COMMIT|FMTONLY|NUMERIC_ROUNDABORT (own)
@@ -507,6 +519,7 @@ productions text r.SignedNumber = way (numeral ∷ []) (λ n. number n) ∷ way 
 productions text r.Priority =
     way (word v.Low ∷ []) (λ _. priority.Low) ∷ way (word v.Normal ∷ []) (λ _. priority.Normal) ∷ way (word v.High ∷ []) (λ _. priority.High)
     ∷ way (rule r.SignedNumber ∷ []) (λ n. priority.Number n) ∷ []
+productions text r.OptionName = way (name ∷ []) (λ name. units name) ∷ way (lexeme (c.One k.Text) ∷ []) (λ text. units text) ∷ []
 productions text r.TransactionWord = way (reserved w.Tran ∷ []) (λ _. tt) ∷ way (reserved w.Transaction ∷ []) (λ _. tt) ∷ []
 productions text r.TransactionEnd = way (rule r.TransactionWord ∷ rule r.OptionalName ∷ []) (λ _ name. name) ∷ way [] None ∷ []
 productions text r.OptionalName = way (name ∷ []) (λ name. Some (units name)) ∷ way [] None ∷ []
@@ -681,6 +694,7 @@ productions text r.MoreSigns = way (rule r.AddSign ∷ rule r.MoreSigns ∷ []) 
 --         | COUNT "(" "*" ")" | (COUNT|SUM|AVG|MIN|MAX) "(" [DISTINCT] expr ")"
 -- system = @@TRANCOUNT|@@ERROR|@@ROWCOUNT|@@FETCH_STATUS|XACT_STATE "(" ")"
 --        | (ERROR_NUMBER|ERROR_SEVERITY|ERROR_STATE|ERROR_LINE|ERROR_MESSAGE|ERROR_PROCEDURE) "(" ")"
+--        | @@VERSION|@@SERVERNAME|@@MAX_PRECISION|(SCHEMA_NAME|DB_NAME|USER_NAME) "(" ")"
 productions text r.Primary =
     way (sign s.Open ∷ mark Enter ∷ rule r.Enclosed ∷ sign s.Close ∷ mark Leave ∷ []) (λ _ operand _. operand)
     ∷ way (rule r.SimplePrimary ∷ []) (λ operand. operand) ∷ []
@@ -697,6 +711,9 @@ productions text r.OtherPrimary =
     ∷ way (lexeme (c.One k.Error) ∷ []) (λ _. expr.System system.Error)
     ∷ way (lexeme (c.One k.RowCount) ∷ []) (λ _. expr.System system.RowCount)
     ∷ way (lexeme (c.One k.FetchStatus) ∷ []) (λ _. expr.System system.FetchStatus)
+    ∷ way (lexeme (c.One k.Version) ∷ []) (λ _. expr.System system.Version)
+    ∷ way (lexeme (c.One k.ServerName) ∷ []) (λ _. expr.System system.ServerName)
+    ∷ way (lexeme (c.One k.MaxPrecision) ∷ []) (λ _. expr.System system.MaxPrecision)
     ∷ way (reserved w.Case ∷ mark Enter ∷ rule r.Arm ∷ rule r.MoreArms ∷ rule r.CaseElse ∷ reserved w.End ∷ mark Leave ∷ []) (λ _ first more other _. expr.Case (first ∷ more) other)
     ∷ way (reserved w.NullIf ∷ sign s.Open ∷ mark Enter ∷ rule r.Expr ∷ sign s.Comma ∷ rule r.Expr ∷ sign s.Close ∷ mark Leave ∷ []) (λ _ _ first _ second _. expr.NullIf first second)
     ∷ way (reserved w.Coalesce ∷ sign s.Open ∷ mark Enter ∷ rule r.Exprs ∷ sign s.Close ∷ mark Leave ∷ []) (λ _ _ exprs _. expr.Coalesce exprs) ∷ []

@@ -2,7 +2,7 @@
 -- knows, each by its capitals, and the kind of each lexeme. Words are compared without case, names
 -- with case; a quoted name is never a word. That THROW, UNION, EXCEPT, INTERSECT, RIGHT and FULL are
 -- reserved is own (the forms that the last five begin are left out).
-use Rattle.std.specs.Prelude.{ℕ, ◌-◌, ◌&&◌, nat_le, List, [], ◌∷◌, ◌++◌, map, codes, if◌then◌else◌}
+use Rattle.std.specs.Prelude.{ℕ, ◌-◌, ◌&&◌, Bool, true, false, nat_le, List, [], ◌∷◌, ◌++◌, map, codes, if◌then◌else◌}
 use Rattle.value_types.specs.Units.{same_units}
 use Rattle.tsql_lexer.specs.declared.lexeme.Lexeme.{Lexeme}
 use Rattle.tsql_lexer.specs.declared.lexeme.Lexeme.TheVariants as x
@@ -87,6 +87,7 @@ reserved_spellings =
     ∷ (codes "TRIGGER", k.Reserved w.Trigger)
     ∷ (codes "UNIQUE", k.Reserved w.Unique)
     ∷ (codes "UPDATE", k.Reserved w.Update)
+    ∷ (codes "USE", k.Reserved w.Use)
     ∷ (codes "VALUES", k.Reserved w.Values)
     ∷ (codes "WHEN", k.Reserved w.When)
     ∷ (codes "WHERE", k.Reserved w.Where)
@@ -136,6 +137,10 @@ word_spellings =
     ∷ (codes "STATIC", k.Word v.Static)
     ∷ (codes "READ_ONLY", k.Word v.ReadOnly)
     ∷ (codes "NEXT", k.Word v.Next)
+    ∷ (codes "DATEFIRST", k.Word v.DateFirst)
+    ∷ (codes "DATEFORMAT", k.Word v.DateFormat)
+    ∷ (codes "LANGUAGE", k.Word v.Language)
+    ∷ (codes "ROWCOUNT", k.Word v.RowCount)
     ∷ []
 
 -- functions, names where no parenthesis follows
@@ -156,6 +161,9 @@ function_spellings =
     ∷ (codes "ERROR_LINE", k.Function f.ErrorLine)
     ∷ (codes "ERROR_MESSAGE", k.Function f.ErrorMessage)
     ∷ (codes "ERROR_PROCEDURE", k.Function f.ErrorProcedure)
+    ∷ (codes "SCHEMA_NAME", k.Function f.SchemaName)
+    ∷ (codes "DB_NAME", k.Function f.DatabaseName)
+    ∷ (codes "USER_NAME", k.Function f.UserName)
     ∷ []
 
 -- options that are ON or OFF, names elsewhere
@@ -176,18 +184,40 @@ option_spellings =
 abbrev pub spellings : List (List ℕ × Kind)
 spellings = reserved_spellings ++ word_spellings ++ function_spellings ++ option_spellings
 
--- names of the session's values
+-- names of the session's values, and of what the server says of itself
 abbrev pub system_spellings : List (List ℕ × Kind)
 system_spellings =
     (codes "@@TRANCOUNT", k.TranCount)
     ∷ (codes "@@ERROR", k.Error)
     ∷ (codes "@@ROWCOUNT", k.RowCount)
     ∷ (codes "@@FETCH_STATUS", k.FetchStatus)
+    ∷ (codes "@@VERSION", k.Version)
+    ∷ (codes "@@SERVERNAME", k.ServerName)
+    ∷ (codes "@@MAX_PRECISION", k.MaxPrecision)
     ∷ []
 
 -- the capital of a unit, if it is one of the letters a to z
 abbrev pub capital : ℕ → ℕ
 capital unit = if nat_le 97 unit && nat_le unit 122 then unit - 32 else unit
+
+-- a name is one of these words, whatever its case
+abbrev pub is_one_of : List (List ℕ) → List ℕ → Bool
+is_one_of [] name = false
+is_one_of (word ∷ more) name = if same_units word (map capital name) then true else is_one_of more name
+
+-- the orders of day, month and year
+abbrev pub date_orders : List (List ℕ)
+date_orders = codes "MDY" ∷ codes "DMY" ∷ codes "YMD" ∷ codes "YDM" ∷ codes "MYD" ∷ codes "DYM" ∷ []
+
+unfoldable pub is_date_order : List ℕ → Bool
+is_date_order name = is_one_of date_orders name
+
+-- the names of the one language
+abbrev pub languages : List (List ℕ)
+languages = codes "US_ENGLISH" ∷ codes "ENGLISH" ∷ []
+
+unfoldable pub is_language : List ℕ → Bool
+is_language name = is_one_of languages name
 
 -- the kind that a list gives to a word, or the one for all others
 abbrev pub look_up : List (List ℕ × Kind) → List ℕ → Kind → Kind

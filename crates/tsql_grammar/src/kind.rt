@@ -27,6 +27,12 @@ pub enum Kind {
     RowCount,
     /// `@@FETCH_STATUS`
     FetchStatus,
+    /// `@@VERSION`
+    Version,
+    /// `@@SERVERNAME`
+    ServerName,
+    /// `@@MAX_PRECISION`
+    MaxPrecision,
     /// A semicolon with ELSE directly behind it.
     BeforeElse,
     /// Any other sign.
@@ -74,6 +80,12 @@ pub enum Function {
     ErrorMessage,
     /// `ERROR_PROCEDURE`
     ErrorProcedure,
+    /// `SCHEMA_NAME`
+    SchemaName,
+    /// `DB_NAME`
+    DatabaseName,
+    /// `USER_NAME`
+    UserName,
 }
 
 /// Words that are not reserved.
@@ -145,6 +157,14 @@ pub enum Word {
     ReadOnly,
     /// `NEXT`
     Next,
+    /// `DATEFIRST`
+    DateFirst,
+    /// `DATEFORMAT`
+    DateFormat,
+    /// `LANGUAGE`
+    Language,
+    /// `ROWCOUNT`
+    RowCount,
 }
 
 /// Reserved words.
@@ -288,6 +308,8 @@ pub enum Reserved {
     Unique,
     /// `UPDATE`
     Update,
+    /// `USE`
+    Use,
     /// `VALUES`
     Values,
     /// `WHEN`

@@ -31,4 +31,4 @@ pub use laws::{
 pub use noted::TextFault;
 pub use place::same_kind;
 pub use rule::{Around, Class, Mark, Rule};
-pub use words::kind_of;
+pub use words::{is_date_order, is_language, kind_of};

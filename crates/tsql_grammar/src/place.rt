@@ -40,12 +40,15 @@ fn variant_of(kind: Kind) -> u8
         Kind::Error => 7,
         Kind::RowCount => 8,
         Kind::FetchStatus => 9,
-        Kind::BeforeElse => 10,
-        Kind::Sign(_) => 11,
-        Kind::Fixed(_) => 12,
-        Kind::Function(_) => 13,
-        Kind::Word(_) => 14,
-        Kind::Reserved(_) => 15,
+        Kind::Version => 10,
+        Kind::ServerName => 11,
+        Kind::MaxPrecision => 12,
+        Kind::BeforeElse => 13,
+        Kind::Sign(_) => 14,
+        Kind::Fixed(_) => 15,
+        Kind::Function(_) => 16,
+        Kind::Word(_) => 17,
+        Kind::Reserved(_) => 18,
     }
 }
 
@@ -73,12 +76,15 @@ fn place_of(kind: Kind) -> u16
         Kind::Error => 7,
         Kind::RowCount => 8,
         Kind::FetchStatus => 9,
-        Kind::BeforeElse => 10,
-        Kind::Sign(sign) => 11 + sign_place(sign),
-        Kind::Fixed(option) => 27 + option_place(option),
-        Kind::Function(function) => 37 + function_place(function),
-        Kind::Word(word) => 52 + word_place(word),
-        Kind::Reserved(word) => 85 + reserved_place(word),
+        Kind::Version => 10,
+        Kind::ServerName => 11,
+        Kind::MaxPrecision => 12,
+        Kind::BeforeElse => 13,
+        Kind::Sign(sign) => 14 + sign_place(sign),
+        Kind::Fixed(option) => 30 + option_place(option),
+        Kind::Function(function) => 40 + function_place(function),
+        Kind::Word(word) => 58 + word_place(word),
+        Kind::Reserved(word) => 95 + reserved_place(word),
     }
 }
 
@@ -150,6 +156,9 @@ fn function_place(function: Function) -> u16
         Function::ErrorLine => 12,
         Function::ErrorMessage => 13,
         Function::ErrorProcedure => 14,
+        Function::SchemaName => 15,
+        Function::DatabaseName => 16,
+        Function::UserName => 17,
     }
 }
 
@@ -193,6 +202,10 @@ fn word_place(word: Word) -> u16
         Word::Static => 30,
         Word::ReadOnly => 31,
         Word::Next => 32,
+        Word::DateFirst => 33,
+        Word::DateFormat => 34,
+        Word::Language => 35,
+        Word::RowCount => 36,
     }
 }
 
@@ -272,10 +285,11 @@ fn reserved_place(word: Reserved) -> u16
         Reserved::Trigger => 66,
         Reserved::Unique => 67,
         Reserved::Update => 68,
-        Reserved::Values => 69,
-        Reserved::When => 70,
-        Reserved::Where => 71,
-        Reserved::While => 72,
-        Reserved::LeftOut => 73,
+        Reserved::Use => 69,
+        Reserved::Values => 70,
+        Reserved::When => 71,
+        Reserved::Where => 72,
+        Reserved::While => 73,
+        Reserved::LeftOut => 74,
     }
 }

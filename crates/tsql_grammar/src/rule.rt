@@ -161,6 +161,8 @@ pub enum Rule {
     SignedNumber,
     /// What DEADLOCK_PRIORITY is set to.
     Priority,
+    /// The name that an option is set to, as a name or as a text.
+    OptionName,
     /// TRAN or TRANSACTION.
     TransactionWord,
     /// The word and a name, or the word, or nothing.

@@ -3,7 +3,7 @@
 ghost use Rattle.std.specs.Prelude.{◌≡◌, map, min};
 ghost use Rattle.value_types.specs.Units.{same_units};
 ghost use Rattle.tsql_grammar.specs.WordLetters.{place_of, words_at};
-ghost use Rattle.tsql_grammar.specs.Words.{capital, look_up, name_kind, word_kind, system_kind, kind_of};
+ghost use Rattle.tsql_grammar.specs.Words.{capital, is_date_order, is_language, is_one_of, look_up, name_kind, word_kind, system_kind, kind_of};
 
 use crate::{Function, Kind, Reserved, Word};
 use tsql_lexer::Lexeme;
@@ -89,6 +89,33 @@ fn name_kind(name: &Units) -> Kind
         [0x64, 0x62, 0x6F] => Kind::Dbo,
         _ => Kind::Name,
     }
+}
+
+/// Whether the name is an order of day, month and year, whatever its case.
+pub fn is_date_order(name: &Units) -> bool
+    ensures { result ≡ is_date_order name.now }
+{
+    is_one_of(&DATE_ORDERS, name.as_slice())
+}
+
+/// Whether the name is one of the one language, whatever its case.
+pub fn is_language(name: &Units) -> bool
+    ensures { result ≡ is_language name.now }
+{
+    is_one_of(&LANGUAGES, name.as_slice())
+}
+
+/// Whether the name has the capitals of one of these words.
+fn is_one_of(mut words: &[&[u8]], name: &[u16]) -> bool
+    ensures { result ≡ is_one_of (map (λ word. word.now) words.entry.now) name.now }
+{
+    while let [word, rest @ ..] = words {
+        if is_spelling(*word, name) {
+            return true;
+        }
+        words = rest;
+    }
+    false
 }
 
 /// The kind that a table gives to a word, or the one for all others.
@@ -192,7 +219,7 @@ const OF_C: [(&[u8], Kind); 16] = [
 ];
 
 /// The words that begin with D.
-const OF_D: [(&[u8], Kind); 7] = [
+const OF_D: [(&[u8], Kind); 10] = [
     (b"DEALLOCATE", Kind::Reserved(Reserved::Deallocate)),
     (b"DECLARE", Kind::Reserved(Reserved::Declare)),
     (b"DELETE", Kind::Reserved(Reserved::Delete)),
@@ -200,6 +227,9 @@ const OF_D: [(&[u8], Kind); 7] = [
     (b"DISTINCT", Kind::Reserved(Reserved::Distinct)),
     (b"DROP", Kind::Reserved(Reserved::Drop)),
     (b"DEADLOCK_PRIORITY", Kind::Word(Word::DeadlockPriority)),
+    (b"DATEFIRST", Kind::Word(Word::DateFirst)),
+    (b"DATEFORMAT", Kind::Word(Word::DateFormat)),
+    (b"DB_NAME", Kind::Function(Function::DatabaseName)),
 ];
 
 /// The words that begin with E.
@@ -266,12 +296,13 @@ const OF_J: [(&[u8], Kind); 1] = [(b"JOIN", Kind::Reserved(Reserved::Join))];
 const OF_K: [(&[u8], Kind); 1] = [(b"KEY", Kind::Reserved(Reserved::Key))];
 
 /// The words that begin with L.
-const OF_L: [(&[u8], Kind); 6] = [
+const OF_L: [(&[u8], Kind); 7] = [
     (b"LEFT", Kind::Reserved(Reserved::Left)),
     (b"LEVEL", Kind::Word(Word::Level)),
     (b"LOCK_TIMEOUT", Kind::Word(Word::LockTimeout)),
     (b"LOW", Kind::Word(Word::Low)),
     (b"LOCAL", Kind::Word(Word::Local)),
+    (b"LANGUAGE", Kind::Word(Word::Language)),
     (b"LEN", Kind::Function(Function::Len)),
 ];
 
@@ -323,7 +354,7 @@ const OF_Q: [(&[u8], Kind); 1] = [(
 )];
 
 /// The words that begin with R.
-const OF_R: [(&[u8], Kind); 8] = [
+const OF_R: [(&[u8], Kind); 9] = [
     (b"RAISERROR", Kind::Reserved(Reserved::RaiseError)),
     (b"REFERENCES", Kind::Reserved(Reserved::References)),
     (b"RETURN", Kind::Reserved(Reserved::Return)),
@@ -332,10 +363,11 @@ const OF_R: [(&[u8], Kind); 8] = [
     (b"READ", Kind::Word(Word::Read)),
     (b"REPEATABLE", Kind::Word(Word::Repeatable)),
     (b"READ_ONLY", Kind::Word(Word::ReadOnly)),
+    (b"ROWCOUNT", Kind::Word(Word::RowCount)),
 ];
 
 /// The words that begin with S.
-const OF_S: [(&[u8], Kind); 8] = [
+const OF_S: [(&[u8], Kind); 9] = [
     (b"SAVE", Kind::Reserved(Reserved::Save)),
     (b"SELECT", Kind::Reserved(Reserved::Select)),
     (b"SET", Kind::Reserved(Reserved::Set)),
@@ -344,6 +376,7 @@ const OF_S: [(&[u8], Kind); 8] = [
     (b"SERIALIZABLE", Kind::Word(Word::Serializable)),
     (b"STATIC", Kind::Word(Word::Static)),
     (b"SUM", Kind::Function(Function::Sum)),
+    (b"SCHEMA_NAME", Kind::Function(Function::SchemaName)),
 ];
 
 /// The words that begin with T.
@@ -361,11 +394,13 @@ const OF_T: [(&[u8], Kind); 10] = [
 ];
 
 /// The words that begin with U.
-const OF_U: [(&[u8], Kind); 4] = [
+const OF_U: [(&[u8], Kind); 6] = [
     (b"UNIQUE", Kind::Reserved(Reserved::Unique)),
     (b"UPDATE", Kind::Reserved(Reserved::Update)),
+    (b"USE", Kind::Reserved(Reserved::Use)),
     (b"UNION", Kind::Reserved(Reserved::LeftOut)),
     (b"UNCOMMITTED", Kind::Word(Word::Uncommitted)),
+    (b"USER_NAME", Kind::Function(Function::UserName)),
 ];
 
 /// The words that begin with V.
@@ -384,10 +419,19 @@ const OF_X: [(&[u8], Kind); 2] = [
     (b"XACT_STATE", Kind::Function(Function::XactState)),
 ];
 
-/// The names of the session's values by their capitals.
-const SYSTEM_SPELLINGS: [(&[u8], Kind); 4] = [
+/// The names of the session's values, and of what the server says of itself, by their capitals.
+const SYSTEM_SPELLINGS: [(&[u8], Kind); 7] = [
     (b"@@TRANCOUNT", Kind::TranCount),
     (b"@@ERROR", Kind::Error),
     (b"@@ROWCOUNT", Kind::RowCount),
     (b"@@FETCH_STATUS", Kind::FetchStatus),
+    (b"@@VERSION", Kind::Version),
+    (b"@@SERVERNAME", Kind::ServerName),
+    (b"@@MAX_PRECISION", Kind::MaxPrecision),
 ];
+
+/// The orders of day, month and year by their capitals.
+const DATE_ORDERS: [&[u8]; 6] = [b"MDY", b"DMY", b"YMD", b"YDM", b"MYD", b"DYM"];
+
+/// The names of the one language by their capitals.
+const LANGUAGES: [&[u8]; 2] = [b"US_ENGLISH", b"ENGLISH"];

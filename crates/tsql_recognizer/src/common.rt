@@ -415,7 +415,7 @@ fn of_other_primary(kind: Kind) -> Option<&'static [Symbol]>
         Kind::Number => Some(table::OF_OTHER_PRIMARY[0]),
         Kind::Text => Some(table::OF_OTHER_PRIMARY[1]),
         Kind::Reserved(Reserved::Null) => Some(table::OF_OTHER_PRIMARY[2]),
-        Kind::Reserved(Reserved::Case) => Some(table::OF_OTHER_PRIMARY[7]),
+        Kind::Reserved(Reserved::Case) => Some(table::OF_OTHER_PRIMARY[10]),
         _ => None,
     }
 }

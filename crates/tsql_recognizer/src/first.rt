@@ -103,6 +103,7 @@ pub(crate) fn first_classes(rule: Rule) -> &'static [Class]
         Rule::AfterRead => &FIRST_AFTER_READ,
         Rule::SignedNumber => &FIRST_SIGNED_NUMBER,
         Rule::Priority => &FIRST_PRIORITY,
+        Rule::OptionName => &FIRST_OPTION_NAME,
         Rule::TransactionWord => &FIRST_TRANSACTION_WORD,
         Rule::TransactionEnd => &FIRST_TRANSACTION_WORD,
         Rule::OptionalName => &FIRST_NAME,
@@ -260,9 +261,10 @@ pub(crate) fn nullable(rule: Rule) -> bool
     }
 }
 
-const BEGINS_EXPR: [Class; 15] = classes! {
+const BEGINS_EXPR: [Class; 18] = classes! {
     [Sign Open] [Sign Plus] [Sign Minus] Name (Variable) (Number) (Text) (TranCount) (Error)
-    (RowCount) (FetchStatus) [Reserved Case] [Reserved Coalesce] [Reserved Null] [Reserved NullIf]
+    (RowCount) (FetchStatus) (Version) (ServerName) (MaxPrecision) [Reserved Case]
+    [Reserved Coalesce] [Reserved Null] [Reserved NullIf]
 };
 
 const COMPARES: [Class; 6] = classes! {
@@ -273,14 +275,15 @@ const MULTIPLIES: [Class; 3] = classes! { [Sign Star] [Sign Slash] [Sign Percent
 
 const ADDS: [Class; 2] = classes! { [Sign Plus] [Sign Minus] };
 
-const BEGINS_OTHER: [Class; 10] = classes! {
-    (Number) (Text) (TranCount) (Error) (RowCount) (FetchStatus) [Reserved Case]
-    [Reserved Coalesce] [Reserved Null] [Reserved NullIf]
+const BEGINS_OTHER: [Class; 13] = classes! {
+    (Number) (Text) (TranCount) (Error) (RowCount) (FetchStatus) (Version) (ServerName)
+    (MaxPrecision) [Reserved Case] [Reserved Coalesce] [Reserved Null] [Reserved NullIf]
 };
 
-const BEGINS_SIMPLE: [Class; 12] = classes! {
-    Name (Variable) (Number) (Text) (TranCount) (Error) (RowCount) (FetchStatus) [Reserved Case]
-    [Reserved Coalesce] [Reserved Null] [Reserved NullIf]
+const BEGINS_SIMPLE: [Class; 15] = classes! {
+    Name (Variable) (Number) (Text) (TranCount) (Error) (RowCount) (FetchStatus) (Version)
+    (ServerName) (MaxPrecision) [Reserved Case] [Reserved Coalesce] [Reserved Null]
+    [Reserved NullIf]
 };
 
 const JOINS_TABLES: [Class; 5] = classes! {
@@ -292,12 +295,12 @@ const AFTER_OPERAND: [Class; 9] = classes! {
     [Sign Percent]
 };
 
-const FIRST_BATCH: [Class; 24] = classes! {
+const FIRST_BATCH: [Class; 25] = classes! {
     [Reserved Create] Semicolon [Reserved Begin] [Reserved Close] [Reserved Commit]
     [Reserved Deallocate] [Reserved Declare] [Reserved Delete] [Reserved Drop] [Reserved Execute]
     [Reserved Fetch] [Reserved If] [Reserved Insert] [Reserved Open] [Reserved Print]
     [Reserved RaiseError] [Reserved Return] [Reserved Rollback] [Reserved Save] [Reserved Select]
-    [Reserved Set] [Reserved Throw] [Reserved Update] [Reserved While]
+    [Reserved Set] [Reserved Throw] [Reserved Update] [Reserved Use] [Reserved While]
 };
 
 const FIRST_AFTER_FIRST_CREATE: [Class; 3] = classes! {
@@ -328,65 +331,66 @@ const FIRST_TYPE: [Class; 6] = classes! {
     [Word TinyInt] [Word SmallInt] [Word Int] [Word BigInt] [Word Bit] [Word NVarChar]
 };
 
-const BODY_IN_WHILE: [Class; 26] = classes! {
+const BODY_IN_WHILE: [Class; 27] = classes! {
     [Reserved Create] Semicolon [Reserved Begin] [Reserved Close] [Reserved Commit]
     [Reserved Deallocate] [Reserved Declare] [Reserved Delete] [Reserved Drop] [Reserved Execute]
     [Reserved Fetch] [Reserved If] [Reserved Insert] [Reserved Open] [Reserved Print]
     [Reserved RaiseError] [Reserved Return] [Reserved Rollback] [Reserved Save] [Reserved Select]
-    [Reserved Set] [Reserved Throw] [Reserved Update] [Reserved While] [Reserved Break]
+    [Reserved Set] [Reserved Throw] [Reserved Update] [Reserved Use] [Reserved While]
+    [Reserved Break] [Reserved Continue]
+};
+
+const STATEMENT_IN_WHILE: [Class; 26] = classes! {
+    [Reserved Create] [Reserved Begin] [Reserved Close] [Reserved Commit] [Reserved Deallocate]
+    [Reserved Declare] [Reserved Delete] [Reserved Drop] [Reserved Execute] [Reserved Fetch]
+    [Reserved If] [Reserved Insert] [Reserved Open] [Reserved Print] [Reserved RaiseError]
+    [Reserved Return] [Reserved Rollback] [Reserved Save] [Reserved Select] [Reserved Set]
+    [Reserved Throw] [Reserved Update] [Reserved Use] [Reserved While] [Reserved Break]
     [Reserved Continue]
 };
 
-const STATEMENT_IN_WHILE: [Class; 25] = classes! {
+const STATEMENT: [Class; 24] = classes! {
     [Reserved Create] [Reserved Begin] [Reserved Close] [Reserved Commit] [Reserved Deallocate]
     [Reserved Declare] [Reserved Delete] [Reserved Drop] [Reserved Execute] [Reserved Fetch]
     [Reserved If] [Reserved Insert] [Reserved Open] [Reserved Print] [Reserved RaiseError]
     [Reserved Return] [Reserved Rollback] [Reserved Save] [Reserved Select] [Reserved Set]
-    [Reserved Throw] [Reserved Update] [Reserved While] [Reserved Break] [Reserved Continue]
+    [Reserved Throw] [Reserved Update] [Reserved Use] [Reserved While]
 };
 
-const STATEMENT: [Class; 23] = classes! {
-    [Reserved Create] [Reserved Begin] [Reserved Close] [Reserved Commit] [Reserved Deallocate]
-    [Reserved Declare] [Reserved Delete] [Reserved Drop] [Reserved Execute] [Reserved Fetch]
-    [Reserved If] [Reserved Insert] [Reserved Open] [Reserved Print] [Reserved RaiseError]
-    [Reserved Return] [Reserved Rollback] [Reserved Save] [Reserved Select] [Reserved Set]
-    [Reserved Throw] [Reserved Update] [Reserved While]
-};
-
-const OTHER_STATEMENT_IN_WHILE: [Class; 24] = classes! {
+const OTHER_STATEMENT_IN_WHILE: [Class; 25] = classes! {
     [Reserved Begin] [Reserved Close] [Reserved Commit] [Reserved Deallocate] [Reserved Declare]
     [Reserved Delete] [Reserved Drop] [Reserved Execute] [Reserved Fetch] [Reserved If]
     [Reserved Insert] [Reserved Open] [Reserved Print] [Reserved RaiseError] [Reserved Return]
     [Reserved Rollback] [Reserved Save] [Reserved Select] [Reserved Set] [Reserved Throw]
-    [Reserved Update] [Reserved While] [Reserved Break] [Reserved Continue]
+    [Reserved Update] [Reserved Use] [Reserved While] [Reserved Break] [Reserved Continue]
 };
 
-const OTHER_STATEMENT: [Class; 22] = classes! {
+const OTHER_STATEMENT: [Class; 23] = classes! {
     [Reserved Begin] [Reserved Close] [Reserved Commit] [Reserved Deallocate] [Reserved Declare]
     [Reserved Delete] [Reserved Drop] [Reserved Execute] [Reserved Fetch] [Reserved If]
     [Reserved Insert] [Reserved Open] [Reserved Print] [Reserved RaiseError] [Reserved Return]
     [Reserved Rollback] [Reserved Save] [Reserved Select] [Reserved Set] [Reserved Throw]
-    [Reserved Update] [Reserved While]
+    [Reserved Update] [Reserved Use] [Reserved While]
 };
 
 const FIRST_SEMICOLON: [Class; 1] = classes! { Semicolon };
 
-const AFTER_BEGIN_IN_WHILE: [Class; 29] = classes! {
+const AFTER_BEGIN_IN_WHILE: [Class; 30] = classes! {
     [Reserved Tran] [Reserved Transaction] [Word Try] Semicolon [Reserved Create] [Reserved Begin]
     [Reserved Close] [Reserved Commit] [Reserved Deallocate] [Reserved Declare] [Reserved Delete]
     [Reserved Drop] [Reserved Execute] [Reserved Fetch] [Reserved If] [Reserved Insert]
     [Reserved Open] [Reserved Print] [Reserved RaiseError] [Reserved Return] [Reserved Rollback]
     [Reserved Save] [Reserved Select] [Reserved Set] [Reserved Throw] [Reserved Update]
-    [Reserved While] [Reserved Break] [Reserved Continue]
+    [Reserved Use] [Reserved While] [Reserved Break] [Reserved Continue]
 };
 
-const AFTER_BEGIN: [Class; 27] = classes! {
+const AFTER_BEGIN: [Class; 28] = classes! {
     [Reserved Tran] [Reserved Transaction] [Word Try] Semicolon [Reserved Create] [Reserved Begin]
     [Reserved Close] [Reserved Commit] [Reserved Deallocate] [Reserved Declare] [Reserved Delete]
     [Reserved Drop] [Reserved Execute] [Reserved Fetch] [Reserved If] [Reserved Insert]
     [Reserved Open] [Reserved Print] [Reserved RaiseError] [Reserved Return] [Reserved Rollback]
     [Reserved Save] [Reserved Select] [Reserved Set] [Reserved Throw] [Reserved Update]
-    [Reserved While]
+    [Reserved Use] [Reserved While]
 };
 
 const FIRST_ELSE: [Class; 2] = classes! { (BeforeElse) [Reserved Else] };
@@ -435,12 +439,13 @@ const FIRST_STATIC: [Class; 1] = classes! { [Word Static] };
 
 const FIRST_READ_ONLY: [Class; 1] = classes! { [Word ReadOnly] };
 
-const FIRST_AFTER_SET: [Class; 18] = classes! {
+const FIRST_AFTER_SET: [Class; 22] = classes! {
     (Variable) [Reserved Transaction] [Word XactAbort] [Word NoCount] [Word ImplicitTransactions]
-    [Word LockTimeout] [Word TextSize] [Word DeadlockPriority] [Fixed AnsiNulls]
-    [Fixed AnsiNullDefaultOn] [Fixed AnsiPadding] [Fixed AnsiWarnings] [Fixed ArithAbort]
-    [Fixed ConcatNullYieldsNull] [Fixed QuotedIdentifier] [Fixed CursorCloseOnCommit]
-    [Fixed FormatOnly] [Fixed NumericRoundAbort]
+    [Word LockTimeout] [Word TextSize] [Word DeadlockPriority] [Word DateFirst] [Word RowCount]
+    [Word DateFormat] [Word Language] [Fixed AnsiNulls] [Fixed AnsiNullDefaultOn]
+    [Fixed AnsiPadding] [Fixed AnsiWarnings] [Fixed ArithAbort] [Fixed ConcatNullYieldsNull]
+    [Fixed QuotedIdentifier] [Fixed CursorCloseOnCommit] [Fixed FormatOnly]
+    [Fixed NumericRoundAbort]
 };
 
 const FIRST_ON_OFF: [Class; 2] = classes! { [Word Off] [Reserved On] };
@@ -457,6 +462,8 @@ const FIRST_PRIORITY: [Class; 5] = classes! {
     (Number) [Sign Minus] [Word Low] [Word Normal] [Word High]
 };
 
+const FIRST_OPTION_NAME: [Class; 2] = classes! { Name (Text) };
+
 const FIRST_TRANSACTION_WORD: [Class; 2] = classes! { [Reserved Tran] [Reserved Transaction] };
 
 const FIRST_NEXT: [Class; 1] = classes! { [Word Next] };
@@ -469,10 +476,10 @@ const FIRST_AFTER_ARGUMENT_VARIABLE: [Class; 2] = classes! { [Sign Equal] [Word 
 
 const FIRST_CONSTANT: [Class; 4] = classes! { (Number) (Text) [Sign Minus] [Reserved Null] };
 
-const FIRST_SELECT: [Class; 18] = classes! {
+const FIRST_SELECT: [Class; 21] = classes! {
     [Sign Star] [Reserved Distinct] [Reserved Top] [Sign Open] [Sign Plus] [Sign Minus] Name
-    (Variable) (Number) (Text) (TranCount) (Error) (RowCount) (FetchStatus) [Reserved Case]
-    [Reserved Coalesce] [Reserved Null] [Reserved NullIf]
+    (Variable) (Number) (Text) (TranCount) (Error) (RowCount) (FetchStatus) (Version) (ServerName)
+    (MaxPrecision) [Reserved Case] [Reserved Coalesce] [Reserved Null] [Reserved NullIf]
 };
 
 const FIRST_DISTINCT: [Class; 1] = classes! { [Reserved Distinct] };
@@ -481,10 +488,10 @@ const FIRST_TOP: [Class; 1] = classes! { [Reserved Top] };
 
 const FIRST_TOP_NUMBER: [Class; 2] = classes! { (Number) [Sign Open] };
 
-const FIRST_ITEMS: [Class; 16] = classes! {
+const FIRST_ITEMS: [Class; 19] = classes! {
     [Sign Star] [Sign Open] [Sign Plus] [Sign Minus] Name (Variable) (Number) (Text) (TranCount)
-    (Error) (RowCount) (FetchStatus) [Reserved Case] [Reserved Coalesce] [Reserved Null]
-    [Reserved NullIf]
+    (Error) (RowCount) (FetchStatus) (Version) (ServerName) (MaxPrecision) [Reserved Case]
+    [Reserved Coalesce] [Reserved Null] [Reserved NullIf]
 };
 
 const FIRST_AFTER_FIRST_VARIABLE: [Class; 9] = classes! {
@@ -498,9 +505,10 @@ const FIRST_AFTER_ITEM_NAME: [Class; 8] = classes! {
 
 const FIRST_AFTER_ITEM_DOT: [Class; 2] = classes! { Name [Sign Star] };
 
-const FIRST_OTHER_ITEM: [Class; 13] = classes! {
-    [Sign Open] (Number) (Text) (TranCount) (Error) (RowCount) (FetchStatus) [Reserved Case]
-    [Reserved Coalesce] [Reserved Null] [Reserved NullIf] [Sign Plus] [Sign Minus]
+const FIRST_OTHER_ITEM: [Class; 16] = classes! {
+    [Sign Open] (Number) (Text) (TranCount) (Error) (RowCount) (FetchStatus) (Version) (ServerName)
+    (MaxPrecision) [Reserved Case] [Reserved Coalesce] [Reserved Null] [Reserved NullIf] [Sign Plus]
+    [Sign Minus]
 };
 
 const FIRST_AFTER_ITEM_OPERAND: [Class; 7] = classes! {
@@ -521,10 +529,10 @@ const FIRST_ORDER: [Class; 1] = classes! { [Reserved Order] };
 
 const FIRST_DIRECTION: [Class; 2] = classes! { [Reserved Asc] [Reserved Desc] };
 
-const FIRST_TEST: [Class; 17] = classes! {
+const FIRST_TEST: [Class; 20] = classes! {
     [Reserved Exists] [Reserved Not] [Sign Open] [Sign Plus] [Sign Minus] Name (Variable) (Number)
-    (Text) (TranCount) (Error) (RowCount) (FetchStatus) [Reserved Case] [Reserved Coalesce]
-    [Reserved Null] [Reserved NullIf]
+    (Text) (TranCount) (Error) (RowCount) (FetchStatus) (Version) (ServerName) (MaxPrecision)
+    [Reserved Case] [Reserved Coalesce] [Reserved Null] [Reserved NullIf]
 };
 
 const FIRST_OR: [Class; 1] = classes! { [Reserved Or] };
@@ -533,16 +541,16 @@ const FIRST_AND: [Class; 1] = classes! { [Reserved And] };
 
 const FIRST_NOT: [Class; 1] = classes! { [Reserved Not] };
 
-const FIRST_BASIC: [Class; 16] = classes! {
+const FIRST_BASIC: [Class; 19] = classes! {
     [Reserved Exists] [Sign Open] [Sign Plus] [Sign Minus] Name (Variable) (Number) (Text)
-    (TranCount) (Error) (RowCount) (FetchStatus) [Reserved Case] [Reserved Coalesce]
-    [Reserved Null] [Reserved NullIf]
+    (TranCount) (Error) (RowCount) (FetchStatus) (Version) (ServerName) (MaxPrecision)
+    [Reserved Case] [Reserved Coalesce] [Reserved Null] [Reserved NullIf]
 };
 
-const FIRST_OPENED: [Class; 18] = classes! {
+const FIRST_OPENED: [Class; 21] = classes! {
     [Reserved Exists] [Reserved Not] [Reserved Select] [Sign Open] [Sign Plus] [Sign Minus] Name
-    (Variable) (Number) (Text) (TranCount) (Error) (RowCount) (FetchStatus) [Reserved Case]
-    [Reserved Coalesce] [Reserved Null] [Reserved NullIf]
+    (Variable) (Number) (Text) (TranCount) (Error) (RowCount) (FetchStatus) (Version) (ServerName)
+    (MaxPrecision) [Reserved Case] [Reserved Coalesce] [Reserved Null] [Reserved NullIf]
 };
 
 const FIRST_OPERAND: [Class; 15] = classes! {
@@ -571,23 +579,24 @@ const FIRST_TESTED: [Class; 3] = classes! { [Sign Close] [Reserved And] [Reserve
 
 const FIRST_MEMBERSHIP: [Class; 2] = classes! { [Reserved Between] [Reserved In] };
 
-const FIRST_IN_LIST: [Class; 16] = classes! {
+const FIRST_IN_LIST: [Class; 19] = classes! {
     [Reserved Select] [Sign Open] [Sign Plus] [Sign Minus] Name (Variable) (Number) (Text)
-    (TranCount) (Error) (RowCount) (FetchStatus) [Reserved Case] [Reserved Coalesce]
-    [Reserved Null] [Reserved NullIf]
+    (TranCount) (Error) (RowCount) (FetchStatus) (Version) (ServerName) (MaxPrecision)
+    [Reserved Case] [Reserved Coalesce] [Reserved Null] [Reserved NullIf]
 };
 
-const FIRST_PRIMARY: [Class; 13] = classes! {
+const FIRST_PRIMARY: [Class; 16] = classes! {
     [Sign Open] Name (Variable) (Number) (Text) (TranCount) (Error) (RowCount) (FetchStatus)
-    [Reserved Case] [Reserved Coalesce] [Reserved Null] [Reserved NullIf]
+    (Version) (ServerName) (MaxPrecision) [Reserved Case] [Reserved Coalesce] [Reserved Null]
+    [Reserved NullIf]
 };
 
 const FIRST_AFTER_FUNCTION: [Class; 2] = classes! { [Sign Open] [Sign Dot] };
 
-const FIRST_COUNT_ARGUMENTS: [Class; 17] = classes! {
+const FIRST_COUNT_ARGUMENTS: [Class; 20] = classes! {
     [Sign Star] [Reserved Distinct] [Sign Open] [Sign Plus] [Sign Minus] Name (Variable) (Number)
-    (Text) (TranCount) (Error) (RowCount) (FetchStatus) [Reserved Case] [Reserved Coalesce]
-    [Reserved Null] [Reserved NullIf]
+    (Text) (TranCount) (Error) (RowCount) (FetchStatus) (Version) (ServerName) (MaxPrecision)
+    [Reserved Case] [Reserved Coalesce] [Reserved Null] [Reserved NullIf]
 };
 
 const FIRST_WHEN: [Class; 1] = classes! { [Reserved When] };

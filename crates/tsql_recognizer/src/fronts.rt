@@ -105,6 +105,9 @@ fn begins_other(kind: Kind) -> bool
             | Kind::Error
             | Kind::RowCount
             | Kind::FetchStatus
+            | Kind::Version
+            | Kind::ServerName
+            | Kind::MaxPrecision
             | Kind::Reserved(
                 Reserved::Case | Reserved::Coalesce | Reserved::Null | Reserved::NullIf
             )

@@ -104,6 +104,8 @@ pub(crate) const DEALLOCATE: Symbol = Symbol::Lexeme(Class::One(Kind::Reserved(
     Reserved::Deallocate,
 )));
 
+pub(crate) const USE: Symbol = Symbol::Lexeme(Class::One(Kind::Reserved(Reserved::Use)));
+
 pub(crate) const EXECUTE: Symbol = Symbol::Lexeme(Class::One(Kind::Reserved(Reserved::Execute)));
 
 pub(crate) const BREAK: Symbol = Symbol::Lexeme(Class::One(Kind::Reserved(Reserved::Break)));
@@ -183,6 +185,14 @@ pub(crate) const TEXT_SIZE: Symbol = Symbol::Lexeme(Class::One(Kind::Word(Word::
 pub(crate) const DEADLOCK_PRIORITY: Symbol = Symbol::Lexeme(Class::One(Kind::Word(
     Word::DeadlockPriority,
 )));
+
+pub(crate) const DATE_FIRST: Symbol = Symbol::Lexeme(Class::One(Kind::Word(Word::DateFirst)));
+
+pub(crate) const ROW_COUNT_WORD: Symbol = Symbol::Lexeme(Class::One(Kind::Word(Word::RowCount)));
+
+pub(crate) const DATE_FORMAT: Symbol = Symbol::Lexeme(Class::One(Kind::Word(Word::DateFormat)));
+
+pub(crate) const LANGUAGE: Symbol = Symbol::Lexeme(Class::One(Kind::Word(Word::Language)));
 
 pub(crate) const OFF: Symbol = Symbol::Lexeme(Class::One(Kind::Word(Word::Off)));
 
@@ -277,6 +287,12 @@ pub(crate) const ERROR: Symbol = Symbol::Lexeme(Class::One(Kind::Error));
 pub(crate) const ROW_COUNT: Symbol = Symbol::Lexeme(Class::One(Kind::RowCount));
 
 pub(crate) const FETCH_STATUS: Symbol = Symbol::Lexeme(Class::One(Kind::FetchStatus));
+
+pub(crate) const VERSION: Symbol = Symbol::Lexeme(Class::One(Kind::Version));
+
+pub(crate) const SERVER_NAME: Symbol = Symbol::Lexeme(Class::One(Kind::ServerName));
+
+pub(crate) const MAX_PRECISION: Symbol = Symbol::Lexeme(Class::One(Kind::MaxPrecision));
 
 pub(crate) const CASE: Symbol = Symbol::Lexeme(Class::One(Kind::Reserved(Reserved::Case)));
 

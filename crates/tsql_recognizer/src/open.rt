@@ -10,7 +10,7 @@ use crate::lexemes::{
     BEFORE_ELSE, BEGIN, BREAK, CATCH, CLOSE, COMMA, COMMIT, CONTINUE, CREATE, DEALLOCATE, DECLARE,
     DELETE, DROP, ELSE, END, EXECUTE, FETCH, FROM, IF, INSERT, INTO, NAME, OPEN, PAREN_CLOSE,
     PAREN_OPEN, PRINT, RAISE_ERROR, RETURN, ROLLBACK, SAVE, SELECT, SEMICOLON, SET, THROW, TRY,
-    UPDATE, WHILE,
+    UPDATE, USE, WHILE,
 };
 use crate::symbol::Symbol;
 use crate::table::{arguments_of, productions};
@@ -162,6 +162,7 @@ fn other_statement(
                 ],
                 &[CLOSE, NAME],
                 &[DEALLOCATE, NAME],
+                &[USE, NAME],
                 &[EXECUTE, Symbol::Rule(Rule::AfterExecute)],
                 &[BREAK],
                 &[CONTINUE],
@@ -246,6 +247,7 @@ fn other_statement(
                 ],
                 &[CLOSE, NAME],
                 &[DEALLOCATE, NAME],
+                &[USE, NAME],
                 &[EXECUTE, Symbol::Rule(Rule::AfterExecute)],
             ],
             next,

@@ -102,6 +102,7 @@ pub(crate) fn productions(rule: Rule) -> &'static [&'static [Symbol]]
         Rule::AfterRead => &OF_AFTER_READ,
         Rule::SignedNumber => &OF_SIGNED_NUMBER,
         Rule::Priority => &OF_PRIORITY,
+        Rule::OptionName => &OF_OPTION_NAME,
         Rule::TransactionWord => &OF_TRANSACTION_WORD,
         Rule::TransactionEnd => &OF_TRANSACTION_END,
         Rule::OptionalName => &OF_OPTIONAL_NAME,
@@ -197,6 +198,9 @@ pub(crate) fn arguments_of(function: Function) -> &'static [&'static [Symbol]]
         Function::ErrorLine => &OF_SYSTEM,
         Function::ErrorMessage => &OF_SYSTEM,
         Function::ErrorProcedure => &OF_SYSTEM,
+        Function::SchemaName => &OF_SYSTEM,
+        Function::DatabaseName => &OF_SYSTEM,
+        Function::UserName => &OF_SYSTEM,
     }
 }
 
@@ -370,7 +374,7 @@ const OF_CURSOR_STATIC: [&[Symbol]; 2] = productions! { [STATIC] [] };
 
 const OF_CURSOR_READ_ONLY: [&[Symbol]; 2] = productions! { [READ_ONLY] [] };
 
-const OF_AFTER_SET: [&[Symbol]; 18] = productions! {
+const OF_AFTER_SET: [&[Symbol]; 22] = productions! {
     [VARIABLE {Uses} EQUAL (Expr)]
     [XACT_ABORT (OnOff)]
     [NO_COUNT (OnOff)]
@@ -379,6 +383,10 @@ const OF_AFTER_SET: [&[Symbol]; 18] = productions! {
     [LOCK_TIMEOUT (SignedNumber)]
     [TEXT_SIZE (SignedNumber)]
     [DEADLOCK_PRIORITY (Priority)]
+    [DATE_FIRST (SignedNumber)]
+    [ROW_COUNT_WORD (SignedNumber)]
+    [DATE_FORMAT (OptionName)]
+    [LANGUAGE (OptionName)]
     [[Fixed AnsiNulls] (OnOff)]
     [[Fixed AnsiNullDefaultOn] (OnOff)]
     [[Fixed AnsiPadding] (OnOff)]
@@ -405,6 +413,8 @@ const OF_AFTER_READ: [&[Symbol]; 2] = productions! { [COMMITTED] [UNCOMMITTED] }
 const OF_SIGNED_NUMBER: [&[Symbol]; 2] = productions! { [NUMBER] [MINUS NUMBER] };
 
 const OF_PRIORITY: [&[Symbol]; 4] = productions! { [LOW] [NORMAL] [HIGH] [(SignedNumber)] };
+
+const OF_OPTION_NAME: [&[Symbol]; 2] = productions! { [NAME] [TEXT] };
 
 const OF_TRANSACTION_WORD: [&[Symbol]; 2] = productions! { [TRAN] [TRANSACTION] };
 
@@ -480,7 +490,7 @@ const OF_ITEM: [&[Symbol]; 4] = productions! {
 
 pub(crate) const OF_MORE_ITEMS: [&[Symbol]; 2] = productions! { [COMMA (Item) (MoreItems)] [] };
 
-const OF_NAMED_ITEM: [&[Symbol]; 16] = productions! {
+const OF_NAMED_ITEM: [&[Symbol]; 19] = productions! {
     [PLAIN_NAME (AfterItemName)]
     [[Function Cast] (AfterItemFunction Cast)]
     [[Function IsNull] (AfterItemFunction IsNull)]
@@ -497,6 +507,9 @@ const OF_NAMED_ITEM: [&[Symbol]; 16] = productions! {
     [[Function ErrorLine] (AfterItemFunction ErrorLine)]
     [[Function ErrorMessage] (AfterItemFunction ErrorMessage)]
     [[Function ErrorProcedure] (AfterItemFunction ErrorProcedure)]
+    [[Function SchemaName] (AfterItemFunction SchemaName)]
+    [[Function DatabaseName] (AfterItemFunction DatabaseName)]
+    [[Function UserName] (AfterItemFunction UserName)]
 };
 
 const OF_AFTER_ITEM_NAME: [&[Symbol]; 2] = productions! {
@@ -622,7 +635,7 @@ pub(crate) const OF_SIMPLE_PRIMARY: [&[Symbol]; 3] = productions! {
     [(OtherPrimary)]
 };
 
-pub(crate) const OF_OTHER_PRIMARY: [&[Symbol]; 10] = productions! {
+pub(crate) const OF_OTHER_PRIMARY: [&[Symbol]; 13] = productions! {
     [NUMBER]
     [TEXT]
     [NULL]
@@ -630,6 +643,9 @@ pub(crate) const OF_OTHER_PRIMARY: [&[Symbol]; 10] = productions! {
     [ERROR]
     [ROW_COUNT]
     [FETCH_STATUS]
+    [VERSION]
+    [SERVER_NAME]
+    [MAX_PRECISION]
     [CASE {Enter} (Arm) (MoreArms) (CaseElse) END {Leave}]
     [NULL_IF PAREN_OPEN {Enter} (Expr) COMMA (Expr) PAREN_CLOSE {Leave}]
     [COALESCE PAREN_OPEN {Enter} (Exprs) PAREN_CLOSE {Leave}]
@@ -637,7 +653,7 @@ pub(crate) const OF_OTHER_PRIMARY: [&[Symbol]; 10] = productions! {
 
 pub(crate) const OF_ENCLOSED: [&[Symbol]; 2] = productions! { [SELECT (Select)] [(Expr)] };
 
-pub(crate) const OF_NAMED_PRIMARY: [&[Symbol]; 16] = productions! {
+pub(crate) const OF_NAMED_PRIMARY: [&[Symbol]; 19] = productions! {
     [PLAIN_NAME (AfterName)]
     [[Function Cast] (AfterFunction Cast)]
     [[Function IsNull] (AfterFunction IsNull)]
@@ -654,6 +670,9 @@ pub(crate) const OF_NAMED_PRIMARY: [&[Symbol]; 16] = productions! {
     [[Function ErrorLine] (AfterFunction ErrorLine)]
     [[Function ErrorMessage] (AfterFunction ErrorMessage)]
     [[Function ErrorProcedure] (AfterFunction ErrorProcedure)]
+    [[Function SchemaName] (AfterFunction SchemaName)]
+    [[Function DatabaseName] (AfterFunction DatabaseName)]
+    [[Function UserName] (AfterFunction UserName)]
 };
 
 pub(crate) const OF_AFTER_NAME: [&[Symbol]; 2] = productions! { [DOT NAME] [] };

@@ -72,4 +72,12 @@ pub enum SessionOption {
     TextSize(i64),
     /// `DEADLOCK_PRIORITY`
     DeadlockPriority(PriorityWord),
+    /// `DATEFIRST [-] number`
+    DateFirst(i64),
+    /// `ROWCOUNT [-] number`
+    RowCount(i64),
+    /// `DATEFORMAT` of a name, by whether that is an order of day, month and year.
+    DateFormat(bool),
+    /// `LANGUAGE` of a name, by whether that is the name of the one language.
+    Language(bool),
 }

@@ -40,7 +40,7 @@ pub enum CompareSign {
     GreaterEqual,
 }
 
-/// A value of the session, by the word for it.
+/// A value of the session, or what the server says of itself, by the word for it.
 #[derive(Clone, Copy)]
 pub enum SystemWord {
     /// `@@TRANCOUNT`
@@ -65,6 +65,18 @@ pub enum SystemWord {
     ErrorMessage,
     /// `ERROR_PROCEDURE()`
     ErrorProcedure,
+    /// `@@VERSION`
+    Version,
+    /// `@@SERVERNAME`
+    ServerName,
+    /// `@@MAX_PRECISION`
+    MaxPrecision,
+    /// `SCHEMA_NAME()`
+    SchemaName,
+    /// `DB_NAME()`
+    DatabaseName,
+    /// `USER_NAME()`
+    UserName,
 }
 
 /// A function over the rows of a group.

@@ -136,6 +136,8 @@ pub enum Form {
     CloseCursor(Units),
     /// DEALLOCATE
     Deallocate(Units),
+    /// USE
+    Use(Units),
     /// EXEC: the variable that takes the status, if one does, the procedure and the arguments.
     Execute(Option<Units>, Units, Items<Argument>),
 }

@@ -1,6 +1,6 @@
 use Rattle.std.proofs.Common.{refl}
 use Rattle.statement_exec.proofs.Beginning.{begins_left, commits_left, drops_left, opens_left, rolls_left, saves_left, table_left, works_left}
-use Rattle.statement_exec.proofs.Forms.{is_BeginTransaction, is_CloseCursor, is_Commit, is_CreateTable, is_Deallocate, is_DeclareCursor, is_Drop, is_Fetch, is_OpenCursor, is_Rollback, is_Save}
+use Rattle.statement_exec.proofs.Forms.{is_BeginTransaction, is_CloseCursor, is_Commit, is_CreateTable, is_Deallocate, is_DeclareCursor, is_Drop, is_Fetch, is_OpenCursor, is_Rollback, is_Save, is_Use}
 use Rattle.session_state.proofs.Stepping.{does_stepped}
 use Rattle.batch_exec.proofs.Worked.{does_effect, does_worked, none_sets}
 use Rattle.batch_exec.proofs.simple.work_by_form.Goals as goal
@@ -38,8 +38,11 @@ returns-in-CloseCursor-clause-does g c = does_effect _ _ _ (is_CloseCursor _ _ c
 pub returns-in-Deallocate-clause-does : goal.returns-in-Deallocate-clause-does
 returns-in-Deallocate-clause-does g c = does_effect _ _ _ (is_Deallocate _ _ c.in-Deallocate.is) (does_stepped c.remove_cursor.ensures.came)
 
+pub returns-in-Use-clause-does : goal.returns-in-Use-clause-does
+returns-in-Use-clause-does g c = does_effect _ _ _ (is_Use _ _ c.in-Use.is) (does_stepped c.use_database.ensures.came)
+
 pub returns-in_default-clause-does : goal.returns-in_default-clause-does
-returns-in_default-clause-does g c = does_worked _ _ c.args.statement.now.form refl (c.in_default.not-BeginTransaction, c.in_default.not-Commit, c.in_default.not-Rollback, c.in_default.not-Save, c.in_default.not-Drop, c.in_default.not-CreateTable, c.in_default.not-DeclareCursor, c.in_default.not-OpenCursor, c.in_default.not-Fetch, c.in_default.not-CloseCursor, c.in_default.not-Deallocate) c.work.ensures.does
+returns-in_default-clause-does g c = does_worked _ _ c.args.statement.now.form refl (c.in_default.not-BeginTransaction, c.in_default.not-Commit, c.in_default.not-Rollback, c.in_default.not-Save, c.in_default.not-Drop, c.in_default.not-CreateTable, c.in_default.not-DeclareCursor, c.in_default.not-OpenCursor, c.in_default.not-Fetch, c.in_default.not-CloseCursor, c.in_default.not-Deallocate, c.in_default.not-Use) c.work.ensures.does
 
 pub returns-in-BeginTransaction-clause-left : goal.returns-in-BeginTransaction-clause-left
 returns-in-BeginTransaction-clause-left g c = begins_left _ _ c.begin_transaction.ensures.does
@@ -94,3 +97,6 @@ returns-in-CloseCursor-clause-fits g c = none_sets _ _ c.close_cursor.ensures.no
 
 pub returns-in-Deallocate-clause-fits : goal.returns-in-Deallocate-clause-fits
 returns-in-Deallocate-clause-fits g c = none_sets _ _ c.remove_cursor.ensures.none
+
+pub returns-in-Use-clause-fits : goal.returns-in-Use-clause-fits
+returns-in-Use-clause-fits g c = none_sets _ _ c.use_database.ensures.none

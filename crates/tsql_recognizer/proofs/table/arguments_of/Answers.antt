@@ -47,3 +47,12 @@ returns-in-ErrorMessage c = ap (λ a. symbols_of_rule (r.FunctionArguments a)) (
 
 pub returns-in-ErrorProcedure : goal.returns-in-ErrorProcedure
 returns-in-ErrorProcedure c = ap (λ a. symbols_of_rule (r.FunctionArguments a)) (sym c.in-ErrorProcedure.is)
+
+pub returns-in-SchemaName : goal.returns-in-SchemaName
+returns-in-SchemaName c = ap (λ a. symbols_of_rule (r.FunctionArguments a)) (sym c.in-SchemaName.is)
+
+pub returns-in-DatabaseName : goal.returns-in-DatabaseName
+returns-in-DatabaseName c = ap (λ a. symbols_of_rule (r.FunctionArguments a)) (sym c.in-DatabaseName.is)
+
+pub returns-in-UserName : goal.returns-in-UserName
+returns-in-UserName c = ap (λ a. symbols_of_rule (r.FunctionArguments a)) (sym c.in-UserName.is)

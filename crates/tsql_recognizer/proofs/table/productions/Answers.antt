@@ -155,6 +155,9 @@ returns-in-SignedNumber c = λ e. ap symbols_of_rule (sym c.in-SignedNumber.is)
 pub returns-in-Priority : goal.returns-in-Priority
 returns-in-Priority c = λ e. ap symbols_of_rule (sym c.in-Priority.is)
 
+pub returns-in-OptionName : goal.returns-in-OptionName
+returns-in-OptionName c = λ e. ap symbols_of_rule (sym c.in-OptionName.is)
+
 pub returns-in-TransactionWord : goal.returns-in-TransactionWord
 returns-in-TransactionWord c = λ e. ap symbols_of_rule (sym c.in-TransactionWord.is)
 
