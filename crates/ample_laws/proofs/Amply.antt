@@ -66,7 +66,8 @@ done_watch Goes more counted failed = record {
   Goes = Goes;
   Says = λ reply. Unit {0};
   May = λ enough. Unit {0};
-  At = λ left p. Unit {0};
+  Fine = λ P tree. Unit {0};
+  At = λ P left p look. Unit {0};
   usual = λ number usual. tt;
   wants = λ may. tt;
   lacks = λ may. tt;
@@ -74,22 +75,32 @@ done_watch Goes more counted failed = record {
   missing = λ says. tt;
   victim = λ cycle says. tt;
   timed = λ holder held wanted on says. tt;
-  spent = λ left p at none. tt;
-  none_left = λ p at. tt;
-  fewer = λ left p at. tt;
   more = more;
   counted = counted;
   failed = failed;
+  spent = λ P left p look at none. tt;
+  none_left = λ P p look at. tt;
+  fewer = λ P left p look at. tt;
+  full = λ P left p tokens go same fine at. tt;
+  many = λ P around shapes query left p look is fails fine at. tt;
+  fine_over = λ P a holds. tt;
+  fine_reads = λ P left look each. tt;
+  fine_makes = λ P step next so fine. tt;
+  fine_defines = λ P entry go each. tt;
+  fine_asks = λ P op go each. tt;
+  fine_room = λ P go each. tt;
+  fine_never = λ P. tt;
+  behind = λ P Q left p look go fine at. tt;
 }
 
 -- ---- what a tree tells
 
 module _ (watch : Watch) where
-  pub ample_clean : {A : Type 0} (P : A → Type 0) (left : ℕ) (tree : Doing A) (p new : SessionProgress) (exchanges : List Exchange) (a : A) → watch.May true → ((few : ℕ) (q : SessionProgress) → watch.At few q)
+  pub ample_clean : {A : Type 0} (P : A → Type 0) (left : ℕ) (tree : Doing A) (p new : SessionProgress) (exchanges : List Exchange) (a : A) → watch.May true → ((few : ℕ) (q : SessionProgress) (look : SessionProgress → Doing A) → watch.At P few q look)
       → CleanAt watch P left tree → SaysAll watch exchanges → Ample tree p exchanges a new → P a × SendsNone watch p new
   unfolding Ample
   ample_clean P left (over c) p new exchanges a may at clean says ample = (subst P (sym ample.1) clean, sends_nothing watch p new (ap (λ (q : SessionProgress). q.tokens) ample.2))
-  ample_clean P left (reads look) p new exchanges a may at clean says ample = ample_clean P left (look p) p new exchanges a may at (clean p (at left p)) says ample
+  ample_clean P left (reads look) p new exchanges a may at clean says ample = ample_clean P left (look p) p new exchanges a may at (clean p (at left p look)) says ample
   ample_clean P left (makes step next) p new exchanges a may at clean says ample =
       let more = ample_clean P (left_behind step left) next (made step p) new exchanges a may at clean.1 says ample in (more.0, sends_both watch p (made step p) new (sends_step watch step p clean.0) more.1)
   ample_clean P left (defines entry go) p new exchanges a may at clean says ample = ample_clean P left (go ample.0) p new exchanges a may at (clean ample.0) says ample.2

@@ -48,7 +48,7 @@ SendsMore p new = (sent : List Token) × (new.tokens ≡ p.tokens ++ sent) × Al
 
 held_more : {A : Type 0} (P : A → Type 0) (left : ℕ) (tree : Doing A) (p new : SessionProgress) (exchanges : List Exchange) (a : A) → CleanAt end_watch P left tree → Held tree p exchanges a new → SendsMore p new
 held_more P left tree p new exchanges a clean held =
-    let came = held_clean end_watch P left tree p new exchanges a (λ enough. tt) (λ few q. tt) clean (any_says exchanges) held in
+    let came = held_clean end_watch P left tree p new exchanges a (λ enough. tt) (λ few q look. tt) clean (any_says exchanges) held in
     (came.1.0, came.1.1, more_follows came.1.0 came.1.2)
 
 -- ---- the end

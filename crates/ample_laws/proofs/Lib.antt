@@ -3,4 +3,5 @@ pub mod Amply  -- what was done where memory was never wanting was done; and wha
 pub mod Refusals  -- 701, 1205 and 1222 are looked for
 pub mod Ends  -- so are DONEs that are the end, but for the last
 pub mod Within  -- so is 49001
+pub mod Small  -- and 49002
 mod StandardFacts  -- worked exchanges

@@ -63,7 +63,8 @@ limit_watch = record {
   Goes = λ status. Unit {0};
   Says = λ reply. Unit {0};
   May = λ enough. Unit {0};
-  At = λ left p. (p.statements_left ≢ 0) × (p.statements_left ≤ left);
+  Fine = λ P tree. Unit {0};
+  At = λ P left p look. (p.statements_left ≢ 0) × (p.statements_left ≤ left);
   usual = no_spending;
   wants = λ may. limit_other (pos 701) refl;
   lacks = λ may. tt;
@@ -71,12 +72,22 @@ limit_watch = record {
   missing = λ says. limit_other (pos 701) refl;
   victim = λ cycle says. limit_other (pos 1205) refl;
   timed = λ holder held wanted on says. limit_other (pos 1222) refl;
-  spent = λ left p at none. absurd (at.0 (eqb-true p.statements_left 0 none));
-  none_left = λ p at. absurd (none_at_zero p.statements_left at.0 at.1);
-  fewer = λ left p at. (at.0, le_fewer p.statements_left left at.1);
   more = tt;
   counted = tt;
   failed = tt;
+  spent = λ P left p look at none. absurd (at.0 (eqb-true p.statements_left 0 none));
+  none_left = λ P p look at. absurd (none_at_zero p.statements_left at.0 at.1);
+  fewer = λ P left p look at. (at.0, le_fewer p.statements_left left at.1);
+  full = λ P left p tokens go same fine at. limit_other (pos 49002) refl;
+  many = λ P around shapes query left p look is fails fine at. limit_other (pos 49002) refl;
+  fine_over = λ P a holds. tt;
+  fine_reads = λ P left look each. tt;
+  fine_makes = λ P step next so fine. tt;
+  fine_defines = λ P entry go each. tt;
+  fine_asks = λ P op go each. tt;
+  fine_room = λ P go each. tt;
+  fine_never = λ P. tt;
+  behind = λ P Q left p look go fine at. at;
 }
 
 -- nothing is asked

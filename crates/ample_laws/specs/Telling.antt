@@ -23,6 +23,13 @@ limit_reached = 49001
 abbrev pub IsNoLimit : ℤ → Type 0
 IsNoLimit number = number ≢ pos limit_reached
 
+-- a batch would send more bytes than it may, or a result has more rows
+abbrev pub limit_passed : ℕ
+limit_passed = 49002
+
+abbrev pub IsNotPast : ℤ → Type 0
+IsNotPast number = number ≢ pos limit_passed
+
 -- ---- errors whose numbers are such
 
 -- a token is no ERROR of another number

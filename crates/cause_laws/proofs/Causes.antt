@@ -1,7 +1,7 @@
 -- An error of a lock has its cause: by induction on the levels of statements, over trees that tell it in no token while the engine has never replied so. The trees are such for
 -- all that is looked for.
 use Rattle.std.proofs.Common.{◌≡◌, refl, sym, subst, ℕ, zero, suc, ℤ, pos, List, [], ◌∷◌, Option, Some, None, Bool, true, false, Result, Ok, Err, cond, filter, is_ok, if◌then◌else◌, map, ◌==◌}
-use Rattle.std.specs.Prelude.{◌&&◌, nat_le, nat_lt}
+use Rattle.std.specs.Prelude.{◌&&◌, nat_le}
 use Rattle.tsql_tree.specs.declared.definition.Definition.{Definition}
 use Rattle.tsql_tree.specs.declared.definition.Definition.TheVariants.{Procedure}
 use Rattle.tsql_tree.specs.declared.definition.ProcedureTree.{ProcedureTree}
@@ -45,9 +45,9 @@ use Rattle.batch_meaning.specs.Databases.{uses_database}
 use Rattle.batch_meaning.specs.Doing.{Doing, asks, makes, over, reads, ◌then◌, Held}
 use Rattle.batch_meaning.specs.Failures.{plain}
 use Rattle.batch_meaning.specs.Firing.{closes_own, ended_in_trigger, doomed_in_trigger, has_mark, in_trigger, leaves_fired, relaxes_then, settles, trigger_end, undone_to}
-use Rattle.batch_meaning.specs.Meaning.{Meaning, batch, branch, calls, caught_as, concluded, concludes, counted, decides, defined, defines_object, does, doomed_write, each_of, effect_of, ended_by, ends, ends_call, ends_doomed, ends_even, ends_uneven, ends_uneven_as, fails_for, fires, gives_back, goes_on, handled, has_failed, is_refused_doomed, leaves_rows, line_of, mean_by, mean_form, mean_of, or_full, raises, raises_again, raises_at, raises_or_tells, returns_from, rolls_back_told, runs_body, runs_call, runs_fired, runs_text, runs_trigger, runs_triggers, sends_some, set_by, sets_option, spends, statements_spent, strikes, succeeds, tells, told_as, told_tokens, told_unless_own, tries, turned, turns, turns_again, uneven_end, uneven_tokens, uneven_with, unless_stopped, vars_in_text, way_of, where_it_fits, writes, writes_in, written, written_in, written_with}
-use Rattle.batch_meaning.specs.Rpc.{Placed, ReadsFor, behind_batch, binds_call, defined_in, ending, ends_exec, ends_rpc, ends_rpc_doomed, error_or_full, execs, fails_call, finds_named, finds_read, gives_call_back, goes_on_with, is_output, is_too_many, leaves_body, mismatch, no_statement, object_in, placed_in, return_value, returned, returns_uneven, rpc, rpc_arguments, rpc_statement, rpc_vars, runs_exec, runs_rpc, runs_sql, runs_way, skips_place, strikes_call, tells_returned, tells_unless, tells_well}
-use Rattle.batch_meaning.specs.Progress.{SessionProgress, begins, counts, fired_from, fires_from, made, sends, size_of, statement_limit, tells_error, tells_rows}
+use Rattle.batch_meaning.specs.Meaning.{Meaning, batch, branch, calls, caught_as, concluded, concludes, counted, decides, defined, defines_object, does, doomed_write, each_of, effect_of, ended_by, ends, ends_call, ends_doomed, ends_even, ends_uneven, ends_uneven_as, fails_for, fires, gives_back, goes_on, handled, has_failed, is_refused_doomed, leaves_rows, line_of, mean_by, mean_form, mean_of, raises, raises_again, raises_at, raises_or_tells, returns_from, rolls_back_told, runs_body, runs_call, runs_fired, runs_text, runs_trigger, runs_triggers, sends_some, set_by, sets_option, spends, statements_spent, strikes, succeeds, tells, told_as, told_tokens, told_unless_own, tries, turned, turns, turns_again, uneven_end, uneven_tokens, uneven_with, unless_stopped, vars_in_text, way_of, where_it_fits, writes, writes_in, written, written_in, written_with}
+use Rattle.batch_meaning.specs.Rpc.{Placed, ReadsFor, behind_batch, binds_call, defined_in, ending, ends_exec, ends_rpc, ends_rpc_doomed, execs, fails_call, finds_named, finds_read, gives_call_back, goes_on_with, is_output, is_too_many, leaves_body, mismatch, no_statement, object_in, placed_in, return_value, returned, returns_uneven, rpc, rpc_arguments, rpc_statement, rpc_vars, runs_exec, runs_rpc, runs_sql, runs_way, skips_place, strikes_call, tells_returned, tells_unless, tells_well}
+use Rattle.batch_meaning.specs.Progress.{SessionProgress, begins, counts, fired_from, fires_from, made, sends, statement_limit, tells_error, tells_rows}
 use Rattle.batch_meaning.specs.Raised.{Around, again, action_in, around_batch, error_token, in_body, in_catch, in_try, is_caught_in, raised_at, raised_in}
 use Rattle.batch_meaning.specs.Selecting.{Effect, bound_over, messages, no_effect, result_full, sending}
 use Rattle.batch_meaning.specs.Settings.{outside_profile, set_option}
@@ -63,7 +63,7 @@ use Rattle.cause_laws.proofs.Usual.{no_want}
 use Rattle.cause_laws.proofs.UsualValues.{Anything, RefusedUsual, UsualOr, assigned_usual, call_usual, option_usual, read_usual}
 use Rattle.cause_laws.proofs.Watch.{CaughtBy, CaughtOther, Guard, IsOther, LeavesBy, LeavesOther, TellsBy, TellsNone, TellsOther, Watch}
 use Rattle.cause_laws.proofs.Locks.{caught_other, leaves_other, lock_watch, told_none}
-use Rattle.cause_laws.proofs.Clean.{Clean, OtherOr, clean_bind, clean_comes, clean_done, clean_ended, clean_enough, clean_if, clean_naming, clean_room, clean_then, held_clean, usual_other}
+use Rattle.cause_laws.proofs.Clean.{Clean, OtherOr, clean_bind, clean_comes, clean_done, clean_ended, clean_enough, clean_if, clean_naming, clean_room, clean_test, clean_then, held_clean, usual_other}
 use Rattle.cause_laws.proofs.CleanParts.{EffectOther, Effects, Plainly, RaisesOther, WrittenOther, clean_assigns, clean_binds, clean_bound, clean_call, clean_change, clean_closes, clean_composes, clean_drops, clean_enters, clean_leaves, clean_relaxes, clean_statuses, clean_tests, clean_works, messages_other}
 use Rattle.cause_laws.proofs.CleanForms.{clean_begins, clean_commits, clean_create, clean_declares, clean_definition, clean_fetches, clean_opens, clean_removes, clean_rolls, clean_saves, clean_shuts, clean_uses}
 
@@ -115,14 +115,16 @@ module _ (error : Guard) where
 
   clean_at : (around : Around) (line : ℤ) (command : ℕ) (raised : Raised) → IsOther error raised.number → Exits (raises_at around line command raised)
   unfolding raises_at
-  clean_at around line command raised other = λ p at. clean_strikes around p.settings.xact_abort command (or_full around p command line raised) (by_tests (is_caught_in around raised) (nat_lt p.bytes_left (size_of (told_tokens (done_kind around) (action_in around p.settings.xact_abort raised) command raised))))
+  clean_at around line command raised other = clean_test error (LeavesOther error) (λ p. told_tokens (done_kind around) (action_in around p.settings.xact_abort raised) command raised)
+      (λ full p. strikes around p.settings.xact_abort command (if is_caught_in around raised then raised else if full then raised_in around.procedure line (plain result_full) else raised)) (λ bytes q. refl)
+      (λ q. clean_strikes around q.settings.xact_abort command (if is_caught_in around raised then raised else raised) (by_caught raised other (is_caught_in around raised)))
+      (λ full q. clean_strikes around q.settings.xact_abort command (if is_caught_in around raised then raised else raised_in around.procedure line (plain result_full)) (by_caught (raised_in around.procedure line (plain result_full)) full (is_caught_in around raised)))
     where
-      by_tests : (caught full : Bool) → IsOther error (if caught then raised else if full then raised_in around.procedure line (plain result_full) else raised).number
-      by_tests true full = other
-      by_tests false true = usual_other error (pos 49002) refl
-      by_tests false false = other
+      by_caught : (otherwise : Raised) → IsOther error otherwise.number → (caught : Bool) → IsOther error (if caught then raised else otherwise).number
+      by_caught otherwise same true = other
+      by_caught otherwise same false = same
 
-  clean_raises : (around : Around) (statement : Statement) (raised : Raised) → IsOther error raised.number → Exits (raises around statement raised)
+  pub clean_raises : (around : Around) (statement : Statement) (raised : Raised) → IsOther error raised.number → Exits (raises around statement raised)
   clean_raises around statement raised other = clean_at around (line_of statement) (command_of (form_of statement)) raised other
 
   -- ---- the end of a statement
@@ -130,7 +132,7 @@ module _ (error : Guard) where
   clean_counted : (form : Layer) (rows : ℕ) (next : Doing Exit) → Exits next → Exits (counted form rows next)
   clean_counted form rows next clean = clean_if error (LeavesOther error) (leaves_rows form) next (makes (tells_rows rows) next) clean (tt, clean)
 
-  clean_fails : (around : Around) (statement : Statement) (failure : Failure) → IsOther error failure.number → Exits (fails_for around statement failure)
+  pub clean_fails : (around : Around) (statement : Statement) (failure : Failure) → IsOther error failure.number → Exits (fails_for around statement failure)
   unfolding fails_for
   clean_fails around statement failure other = clean_counted (form_of statement) 0 (raises around statement (raised_in around.procedure (line_of statement) failure)) (clean_raises around statement (raised_in around.procedure (line_of statement) failure) other)
 
@@ -138,7 +140,7 @@ module _ (error : Guard) where
   clean_sends [] next none clean = clean
   clean_sends (token ∷ tokens) next none clean = (none, clean)
 
-  clean_succeeds : (statement : Statement) (effect : Effect) (next : Doing Exit) → EffectOther error effect → Exits next → Exits (succeeds statement effect next)
+  pub clean_succeeds : (statement : Statement) (effect : Effect) (next : Doing Exit) → EffectOther error effect → Exits next → Exits (succeeds statement effect next)
   unfolding succeeds
   clean_succeeds statement effect next other clean = clean_assigns error (LeavesOther error) effect.sets (counted (form_of statement) effect.rows (makes (tells_error (pos 0)) (sends_some effect.tokens next)))
       (clean_counted (form_of statement) effect.rows (makes (tells_error (pos 0)) (sends_some effect.tokens next)) (tt, clean_sends effect.tokens next other clean))
@@ -179,7 +181,8 @@ module _ (error : Guard) where
   -- ---- the end of a call
 
   clean_where : (around : Around) (statement : Statement) (tokens : List Token) (next : Doing Exit) → Exits next → Exits (where_it_fits around statement tokens next)
-  clean_where around statement tokens next clean = λ p at. clean_if error (LeavesOther error) (nat_lt p.bytes_left (size_of tokens)) (fails_for around statement (plain result_full)) next (clean_fails around statement (plain result_full) (usual_other error (pos 49002) refl)) clean
+  clean_where around statement tokens next clean = clean_test error (LeavesOther error) (λ p. tokens) (λ full p. if full then fails_for around statement (plain result_full) else next) (λ bytes q. refl)
+      (λ q. clean) (λ other q. clean_fails around statement (plain result_full) other)
 
   uneven_other : (caught : Bool) (action : Action) (status : ℤ) (raised : Raised) → IsOther error raised.number → TellsNone error (uneven_tokens caught action status raised)
   uneven_other true action status raised other = (tt, (error.watch.more, tt))
@@ -210,7 +213,7 @@ module _ (error : Guard) where
       (λ p at. clean_comes error {A = List Assigned} Anything (given_back p.vars variable arguments call number vars) (assigned_usual p.vars _ _))
       (λ assigned any. clean_assigns error (LeavesOther error) assigned (ends_call around statement count number) (clean_ends_call around statement count number))
 
-  clean_returns : (around : Around) (statement : Statement) (variable : Option (List ℕ)) (arguments : List Argument) (call : Call) (count : ℕ) (vars : List Variable) (came : Exit) → LeavesOther error came → Exits (returns_from around statement variable arguments call count vars came)
+  pub clean_returns : (around : Around) (statement : Statement) (variable : Option (List ℕ)) (arguments : List Argument) (call : Call) (count : ℕ) (vars : List Variable) (came : Exit) → LeavesOther error came → Exits (returns_from around statement variable arguments call count vars came)
   clean_returns around statement variable arguments call count vars (Raise raised) other = (tt, other)
   clean_returns around statement variable arguments call count vars (RaiseUp raised) other = (tt, other)
   clean_returns around statement variable arguments call count vars End other = (tt, tt)
@@ -231,7 +234,7 @@ module _ (error : Guard) where
   clean_undone mark true next clean = λ reply says. clean_done error Anything (asks ops.Relax (where_done next)) (λ other none. clean_done error Anything next clean other) reply
   clean_undone mark false next clean = λ reply says. clean_done error Anything next clean reply
 
-  clean_leaving : (home : Home) (mark : ℕ) (stood succeeded : Bool) → Plainly error (leaves_fired home mark stood succeeded)
+  pub clean_leaving : (home : Home) (mark : ℕ) (stood succeeded : Bool) → Plainly error (leaves_fired home mark stood succeeded)
   unfolding leaves_fired
   clean_leaving home mark stood succeeded = λ p at. clean_then error Anything Anything (if p.stands then settles home mark succeeded p else over tt) (λ done. makes (fired_from mark stood) (over tt))
       (clean_if error Anything p.stands (settles home mark succeeded p) (over tt) (by_end succeeded p) tt) (λ done any. (tt, tt))
@@ -268,7 +271,9 @@ module _ (error : Guard) where
 
   -- ---- statements that hold statements
 
-  module _ (one : Statement → Meaning) (each : (inner : Statement) (at : Around) → CaughtOther error at.caught → Exits (one inner at)) where
+  -- where such errors are caught around them, among which are all others
+  module _ (Such : Option Raised → Type 0) (others : (raised : Raised) → IsOther error raised.number → Such (Some raised))
+      (one : Statement → Meaning) (each : (inner : Statement) (at : Around) → Such at.caught → Exits (one inner at)) where
     clean_on : (next : Doing Exit) → Exits next → (exit : Exit) → LeavesOther error exit → Exits (goes_on next exit)
     clean_on next clean On other = clean
     clean_on next clean Leave other = tt
@@ -278,13 +283,13 @@ module _ (error : Guard) where
     clean_on next clean (RaiseUp raised) other = other
     clean_on next clean End other = tt
 
-    pub clean_all : (statements : List Statement) (around : Around) → CaughtOther error around.caught → Exits (each_of one statements around)
+    pub clean_all : (statements : List Statement) (around : Around) → Such around.caught → Exits (each_of one statements around)
     unfolding each_of
     clean_all [] around caught = tt
     clean_all (statement ∷ others) around caught = clean_then error (LeavesOther error) (LeavesOther error) (one statement around) (λ exit. goes_on (each_of one others around) exit) (each statement around caught) (clean_on (each_of one others around) (clean_all others around caught))
 
     clean_handled : (handler : List Statement) (around : Around) (exit : Exit) → LeavesOther error exit → Exits (handled (λ raised. each_of one handler (in_catch raised around)) exit)
-    clean_handled handler around (Raise raised) other = clean_all handler (in_catch raised around) other
+    clean_handled handler around (Raise raised) other = clean_all handler (in_catch raised around) (others raised other)
     clean_handled handler around On other = tt
     clean_handled handler around Leave other = tt
     clean_handled handler around Again other = tt
@@ -296,18 +301,15 @@ module _ (error : Guard) where
     abbrev BodyOther : Exit × List Variable → Type 0
     BodyOther came = LeavesOther error came.0
 
-    clean_body : (vars : List Variable) (settings : Settings → Settings) (body : List Statement) (around : Around) → CaughtOther error around.caught → Clean error BodyOther (runs_body one vars settings body around)
+    clean_body : (vars : List Variable) (settings : Settings → Settings) (body : List Statement) (around : Around) → Such around.caught → Clean error BodyOther (runs_body one vars settings body around)
     unfolding runs_body
     clean_body vars settings body around caught = λ p at. (tt, (tt, clean_then error (LeavesOther error) BodyOther (each_of one body around) _ (clean_all body around caught) (λ left other inner at. (tt, (tt, other)))))
 
     -- triggers, one after another
-    clean_triggers : (around : Around) (w : Written) (triggers : List TriggerTree) → CaughtOther error around.caught → Clean error (StopsOr {A = Unit {0}} Anything) (runs_triggers one around w triggers)
+    clean_triggers : (around : Around) (w : Written) (triggers : List TriggerTree) → Such around.caught → Clean error (StopsOr {A = Unit {0}} Anything) (runs_triggers one around w triggers)
     unfolding runs_triggers runs_trigger
-    clean_triggers around w [] caught = λ p at. by_room (nat_lt p.bytes_left (size_of w.effect.tokens))
-      where
-        by_room : (b : Bool) → StopsOr {A = Unit {0}} Anything (if b then Err (Failed (plain result_full)) else Ok tt)
-        by_room true = usual_other error (pos 49002) refl
-        by_room false = tt
+    clean_triggers around w [] caught = clean_test error (StopsOr {A = Unit {0}} Anything) (λ p. w.effect.tokens) (λ full p. over (if full then Err (Failed (plain result_full)) else Ok tt)) (λ bytes q. refl)
+        (λ q. tt) (λ other q. other)
     clean_triggers around w (trigger ∷ triggers) caught = clean_then error (LeavesOther error) (StopsOr {A = Unit {0}} Anything) (runs_trigger one around w.fired trigger) _
         (clean_then error BodyOther (LeavesOther error) (runs_body one (vars_of trigger.body) in_trigger trigger.body (in_body trigger.name (Some w.fired) around)) (λ came. over came.0)
         (clean_body (vars_of trigger.body) in_trigger trigger.body (in_body trigger.name (Some w.fired) around) caught) (λ came other. other))
@@ -317,11 +319,11 @@ module _ (error : Guard) where
         by_end clean (Ok done) other = clean
         by_end clean (Err stop) other = other
 
-    clean_fired : (around : Around) (w : Written) → CaughtOther error around.caught → Clean error (StopsOr {A = Unit {0}} Anything) (runs_fired one around w)
+    clean_fired : (around : Around) (w : Written) → Such around.caught → Clean error (StopsOr {A = Unit {0}} Anything) (runs_fired one around w)
     unfolding runs_fired
     clean_fired around w caught = clean_if error (StopsOr {A = Unit {0}} Anything) (nat_le depth_limit around.depth) (over (Err (Failed (plain too_deep)))) (runs_triggers one around w w.fires) (usual_other error (pos 217) refl) (clean_triggers around w w.fires caught)
 
-    clean_fires : (around : Around) (home : Home) (w : Written) → CaughtOther error around.caught → EffectOther error w.effect → Clean error (StopsOr (EffectOther error)) (fires one around home w)
+    clean_fires : (around : Around) (home : Home) (w : Written) → Such around.caught → EffectOther error w.effect → Clean error (StopsOr (EffectOther error)) (fires one around home w)
     unfolding fires
     clean_fires around home w caught other = clean_then error Anything (StopsOr (EffectOther error)) relaxes _ (clean_relaxes error) (λ done any. clean_enough error (StopsOr (EffectOther error)) _ _ goes wanting)
       where
@@ -339,7 +341,7 @@ module _ (error : Guard) where
         wanting : IsOther error (pos no_memory) → Clean error (StopsOr (EffectOther error)) (undone_to w.mark true (relaxes_then (closes_own home false)) then λ done. over (Err (Failed (plain no_memory))))
         wanting other = clean_then error Anything (StopsOr (EffectOther error)) (undone_to w.mark true (relaxes_then (closes_own home false))) (λ done. over (Err (Failed (plain no_memory)))) (clean_undone w.mark true (closes_own home false) (clean_closes_own home false)) (λ done any. other)
 
-    module _ (around : Around) (statement : Statement) (caught : CaughtOther error around.caught) where
+    module _ (around : Around) (statement : Statement) (caught : Such around.caught) where
       clean_with : (home : Home) (w : Written) (triggers : List TriggerTree) → EffectOther error w.effect → Clean error (StopsOr (EffectOther error)) (written_with one around home w triggers)
       clean_with home w [] other = clean_then error Anything (StopsOr (EffectOther error)) (leaves home true) (λ done. over (Ok w.effect)) (clean_leaves error home true) (λ done any. other)
       clean_with home w (trigger ∷ triggers) other = clean_fires around home w caught other
@@ -394,41 +396,41 @@ module _ (error : Guard) where
           (λ call any p at. clean_then error BodyOther (LeavesOther error) (runs_body one (call_vars call) (λ settings. settings) call.procedure.body (in_body call.procedure.name None around)) _ (clean_body (call_vars call) (λ settings. settings) call.procedure.body (in_body call.procedure.name None around) caught)
           (λ came other. clean_returns around statement variable arguments call p.txn.count came.1 came.0 other))
 
-      clean_form : (form : Layer) → Exits (mean_form one around statement form)
+      clean_form : (form : Layer) → (form ≡ Form-F.ThrowAgain → CaughtOther error around.caught) → Exits (mean_form one around statement form)
       unfolding mean_form
-      clean_form (Form-F.If test so otherwise) = clean_decides around statement (branch one around so otherwise) (clean_branch so otherwise)
-      clean_form (Form-F.While test body) = clean_decides around statement (turns one around statement body) (clean_turns body)
-      clean_form Form-F.Break = (tt, tt)
-      clean_form Form-F.Continue = (tt, tt)
-      clean_form (Form-F.Block body) = clean_all body around caught
-      clean_form (Form-F.TryCatch body handler) = clean_tries body handler
-      clean_form (Form-F.Print value) = clean_tells around statement
-      clean_form (Form-F.RaiseError value class state) = clean_tells around statement
-      clean_form (Form-F.Throw number value state) = clean_tells around statement
-      clean_form Form-F.ThrowAgain = clean_again around statement around.caught caught
-      clean_form (Form-F.Return value) = clean_concludes {A = ℤ} Anything around statement (λ status. succeeds statement no_effect (over (Return status))) (statuses around statement) (clean_statuses error around statement) (λ status any. clean_succeeds statement no_effect (over (Return status)) tt tt)
-      clean_form (Form-F.SetOption option) = clean_option around statement option
-      clean_form (Form-F.BeginTransaction name) = clean_does around statement (begins_transaction statement name) (clean_begins error statement name)
-      clean_form (Form-F.Commit name) = clean_does around statement (commits_transaction name) (clean_commits error name)
-      clean_form (Form-F.Rollback name) = clean_does around statement (rolls_back_transaction name) (clean_rolls error name)
-      clean_form (Form-F.Save name) = clean_does around statement (saves_transaction statement name) (clean_saves error statement name)
-      clean_form (Form-F.CreateTable table text) = clean_does around statement (creates_table around statement table.name text) (clean_create error around statement table.name text)
-      clean_form (Form-F.Drop kind name) = clean_does around statement (drops around statement kind name) (clean_drops error around statement kind name)
-      clean_form (Form-F.Insert table columns rows) = clean_write
-      clean_form (Form-F.Update table assignments filter) = clean_write
-      clean_form (Form-F.Delete table filter) = clean_write
-      clean_form (Form-F.Execute status name arguments) = clean_calls status name arguments
-      clean_form (Form-F.DeclareCursor name select) = clean_does around statement (declares_cursor statement name select) (clean_declares error statement name select)
-      clean_form (Form-F.OpenCursor name) = clean_does around statement (opens_cursor around statement name) (clean_opens error around statement name)
-      clean_form (Form-F.Fetch name variables) = clean_does around statement (fetches_cursor statement name variables) (clean_fetches error statement name variables)
-      clean_form (Form-F.CloseCursor name) = clean_does around statement (closes_cursor statement name) (clean_shuts error statement name)
-      clean_form (Form-F.Deallocate name) = clean_does around statement (removes_cursor statement name) (clean_removes error statement name)
-      clean_form (Form-F.Use name) = clean_does around statement (uses_database around statement name) (clean_uses error around statement name)
-      clean_form form = clean_does around statement (works around statement) (clean_works error around statement)
+      clean_form (Form-F.If test so otherwise) thrown = clean_decides around statement (branch one around so otherwise) (clean_branch so otherwise)
+      clean_form (Form-F.While test body) thrown = clean_decides around statement (turns one around statement body) (clean_turns body)
+      clean_form Form-F.Break thrown = (tt, tt)
+      clean_form Form-F.Continue thrown = (tt, tt)
+      clean_form (Form-F.Block body) thrown = clean_all body around caught
+      clean_form (Form-F.TryCatch body handler) thrown = clean_tries body handler
+      clean_form (Form-F.Print value) thrown = clean_tells around statement
+      clean_form (Form-F.RaiseError value class state) thrown = clean_tells around statement
+      clean_form (Form-F.Throw number value state) thrown = clean_tells around statement
+      clean_form Form-F.ThrowAgain thrown = clean_again around statement around.caught (thrown refl)
+      clean_form (Form-F.Return value) thrown = clean_concludes {A = ℤ} Anything around statement (λ status. succeeds statement no_effect (over (Return status))) (statuses around statement) (clean_statuses error around statement) (λ status any. clean_succeeds statement no_effect (over (Return status)) tt tt)
+      clean_form (Form-F.SetOption option) thrown = clean_option around statement option
+      clean_form (Form-F.BeginTransaction name) thrown = clean_does around statement (begins_transaction statement name) (clean_begins error statement name)
+      clean_form (Form-F.Commit name) thrown = clean_does around statement (commits_transaction name) (clean_commits error name)
+      clean_form (Form-F.Rollback name) thrown = clean_does around statement (rolls_back_transaction name) (clean_rolls error name)
+      clean_form (Form-F.Save name) thrown = clean_does around statement (saves_transaction statement name) (clean_saves error statement name)
+      clean_form (Form-F.CreateTable table text) thrown = clean_does around statement (creates_table around statement table.name text) (clean_create error around statement table.name text)
+      clean_form (Form-F.Drop kind name) thrown = clean_does around statement (drops around statement kind name) (clean_drops error around statement kind name)
+      clean_form (Form-F.Insert table columns rows) thrown = clean_write
+      clean_form (Form-F.Update table assignments filter) thrown = clean_write
+      clean_form (Form-F.Delete table filter) thrown = clean_write
+      clean_form (Form-F.Execute status name arguments) thrown = clean_calls status name arguments
+      clean_form (Form-F.DeclareCursor name select) thrown = clean_does around statement (declares_cursor statement name select) (clean_declares error statement name select)
+      clean_form (Form-F.OpenCursor name) thrown = clean_does around statement (opens_cursor around statement name) (clean_opens error around statement name)
+      clean_form (Form-F.Fetch name variables) thrown = clean_does around statement (fetches_cursor statement name variables) (clean_fetches error statement name variables)
+      clean_form (Form-F.CloseCursor name) thrown = clean_does around statement (closes_cursor statement name) (clean_shuts error statement name)
+      clean_form (Form-F.Deallocate name) thrown = clean_does around statement (removes_cursor statement name) (clean_removes error statement name)
+      clean_form (Form-F.Use name) thrown = clean_does around statement (uses_database around statement name) (clean_uses error around statement name)
+      clean_form form thrown = clean_does around statement (works around statement) (clean_works error around statement)
 
-      clean_by : Exits (mean_by one statement around)
+      pub clean_by : (form_of statement ≡ Form-F.ThrowAgain → CaughtOther error around.caught) → Exits (mean_by one statement around)
       unfolding mean_by
-      clean_by = λ p at. clean_if error (LeavesOther error) (p.txn.doomed && is_refused_doomed (form_of statement)) (fails_for around statement (plain doomed_write)) (mean_form one around statement (form_of statement)) (clean_fails around statement (plain doomed_write) (usual_other error (pos 3930) refl)) (clean_form (form_of statement))
+      clean_by thrown = λ p at. clean_if error (LeavesOther error) (p.txn.doomed && is_refused_doomed (form_of statement)) (fails_for around statement (plain doomed_write)) (mean_form one around statement (form_of statement)) (clean_fails around statement (plain doomed_write) (usual_other error (pos 3930) refl)) (clean_form (form_of statement) thrown)
 
   -- ---- batches
 
@@ -436,7 +438,7 @@ module _ (error : Guard) where
   clean_defined line (Ok effect) other = (tt, (tt, tt))
   clean_defined line (Err failure) other = (tt, clean_at around_batch line command_none (raised_at line failure) other)
 
-  clean_object : (line : ℤ) (of : Definition) (units : List ℕ) → Exits (defines_object line of units)
+  pub clean_object : (line : ℤ) (of : Definition) (units : List ℕ) → Exits (defines_object line of units)
   unfolding defines_object
   clean_object line of units = λ p at. clean_if error (LeavesOther error) p.txn.doomed (defined line (Err (plain doomed_write))) (creates_definition of units then defined line) (clean_defined line (Err (plain doomed_write)) (usual_other error (pos 3930) refl))
       (clean_then error (OtherOr error (EffectOther error)) (LeavesOther error) (creates_definition of units) (defined line) (clean_definition error of units) (clean_defined line))
@@ -452,13 +454,13 @@ module _ (error : Guard) where
   clean_strikes_call : (xact_abort : Bool) (raised : Raised) → IsOther error raised.number → Exits (strikes_call xact_abort raised)
   clean_strikes_call xact_abort raised other = (tt, ((other, tt), clean_ends (ending (action_in around_batch xact_abort raised))))
 
-  clean_fails_call : (failure : Failure) → IsOther error failure.number → Exits (fails_call failure)
+  pub clean_fails_call : (failure : Failure) → IsOther error failure.number → Exits (fails_call failure)
   unfolding fails_call
-  clean_fails_call failure other = (tt, λ p at. clean_strikes_call p.settings.xact_abort (error_or_full p (raised_at (pos 1) failure)) (by_room (nat_lt p.bytes_left (size_of (error_token (raised_at (pos 1) failure) ∷ [])))))
-    where
-      by_room : (full : Bool) → IsOther error (if full then raised_at (pos 1) (plain result_full) else raised_at (pos 1) failure).number
-      by_room true = usual_other error (pos 49002) refl
-      by_room false = other
+  clean_fails_call failure other = (
+    tt,
+    clean_test error (LeavesOther error) (λ p. error_token (raised_at (pos 1) failure) ∷ []) (λ full p. strikes_call p.settings.xact_abort (if full then raised_at (pos 1) (plain result_full) else raised_at (pos 1) failure)) (λ bytes q. refl)
+        (λ q. clean_strikes_call q.settings.xact_abort (raised_at (pos 1) failure) other) (λ full q. clean_strikes_call q.settings.xact_abort (raised_at (pos 1) (plain result_full)) full),
+  )
 
   -- what comes to something goes on, or fails
   clean_goes : {A : Type 0} (P : A → Type 0) (go : A → Doing Exit) (work : Doing (Result A Failure)) → Clean error (OtherOr error P) work → ((a : A) → P a → Exits (go a)) → Exits (work then λ came. goes_on_with go came)
@@ -477,8 +479,8 @@ module _ (error : Guard) where
       by_output false none = none
 
   clean_tells_returned : (number : ℤ) (tokens : List Token) (next : Doing Exit) → TellsNone error tokens → Exits next → Exits (tells_returned number tokens next)
-  clean_tells_returned number tokens next none clean = λ p at. clean_if error (LeavesOther error) (nat_lt p.bytes_left (size_of tokens)) (fails_call (plain result_full)) (makes (tells_rows 0) (makes (tells_error number) (makes (sends tokens) next)))
-      (clean_fails_call (plain result_full) (usual_other error (pos 49002) refl)) (tt, (tt, (none, clean)))
+  clean_tells_returned number tokens next none clean = clean_test error (LeavesOther error) (λ p. tokens) (λ full p. if full then fails_call (plain result_full) else makes (tells_rows 0) (makes (tells_error number) (makes (sends tokens) next))) (λ bytes q. refl)
+      (λ q. (tt, (tt, (none, clean)))) (λ other q. clean_fails_call (plain result_full) other)
 
   uneven_none : (action : Action) (tokens : List Token) (raised : Raised) → TellsNone error tokens → IsOther error raised.number → TellsNone error (uneven_with false action tokens raised)
   uneven_none act.Statement tokens raised none other = (other, none)
@@ -502,7 +504,7 @@ module _ (error : Guard) where
       (λ p at. clean_comes error {A = List Assigned} Anything (given_back p.vars None (rpc_arguments call) of status inner) (assigned_usual p.vars _ _))
       (λ sets any. clean_assigns error (LeavesOther error) sets (ends_exec call count status) (clean_ends_exec call count status))
 
-  clean_leaves_body : (call : Errand) (of : Call) (count : ℕ) (inner : List Variable) (exit : Exit) → Exits (leaves_body call of count inner exit)
+  pub clean_leaves_body : (call : Errand) (of : Call) (count : ℕ) (inner : List Variable) (exit : Exit) → Exits (leaves_body call of count inner exit)
   clean_leaves_body call of count inner (Raise raised) = (tt, tt)
   clean_leaves_body call of count inner (RaiseUp raised) = (tt, tt)
   clean_leaves_body call of count inner End = (tt, tt)
@@ -517,44 +519,50 @@ module _ (error : Guard) where
       ((usual_other error (pos 3998) refl, tt), clean_then error Anything Anything rolls_back_told (λ done. makes (sends (rpc_done true ∷ [])) (over tt)) clean_told (λ done any. ((last true, tt), tt)))
       ((last (has_failed exit), tt), tt)
 
-  clean_named : (call : Errand) (name : List ℕ) (object : Option (List ℕ)) → Clean error (OtherOr error {A = Call} Anything) (finds_named call name object)
+  pub clean_named : (call : Errand) (name : List ℕ) (object : Option (List ℕ)) → Clean error (OtherOr error {A = Call} Anything) (finds_named call name object)
   clean_named call name None = clean_naming error Call Anything no_procedure name refl
   clean_named call name (Some object) = clean_call error around_batch (rpc_statement object (rpc_arguments call)) None object (rpc_arguments call)
 
-  clean_read : (call : Errand) (procedure : Option ProcedureTree) → Clean error (OtherOr error {A = Call} Anything) (finds_read call procedure)
+  pub clean_read : (call : Errand) (procedure : Option ProcedureTree) → Clean error (OtherOr error {A = Call} Anything) (finds_read call procedure)
   unfolding binds_call
   clean_read call None = usual_other error (pos 49012) refl
   clean_read call (Some procedure) = clean_if error (OtherOr error {A = Call} Anything) (is_odd_procedure procedure) (over (Err (plain outside_limits))) _ (usual_other error (pos 49007) refl) (clean_room error {A = Call} Anything _ (clean_bind error {A = Bound} {B = Call} Anything Anything (reads λ p. comes_to (bound_over [] p.vars (rpc_statement procedure.name (rpc_arguments call)))) _ (clean_bound error [] (rpc_statement procedure.name (rpc_arguments call)))
       (λ of some p at. clean_comes error {A = Call} Anything (call_over around_batch None procedure.name (rpc_arguments call) p.vars (Some (Procedure procedure))) (call_usual around_batch None procedure.name (rpc_arguments call) p.vars (Some (Procedure procedure))))))
 
-  -- ---- by what statements are
+  pub clean_well : (call : Errand) → Exits (tells_well call)
+  clean_well call = λ p at. clean_tells_returned (pos 0) (returned call p.vars (pos 0)) (over On) (tt, values_none p.vars (placed_in call)) tt
 
-  module _ (means : (statement : Statement) (around : Around) → CaughtOther error around.caught → Exits (mean_of statement_limit statement around)) where
-    pub clean_text : (read : ReadText) → RefusedUsual read → Exits (runs_text read)
-    clean_text (text.Statements statements) usual = clean_all (λ inner at. mean_of statement_limit inner at) (λ inner at is. means inner at is) statements around_batch tt
-    clean_text (text.Defines line of units) usual = clean_object line of units
-    clean_text (text.Refused line code near) usual = ((usual_other error (pos code) usual, tt), tt)
-
+  -- the EXEC of a call
+  module _ (Such : Option Raised → Type 0) (others : (raised : Raised) → IsOther error raised.number → Such (Some raised)) (none : Such None)
+      (one : Statement → Meaning) (each : (inner : Statement) (at : Around) → Such at.caught → Exits (one inner at)) where
     -- how a body was left, with its variables
     abbrev CameOther : Exit × List Variable → Type 0
     CameOther came = LeavesOther error came.0
 
-    clean_exec : (call : Errand) (of : Call) → Exits (runs_exec (λ inner at. mean_of statement_limit inner at) call of)
+    pub clean_exec : (call : Errand) (of : Call) → Exits (runs_exec one call of)
     unfolding runs_exec
-    clean_exec call of = λ p at. clean_then error CameOther (LeavesOther error) (runs_body (λ inner at. mean_of statement_limit inner at) (call_vars of) (λ settings. settings) of.procedure.body (in_body of.procedure.name None around_batch)) _
-        (clean_body (λ inner at. mean_of statement_limit inner at) (λ inner at is. means inner at is) (call_vars of) (λ settings. settings) of.procedure.body (in_body of.procedure.name None around_batch) tt)
+    clean_exec call of = λ p at. clean_then error CameOther (LeavesOther error) (runs_body one (call_vars of) (λ settings. settings) of.procedure.body (in_body of.procedure.name None around_batch)) _
+        (clean_body Such others one each (call_vars of) (λ settings. settings) of.procedure.body (in_body of.procedure.name None around_batch) none)
         (λ came other. clean_leaves_body call of p.txn.count came.1 came.0)
 
+    pub clean_by_found : (call : Errand) (finds : Doing (Result Call Failure)) → Clean error (OtherOr error {A = Call} Anything) finds → Exits (execs one call finds)
+    clean_by_found call finds clean = clean_goes {A = Call} Anything (runs_exec one call) finds clean (λ of any. clean_exec call of)
+
+  -- ---- by what statements are
+
+  module _ (means : (statement : Statement) (around : Around) → CaughtOther error around.caught → Exits (mean_of statement_limit statement around)) where
+    pub clean_text : (read : ReadText) → RefusedUsual read → Exits (runs_text read)
+    clean_text (text.Statements statements) usual = clean_all (CaughtOther error) (λ raised other. other) (λ inner at. mean_of statement_limit inner at) (λ inner at is. means inner at is) statements around_batch tt
+    clean_text (text.Defines line of units) usual = clean_object line of units
+    clean_text (text.Refused line code near) usual = ((usual_other error (pos code) usual, tt), tt)
+
     clean_execs : (call : Errand) (finds : Doing (Result Call Failure)) → Clean error (OtherOr error {A = Call} Anything) finds → Exits (execs (λ inner at. mean_of statement_limit inner at) call finds)
-    clean_execs call finds clean = clean_goes {A = Call} Anything (runs_exec (λ inner at. mean_of statement_limit inner at) call) finds clean (λ of any. clean_exec call of)
+    clean_execs call finds clean = clean_by_found (CaughtOther error) (λ raised other. other) tt (λ inner at. mean_of statement_limit inner at) (λ inner at is. means inner at is) call finds clean
 
     clean_sql : (call : Errand) (read : ReadText) → RefusedUsual read → Exits (runs_sql (λ inner at. mean_of statement_limit inner at) call read)
     clean_sql call (text.Statements statements) usual = clean_execs call (finds_read call None) (clean_read call None)
     clean_sql call (text.Defines line of units) usual = clean_execs call (finds_read call (defined_in (text.Defines line of units))) (clean_read call (defined_in (text.Defines line of units)))
     clean_sql call (text.Refused line code near) usual = clean_text (text.Refused line code near) usual
-
-    clean_well : (call : Errand) → Exits (tells_well call)
-    clean_well call = λ p at. clean_tells_returned (pos 0) (returned call p.vars (pos 0)) (over On) (tt, values_none p.vars (placed_in call)) tt
 
     clean_unless : (call : Errand) (read : ReadText) → RefusedUsual read → Exits (tells_unless call read)
     clean_unless call (text.Statements statements) usual = clean_well call
@@ -597,13 +605,13 @@ module _ (watch : Watch) where
 
   pub clean_mean : (levels : ℕ) (statement : Statement) (around : Around) → CaughtBy watch around.caught → Exits (at_left levels) (mean_of levels statement around)
   unfolding mean_of raises_at
-  clean_mean zero statement around caught = λ p at. clean_raises (at_left 0) around statement (raised_in around.procedure (line_of statement) (plain statements_spent)) (watch.none_left p at) p at
-  clean_mean (suc levels) statement around caught = λ p at. by_left (λ inner so is. clean_mean levels inner so is) p at (p.statements_left == 0) refl
+  clean_mean zero statement around caught = λ p at. clean_raises (at_left 0) around statement (raised_in around.procedure (line_of statement) (plain statements_spent)) (watch.none_left (LeavesBy watch) p _ at) p at
+  clean_mean (suc levels) statement around caught = λ p at. by_left (λ inner so is. clean_mean levels inner so is) p (watch.spent (LeavesBy watch) (suc levels) p _ at) (p.statements_left == 0) refl
     where
-      by_left : ((inner : Statement) (so : Around) → CaughtBy watch so.caught → Exits (at_left levels) (mean_of levels inner so)) → (p : SessionProgress) → watch.At (suc levels) p → (none : Bool) → (p.statements_left == 0) ≡ none
-          → Clean (at_left (suc levels)) (LeavesBy watch) (if none then spends statement around else makes counts (mean_by (λ inner at. mean_of levels inner at) statement around))
-      by_left each p at true is = clean_raises (at_left (suc levels)) around statement (raised_in around.procedure (line_of statement) (plain statements_spent)) (watch.spent (suc levels) p at is)
-      by_left each p at false is = (tt, clean_by (at_left levels) (λ inner at. mean_of levels inner at) each around statement caught)
+      by_left : ((inner : Statement) (so : Around) → CaughtBy watch so.caught → Exits (at_left levels) (mean_of levels inner so)) → (p : SessionProgress) → ((p.statements_left == 0) ≡ true → watch.Other (pos statements_spent))
+          → (none : Bool) → (p.statements_left == 0) ≡ none → Clean (at_left (suc levels)) (LeavesBy watch) (if none then spends statement around else makes counts (mean_by (λ inner at. mean_of levels inner at) statement around))
+      by_left each p spent true is = clean_raises (at_left (suc levels)) around statement (raised_in around.procedure (line_of statement) (plain statements_spent)) (spent is)
+      by_left each p spent false is = (tt, clean_by (at_left levels) (CaughtBy watch) (λ raised other. other) (λ inner at. mean_of levels inner at) each around statement caught (λ is. caught))
 
   -- ---- batches and calls, behind their beginning
 
@@ -625,21 +633,21 @@ module _ (watch : Watch) where
 
 pub statement_causes : StatementCauses
 statement_causes error levels around statement old new exchanges exit caught none held =
-    let came = held_clean (lock_watch error) (LeavesBy (lock_watch error)) levels (mean_of levels statement around) old new exchanges exit (λ enough. tt) (λ few q. tt)
+    let came = held_clean (lock_watch error) (LeavesBy (lock_watch error)) levels (mean_of levels statement around) old new exchanges exit (λ enough. tt) (λ few q look. tt)
     (clean_mean (lock_watch error) levels statement around (caught_other error around.caught caught)) none held in
     (leaves_other error exit came.0, (came.1.0, came.1.1, told_none error came.1.0 came.1.2))
 
 pub batch_causes : BatchCauses
 unfolding batch Held
 batch_causes error units read old new exchanges reads_so none held =
-    let come = held_clean (lock_watch error) {A = Unit {0}} Anything statement_limit (runs_text read then ends) (made (begins (vars_in_text read)) old) new exchanges tt (λ enough. tt) (λ few q. tt)
+    let come = held_clean (lock_watch error) {A = Unit {0}} Anything statement_limit (runs_text read then ends) (made (begins (vars_in_text read)) old) new exchanges tt (λ enough. tt) (λ few q look. tt)
     (clean_batch (lock_watch error) (λ failed. tt) read (read_usual units read reads_so)) none held in
     subst (law.TellsNone error) (sym come.1.1) (told_none error come.1.0 come.1.2)
 
 pub call_causes : CallCauses
 unfolding rpc Held
 call_causes error call read old new exchanges reads_so none held =
-    let come = held_clean (lock_watch error) {A = Unit {0}} Anything statement_limit (runs_rpc (λ inner at. mean_of statement_limit inner at) call read then ends_rpc) (made counts (made (begins (rpc_vars call)) old)) new exchanges tt (λ enough. tt) (λ few q. tt)
+    let come = held_clean (lock_watch error) {A = Unit {0}} Anything statement_limit (runs_rpc (λ inner at. mean_of statement_limit inner at) call read then ends_rpc) (made counts (made (begins (rpc_vars call)) old)) new exchanges tt (λ enough. tt) (λ few q look. tt)
     (clean_whole_call (lock_watch error) (λ failed. tt) call read (called_usual call.text read reads_so)) none held in
     subst (law.TellsNone error) (sym come.1.1) (told_none error come.1.0 come.1.2)
 

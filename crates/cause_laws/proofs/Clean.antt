@@ -2,6 +2,7 @@
 -- has sent none.
 use Rattle.std.proofs.Common.{◌≡◌, refl, sym, ap, ◌∙◌, subst, ℕ, pred, pos, List, [], ◌∷◌, ◌++◌, Option, Bool, true, false, Result, Ok, Err, if◌then◌else◌, append-nil, append_assoc, ℤ}
 use Rattle.std.specs.List.{AllByRecursion}
+use Rattle.std.specs.Prelude.{nat_lt}
 use Rattle.tsql_tree.specs.declared.definition.Definition.{Definition}
 use Rattle.step_model.specs.declared.reply.Reply.{Reply}
 use Rattle.step_model.specs.declared.reply.Reply.TheVariants as replies
@@ -14,11 +15,12 @@ use Rattle.batch_meaning.specs.declared.failure.Failure.{Failure}
 use Rattle.batch_meaning.specs.Asking.{comes_to, fails, fails_naming, marked, on_ok, unless_refused, where_begun, where_done, where_ended, with_room, ◌>>=◌, ◌gives◌}
 use Rattle.batch_meaning.specs.Doing.{Doing, asks, defines, makes, never, over, reads, room, ◌then◌, Held}
 use Rattle.batch_meaning.specs.Failures.{naming}
-use Rattle.batch_meaning.specs.Progress.{SessionProgress, SessionStep, asked, begins, counts, made, sends}
+use Rattle.batch_meaning.specs.Progress.{SessionProgress, SessionStep, asked, begins, counts, made, sends, size_of}
+use Rattle.batch_meaning.specs.Selecting.{result_full}
 use Rattle.dml_exec.specs.Asking as dialogs
 use Rattle.cause_laws.proofs.Usual.{IsUsual}
 use Rattle.cause_laws.proofs.UsualValues.{UsualOr}
-use Rattle.cause_laws.proofs.Watch.{Guard, IsOther, Says, SaysAll, TellsBy, Watch}
+use Rattle.cause_laws.proofs.Watch.{Guard, IsOther, Says, SaysAll, StepSo, TellsBy, Watch}
 
 -- ---- numbers
 
@@ -48,9 +50,7 @@ all_behind P (x ∷ xs) ys all = all_behind P xs ys all.1
 
 -- a step that sends none; no batch begins
 abbrev pub CleanStep : Watch → SessionStep → Type 0
-CleanStep watch (sends tokens) = AllByRecursion (TellsBy watch) tokens
-CleanStep watch (begins vars) = ⊥
-CleanStep watch step = Unit {0}
+CleanStep watch = StepSo watch.Other watch.Goes
 
 -- how many statements are left behind a step
 abbrev pub left_behind : SessionStep → ℕ → ℕ
@@ -59,7 +59,7 @@ left_behind step left = left
 
 abbrev pub CleanAt : Watch → {A : Type 0} → (A → Type 0) → ℕ → Doing A → Type 0
 CleanAt watch P left (over a) = P a
-CleanAt watch P left (reads look) = (p : SessionProgress) → watch.At left p → CleanAt watch P left (look p)
+CleanAt watch P left (reads look) = (p : SessionProgress) → watch.At P left p look → CleanAt watch P left (look p)
 CleanAt watch P left (makes step next) = CleanStep watch step × CleanAt watch P (left_behind step left) next
 CleanAt watch P left (defines entry go) = (found : Option Definition) → CleanAt watch P left (go found)
 CleanAt watch P left (asks op go) = (reply : Reply) → watch.Says reply → CleanAt watch P left (go reply)
@@ -74,7 +74,7 @@ Clean error P tree = CleanAt error.watch P error.left tree
 
 clean_fewer : (watch : Watch) {A : Type 0} (P : A → Type 0) (left : ℕ) (tree : Doing A) → CleanAt watch P left tree → CleanAt watch P (pred left) tree
 clean_fewer watch P left (over a) clean = clean
-clean_fewer watch P left (reads look) clean = λ p at. clean_fewer watch P left (look p) (clean p (watch.fewer left p at))
+clean_fewer watch P left (reads look) clean = λ p at. clean_fewer watch P left (look p) (clean p (watch.fewer P left p look at))
 clean_fewer watch P left (makes step next) clean = (clean.0, by_step step (λ few. clean_fewer watch P few next) clean.1)
   where
     by_step : (step : SessionStep) → ((few : ℕ) → CleanAt watch P few next → CleanAt watch P (pred few) next) → CleanAt watch P (left_behind step left) next → CleanAt watch P (left_behind step (pred left)) next
@@ -88,6 +88,17 @@ clean_fewer watch P left never clean = tt
 clean_behind : (watch : Watch) {A : Type 0} (P : A → Type 0) (left : ℕ) (tree : Doing A) (step : SessionStep) → CleanAt watch P left tree → CleanAt watch P (left_behind step left) tree
 clean_behind watch P left tree counts clean = clean_fewer watch P left tree clean
 clean_behind watch P left tree step clean = clean
+
+-- ---- what is known of it
+
+pub clean_fine : (watch : Watch) {A : Type 0} (P : A → Type 0) (left : ℕ) (tree : Doing A) → CleanAt watch P left tree → watch.Fine P tree
+clean_fine watch P left (over a) clean = watch.fine_over P a clean
+clean_fine watch P left (reads look) clean = watch.fine_reads P left look (λ p at. clean_fine watch P left (look p) (clean p at))
+clean_fine watch P left (makes step next) clean = watch.fine_makes P step next clean.0 (clean_fine watch P (left_behind step left) next clean.1)
+clean_fine watch P left (defines entry go) clean = watch.fine_defines P entry go (λ found. clean_fine watch P left (go found) (clean found))
+clean_fine watch P left (asks op go) clean = watch.fine_asks P op go (λ reply says. clean_fine watch P left (go reply) (clean reply says))
+clean_fine watch P left (room go) clean = watch.fine_room P go (λ enough may. clean_fine watch P left (go enough) (clean enough may))
+clean_fine watch P left never clean = watch.fine_never P
 
 -- ---- what was sent
 
@@ -108,11 +119,11 @@ module _ (watch : Watch) where
   sends_both p mid new one two = (one.0 ++ two.0, two.1 ∙ ap (λ (l : List Token). l ++ two.0) one.1 ∙ append_assoc p.tokens one.0 two.0, all_both (TellsBy watch) one.0 two.0 one.2 two.2)
 
   -- where each answer to a question for room may be, and however far the session has come
-  pub held_clean : {A : Type 0} (P : A → Type 0) (left : ℕ) (tree : Doing A) (p new : SessionProgress) (exchanges : List Exchange) (a : A) → ((enough : Bool) → watch.May enough) → ((few : ℕ) (q : SessionProgress) → watch.At few q)
+  pub held_clean : {A : Type 0} (P : A → Type 0) (left : ℕ) (tree : Doing A) (p new : SessionProgress) (exchanges : List Exchange) (a : A) → ((enough : Bool) → watch.May enough) → ((few : ℕ) (q : SessionProgress) (look : SessionProgress → Doing A) → watch.At P few q look)
       → CleanAt watch P left tree → SaysAll watch exchanges → Held tree p exchanges a new → P a × SendsNone watch p new
   unfolding Held
   held_clean P left (over c) p new exchanges a may at clean says held = (subst P (sym held.1) clean, sends_nothing p new (ap (λ (q : SessionProgress). q.tokens) held.2))
-  held_clean P left (reads look) p new exchanges a may at clean says held = held_clean P left (look p) p new exchanges a may at (clean p (at left p)) says held
+  held_clean P left (reads look) p new exchanges a may at clean says held = held_clean P left (look p) p new exchanges a may at (clean p (at left p look)) says held
   held_clean P left (makes step next) p new exchanges a may at clean says held =
       let more = held_clean P (left_behind step left) next (made step p) new exchanges a may at clean.1 says held in (more.0, sends_both p (made step p) new (sends_step step p clean.0) more.1)
   held_clean P left (defines entry go) p new exchanges a may at clean says held = held_clean P left (go held.0) p new exchanges a may at (clean held.0) says held.2
@@ -126,7 +137,8 @@ module _ (watch : Watch) where
 then_at : (watch : Watch) {A B : Type 0} (P : A → Type 0) (Q : B → Type 0) (left : ℕ) (tree : Doing A) (go : A → Doing B) → CleanAt watch P left tree → ((a : A) → P a → CleanAt watch Q left (go a)) → CleanAt watch Q left (tree then go)
 unfolding ◌then◌
 then_at watch P Q left (over a) go clean more = more a clean
-then_at watch P Q left (reads look) go clean more = λ p at. then_at watch P Q left (look p) go (clean p at) more
+then_at watch P Q left (reads look) go clean more = λ p at.
+    then_at watch P Q left (look p) go (clean p (watch.behind P Q left p look go (λ a fine. clean_fine watch Q left (go a) (more a fine)) at)) more
 then_at watch P Q left (makes step next) go clean more =
     (clean.0, then_at watch P Q (left_behind step left) next go clean.1 (λ a fine. clean_behind watch Q left (go a) step (more a fine)))
 then_at watch P Q left (defines entry next) go clean more = λ found. then_at watch P Q left (next found) go (clean found) more
@@ -141,6 +153,18 @@ module _ (error : Guard) where
   pub clean_if : {A : Type 0} (P : A → Type 0) (test : Bool) (first other : Doing A) → Clean error P first → Clean error P other → Clean error P (if test then first else other)
   clean_if P true first other one two = one
   clean_if P false first other one two = two
+
+  -- by whether tokens may still be sent: where they may not, 49002 is another number
+  pub clean_test : {A : Type 0} (P : A → Type 0) (tokens : SessionProgress → List Token) (go : Bool → SessionProgress → Doing A)
+      → ((bytes : ℕ) (q : SessionProgress) → tokens (record q { bytes_left = bytes }) ≡ tokens q)
+      → ((q : SessionProgress) → Clean error P (go false q)) → (IsOther error (pos result_full) → (q : SessionProgress) → Clean error P (go true q))
+      → Clean error P (reads λ q. go (nat_lt q.bytes_left (size_of (tokens q))) q)
+  clean_test P tokens go same fits full = λ p at. by_test p (nat_lt p.bytes_left (size_of (tokens p)))
+      (error.watch.full P error.left p tokens go same (λ q. clean_fine error.watch P error.left (go false q) (fits q)) at)
+    where
+      by_test : (p : SessionProgress) (test : Bool) → IsOther error (pos result_full) → Clean error P (go test p)
+      by_test p true other = full other p
+      by_test p false other = fits p
 
   -- by the answer to a question for room
   pub clean_enough : {A : Type 0} (P : A → Type 0) (first other : Doing A) → Clean error P first → (IsOther error (pos no_memory) → Clean error P other) → (enough : Bool) → error.watch.May enough → Clean error P (if enough then first else other)

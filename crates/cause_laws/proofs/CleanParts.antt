@@ -1,7 +1,7 @@
 -- The parts of statements: whatever a statement looks up, binds, reads and writes, and what it does by its form, tells an error that is looked for in no token and
 -- fails by another one.
-use Rattle.std.proofs.Common.{refl, ℕ, zero, suc, ℤ, pos, List, [], ◌∷◌, length, Option, Some, None, Bool, true, false, Result, Ok, Err, is_ok, if◌then◌else◌}
-use Rattle.std.specs.Prelude.{nat_le, nat_lt}
+use Rattle.std.proofs.Common.{◌≡◌, refl, sym, ◌∙◌, ℕ, zero, suc, ℤ, pos, List, [], ◌∷◌, length, Option, Some, None, Bool, true, false, Result, Ok, Err, is_ok, if◌then◌else◌}
+use Rattle.std.specs.Prelude.{nat_le}
 use Rattle.value_types.specs.Units.{same_units}
 use Rattle.value_types.specs.declared.value.Value.{Value}
 use Rattle.tsql_tree.specs.declared.definition.Definition.{Definition}
@@ -48,7 +48,7 @@ use Rattle.batch_meaning.specs.Calls.{Call, call_over, finds_call}
 use Rattle.batch_meaning.specs.Changing.{definition_erased, dropped, not_there, planned_over, told_by, unless_referred, whole, write_command}
 use Rattle.batch_meaning.specs.Doing.{Doing, asks, defines, over, reads, ◌then◌}
 use Rattle.batch_meaning.specs.Failures.{plain}
-use Rattle.batch_meaning.specs.Progress.{size_of, values_of}
+use Rattle.batch_meaning.specs.Progress.{values_of}
 use Rattle.batch_meaning.specs.Raised.{Around, info_token}
 use Rattle.batch_meaning.specs.Selecting.{Effect, answer_in, bound_over, columns_of, made_of, messages, no_effect, raised_by, result_full, result_of, row_limit}
 use Rattle.batch_meaning.specs.Tokens.{done_kind, result_tokens, row_tokens, statement_done}
@@ -56,8 +56,8 @@ use Rattle.batch_meaning.specs.Values.{Assigned, assigned_to, first_row, given_n
 use Rattle.batch_meaning.specs.Working.{answers, asks_any, assigns_rows, binds, closes, composes, composes_bound, computes, enters, given_in, if_it_fits, known_by, leaves, own, prepares, relaxes, select_bound, selects, selects_into, status_bound, statuses, tests, tests_bound, values_bound, within, works, works_bound}
 use Rattle.batch_meaning.specs.Writes.{Written, change_bound, changes, drops, drops_definition, drops_found, drops_table, fired_by, fires_of, shape_or}
 use Rattle.cause_laws.proofs.UsualValues.{Anything, RaisesUsual, UsualOr, UsualRest, answer_usual, assigned_usual, bound_usual, call_usual, dropped_usual, planned_usual, raised_usual, referred_usual, rows_usual, status_usual}
-use Rattle.cause_laws.proofs.Watch.{Guard, IsOther, TellsNone, TellsOther}
-use Rattle.cause_laws.proofs.Clean.{Clean, FineOr, OtherOr, all_both, clean_begun, clean_bind, clean_comes, clean_done, clean_ended, clean_gives, clean_if, clean_naming, clean_refused, clean_room, clean_then, usual_other}
+use Rattle.cause_laws.proofs.Watch.{Guard, IsOther, TellsNone, TellsOther, sends_rows}
+use Rattle.cause_laws.proofs.Clean.{Clean, FineOr, OtherOr, all_both, clean_begun, clean_bind, clean_comes, clean_done, clean_ended, clean_fine, clean_gives, clean_if, clean_naming, clean_refused, clean_room, clean_test, clean_then, usual_other}
 use Rattle.cause_laws.proofs.CleanDialogs.{OtherAttempt, OtherRefusal, OtherWritten, clean_attempts, clean_images}
 
 module _ (error : Guard) where
@@ -223,7 +223,7 @@ module _ (error : Guard) where
       by_test false = tt
 
   pub clean_left : {A : Type 0} (P : A → Type 0) (tokens : List Token) (next : Doing (Result A Failure)) → Clean error (OtherOr error P) next → Clean error (OtherOr error P) (if_bytes_left tokens next)
-  clean_left P tokens next clean = λ p at. clean_if error (OtherOr error P) (nat_lt p.bytes_left (size_of tokens)) (fails result_full) next (usual_other error (pos 49002) refl) clean
+  clean_left P tokens next clean = clean_test error (OtherOr error P) (λ p. tokens) (λ full p. if full then fails result_full else next) (λ bytes q. refl) (λ q. clean) (λ other q. other)
 
   clean_fits : (effect : Effect) → EffectOther effect → Effects (if_it_fits effect)
   unfolding if_it_fits
@@ -242,15 +242,28 @@ module _ (error : Guard) where
     clean_answers shapes query = clean_bind error {A = List Rows} {B = Rows} Anything Anything (reads_images (given_in around.fired) shapes (bound.Query query)) _ (clean_reads (given_in around.fired) shapes (bound.Query query))
         (λ images any p at. clean_comes error Anything (answer_in around p query images) (answer_usual around p query images))
 
-    clean_selects : (shapes : List TableTree) (query : BoundQuery) → Effects (selects around shapes query)
-    unfolding selects
-    clean_selects shapes query = clean_bind error {A = Rows} Anything EffectOther (answers around shapes query) _ (clean_answers shapes query)
-        (λ rows any. clean_bind error EffectOther EffectOther (reads λ p. comes_to (result_of (done_kind around) p.settings.no_count query rows)) if_it_fits
-        (λ p at. clean_room error EffectOther (over (result_of (done_kind around) p.settings.no_count query rows)) (by_limit p.settings.no_count rows (nat_le (length rows) row_limit))) clean_fits)
+    -- where a result has more rows than it may, 49002 is another number
+    clean_rows : (query : BoundQuery) (rows : Rows) → (nat_le (length rows) row_limit ≡ false → IsOther error (pos result_full)) → Effects (sends_rows around query rows)
+    clean_rows query rows many = clean_bind error EffectOther EffectOther (reads λ p. comes_to (result_of (done_kind around) p.settings.no_count query rows)) if_it_fits
+        (λ p at. clean_room error EffectOther (over (result_of (done_kind around) p.settings.no_count query rows)) (by_limit p.settings.no_count (nat_le (length rows) row_limit) refl)) clean_fits
       where
-        by_limit : (no_count : Bool) (rows : Rows) (b : Bool) → OtherOr error EffectOther (if b then Ok (record { sets = []; rows = length rows; tokens = result_tokens (done_kind around) no_count (columns_of query) rows }) else Err (plain result_full))
-        by_limit no_count rows true = result_other (done_kind around) no_count (columns_of query) rows
-        by_limit no_count rows false = usual_other error (pos 49002) refl
+        by_limit : (no_count : Bool) (b : Bool) → nat_le (length rows) row_limit ≡ b → OtherOr error EffectOther (if b then Ok (record { sets = []; rows = length rows; tokens = result_tokens (done_kind around) no_count (columns_of query) rows }) else Err (plain result_full))
+        by_limit no_count true is = result_other (done_kind around) no_count (columns_of query) rows
+        by_limit no_count false is = many is
+
+    few_fine : (query : BoundQuery) (rows : Rows) → nat_le (length rows) row_limit ≡ true → error.watch.Fine (OtherOr error EffectOther) (sends_rows around query rows)
+    few_fine query rows few = clean_fine error.watch (OtherOr error EffectOther) error.left (sends_rows around query rows)
+        (clean_rows query rows (λ more. absurd (let no : true ≡ false = sym few ∙ more in cc)))
+
+    selects_other : (shapes : List TableTree) (query : BoundQuery) → IsOther error (pos result_full) → Effects (selects around shapes query)
+    unfolding selects
+    selects_other shapes query other = clean_bind error {A = Rows} Anything EffectOther (answers around shapes query) _ (clean_answers shapes query)
+        (λ rows any. clean_rows query rows (λ more. other))
+
+    clean_selects : (shapes : List TableTree) (query : BoundQuery) → Effects (selects around shapes query)
+    unfolding selects answers reads_images ◌then◌
+    clean_selects shapes query = λ p at. selects_other shapes query
+        (error.watch.many (OtherOr error EffectOther) around shapes query error.left p _ refl (λ failure other. other) (few_fine query) at) p at
 
     clean_into : (shapes : List TableTree) (query : BoundQuery) (places : List ℕ) → Effects (selects_into around shapes query places)
     unfolding selects_into

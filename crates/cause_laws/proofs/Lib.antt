@@ -12,4 +12,10 @@ pub mod CleanParts  -- so are the parts of statements
 pub mod CleanForms  -- so are CREATE, and the statements on transactions and cursors
 pub mod Locks  -- the errors of locks are looked for
 pub mod Causes  -- an error of a lock is told only where the engine has replied so
+pub mod Passing  -- points of what was done
+pub mod Silent  -- parts of statements that send nothing
+pub mod Unlocked  -- what ends statements asks for no lock
+pub mod Shown  -- what was done shows the cause of each error of a lock
+pub mod Telling  -- each statement shows the cause of what it tells
+pub mod Batches  -- so do batches and calls by RPC
 mod StandardFacts  -- worked exchanges

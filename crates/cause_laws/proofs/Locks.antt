@@ -45,7 +45,8 @@ lock_watch error = record {
   Goes = λ status. Unit {0};
   Says = λ reply. is_answer error reply ≡ false;
   May = λ enough. Unit {0};
-  At = λ left p. Unit {0};
+  Fine = λ P tree. Unit {0};
+  At = λ P left p look. Unit {0};
   usual = lock_usual error;
   wants = λ may. lock_other error (pos 701) refl refl;
   lacks = λ may. memory_none error;
@@ -53,12 +54,22 @@ lock_watch error = record {
   missing = λ says. lock_other error (pos 701) refl refl;
   victim = victim_other error;
   timed = timed_other error;
-  spent = λ left p at none. lock_other error (pos 49001) refl refl;
-  none_left = λ p at. lock_other error (pos 49001) refl refl;
-  fewer = λ left p at. tt;
   more = tt;
   counted = tt;
   failed = tt;
+  spent = λ P left p look at none. lock_other error (pos 49001) refl refl;
+  none_left = λ P p look at. lock_other error (pos 49001) refl refl;
+  fewer = λ P left p look at. tt;
+  full = λ P left p tokens go same fine at. lock_other error (pos 49002) refl refl;
+  many = λ P around shapes query left p look is fails fine at. lock_other error (pos 49002) refl refl;
+  fine_over = λ P a holds. tt;
+  fine_reads = λ P left look each. tt;
+  fine_makes = λ P step next so fine. tt;
+  fine_defines = λ P entry go each. tt;
+  fine_asks = λ P op go each. tt;
+  fine_room = λ P go each. tt;
+  fine_never = λ P. tt;
+  behind = λ P Q left p look go fine at. tt;
 }
 
 -- ---- as the law says it

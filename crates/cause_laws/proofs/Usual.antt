@@ -43,6 +43,7 @@ use Rattle.bound_tree.proofs.Raised as tree
 use Rattle.bound_tree.proofs.Raised.{Raises}
 use Rattle.step_model.specs.Ranges.{deadlock, lock_timeout, no_memory}
 use Rattle.batch_meaning.specs.Meaning.{statements_spent}
+use Rattle.batch_meaning.specs.Selecting.{result_full}
 use Rattle.join_rows.specs.Joined.{Join, Row, joined, pairs}
 use Rattle.group_rows.specs.Equals.{classes, firsts, same_row}
 use Rattle.group_rows.specs.Totals.{known, numbers_of, sum_of, total, whole}
@@ -54,9 +55,9 @@ use Rattle.query_eval.specs.Ans.{Ans, Answers, answer_of, inner_answer, inner_ro
 
 -- ---- numbers
 
--- the number of an error of a lock, of want of memory, or of a batch without a statement left
+-- the number of an error of a lock, of want of memory, of a batch without a statement left, or of the result limit
 abbrev pub is_watched : ℤ → Bool
-is_watched number = int_eq number (pos deadlock) || (int_eq number (pos lock_timeout) || (int_eq number (pos no_memory) || int_eq number (pos statements_spent)))
+is_watched number = int_eq number (pos deadlock) || (int_eq number (pos lock_timeout) || (int_eq number (pos no_memory) || (int_eq number (pos statements_spent) || int_eq number (pos result_full))))
 
 abbrev pub IsUsual : ℤ → Type 0
 IsUsual number = is_watched number ≡ false
@@ -70,14 +71,17 @@ differs a b test same = let no : true ≡ false = sym ((Decides-int_eq a b).1 sa
 
 -- a usual number is none of them
 module _ (number : ℤ) (usual : IsUsual number) where
-  no_first : (int_eq number (pos 1205) ≡ false) × ((int_eq number (pos 1222) || (int_eq number (pos 701) || int_eq number (pos 49001))) ≡ false)
-  no_first = neither (int_eq number (pos 1205)) (int_eq number (pos 1222) || (int_eq number (pos 701) || int_eq number (pos 49001))) usual
+  no_first : (int_eq number (pos 1205) ≡ false) × ((int_eq number (pos 1222) || (int_eq number (pos 701) || (int_eq number (pos 49001) || int_eq number (pos 49002)))) ≡ false)
+  no_first = neither (int_eq number (pos 1205)) (int_eq number (pos 1222) || (int_eq number (pos 701) || (int_eq number (pos 49001) || int_eq number (pos 49002)))) usual
 
-  no_second : (int_eq number (pos 1222) ≡ false) × ((int_eq number (pos 701) || int_eq number (pos 49001)) ≡ false)
-  no_second = neither (int_eq number (pos 1222)) (int_eq number (pos 701) || int_eq number (pos 49001)) no_first.1
+  no_second : (int_eq number (pos 1222) ≡ false) × ((int_eq number (pos 701) || (int_eq number (pos 49001) || int_eq number (pos 49002))) ≡ false)
+  no_second = neither (int_eq number (pos 1222)) (int_eq number (pos 701) || (int_eq number (pos 49001) || int_eq number (pos 49002))) no_first.1
 
-  no_third : (int_eq number (pos 701) ≡ false) × (int_eq number (pos 49001) ≡ false)
-  no_third = neither (int_eq number (pos 701)) (int_eq number (pos 49001)) no_second.1
+  no_third : (int_eq number (pos 701) ≡ false) × ((int_eq number (pos 49001) || int_eq number (pos 49002)) ≡ false)
+  no_third = neither (int_eq number (pos 701)) (int_eq number (pos 49001) || int_eq number (pos 49002)) no_second.1
+
+  no_fourth : (int_eq number (pos 49001) ≡ false) × (int_eq number (pos 49002) ≡ false)
+  no_fourth = neither (int_eq number (pos 49001)) (int_eq number (pos 49002)) no_third.1
 
   pub no_deadlock : number ≢ pos deadlock
   no_deadlock = differs number (pos 1205) no_first.0
@@ -89,21 +93,26 @@ module _ (number : ℤ) (usual : IsUsual number) where
   no_want = differs number (pos 701) no_third.0
 
   pub no_spending : number ≢ pos statements_spent
-  no_spending = differs number (pos 49001) no_third.1
+  no_spending = differs number (pos 49001) no_fourth.0
+
+  pub no_filling : number ≢ pos result_full
+  no_filling = differs number (pos 49002) no_fourth.1
 
 -- a test that none of them passes
-pub usual_by : (test : ℤ → Bool) (number : ℤ) → test (pos 1205) ≡ false → test (pos 1222) ≡ false → test (pos 701) ≡ false → test (pos 49001) ≡ false → test number ≡ true → IsUsual number
-usual_by test number one two three four passes = by_tests (int_eq number (pos 1205)) (int_eq number (pos 1222)) (int_eq number (pos 701)) (int_eq number (pos 49001)) refl refl refl refl
+pub usual_by : (test : ℤ → Bool) (number : ℤ) → test (pos 1205) ≡ false → test (pos 1222) ≡ false → test (pos 701) ≡ false → test (pos 49001) ≡ false → test (pos 49002) ≡ false → test number ≡ true → IsUsual number
+usual_by test number one two three four five passes =
+    by_tests (int_eq number (pos 1205)) (int_eq number (pos 1222)) (int_eq number (pos 701)) (int_eq number (pos 49001)) (int_eq number (pos 49002)) refl refl refl refl refl
   where
     apart : (from : ℤ) → test from ≡ false → int_eq number from ≡ true → ⊥
     apart from fails same = let no : true ≡ false = sym passes ∙ ap test ((Decides-int_eq number from).0 same) ∙ fails in absurd (cc)
 
-    by_tests : (a b c d : Bool) → int_eq number (pos 1205) ≡ a → int_eq number (pos 1222) ≡ b → int_eq number (pos 701) ≡ c → int_eq number (pos 49001) ≡ d → (a || (b || (c || d))) ≡ false
-    by_tests true b c d is1 is2 is3 is4 = absurd (apart (pos 1205) one is1)
-    by_tests false true c d is1 is2 is3 is4 = absurd (apart (pos 1222) two is2)
-    by_tests false false true d is1 is2 is3 is4 = absurd (apart (pos 701) three is3)
-    by_tests false false false true is1 is2 is3 is4 = absurd (apart (pos 49001) four is4)
-    by_tests false false false false is1 is2 is3 is4 = refl
+    by_tests : (a b c d e : Bool) → int_eq number (pos 1205) ≡ a → int_eq number (pos 1222) ≡ b → int_eq number (pos 701) ≡ c → int_eq number (pos 49001) ≡ d → int_eq number (pos 49002) ≡ e → (a || (b || (c || (d || e)))) ≡ false
+    by_tests true b c d e is1 is2 is3 is4 is5 = absurd (apart (pos 1205) one is1)
+    by_tests false true c d e is1 is2 is3 is4 is5 = absurd (apart (pos 1222) two is2)
+    by_tests false false true d e is1 is2 is3 is4 is5 = absurd (apart (pos 701) three is3)
+    by_tests false false false true e is1 is2 is3 is4 is5 = absurd (apart (pos 49001) four is4)
+    by_tests false false false false true is1 is2 is3 is4 is5 = absurd (apart (pos 49002) five is5)
+    by_tests false false false false false is1 is2 is3 is4 is5 = refl
 
 -- ---- outcomes
 
@@ -114,7 +123,7 @@ Usual (Err number) = IsUsual number
 
 usual_raised : {A : Type 0} (outcome : Outcome A) → Raises outcome → Usual outcome
 usual_raised (Ok a) raises = tt
-usual_raised (Err number) raises = usual_by is_fault number refl refl refl refl raises
+usual_raised (Err number) raises = usual_by is_fault number refl refl refl refl refl raises
 
 pub usual_after : {A B : Type 0} (outcome : Outcome A) (next : A → Outcome B) → Usual outcome → ((a : A) → Usual (next a)) → Usual (after outcome next)
 usual_after (Ok a) next usual more = more a

@@ -219,7 +219,7 @@ module _ (procedure : List ℕ) (line : ℤ) where
   raised_usual (Form-F.Throw number text state) values =
       results_then (λ n. int_le least_number n ≡ true) RaisesUsual (number_between least_number greatest_number (get_or values 0 Null)) _ (between_usual least_number greatest_number (get_or values 0 Null)) (λ n is.
       results_then Anything RaisesUsual (text_in (get_or values 1 Null)) _ (text_usual (get_or values 1 Null)) (λ units any.
-      results_then (λ m. int_le (pos 0) m ≡ true) RaisesUsual (number_between (pos 0) greatest_state (get_or values 2 Null)) _ (between_usual (pos 0) greatest_state (get_or values 2 Null)) (λ two so. usual_by (int_le least_number) n refl refl refl refl is)))
+      results_then (λ m. int_le (pos 0) m ≡ true) RaisesUsual (number_between (pos 0) greatest_state (get_or values 2 Null)) _ (between_usual (pos 0) greatest_state (get_or values 2 Null)) (λ two so. usual_by (int_le least_number) n refl refl refl refl refl is)))
   raised_usual form values = refl
 
 -- ---- what is bound, answered and planned

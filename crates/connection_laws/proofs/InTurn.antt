@@ -13,7 +13,7 @@ use Rattle.session_server.specs.Conversation.{Abandons, IsAsked, closed}
 use Rattle.session_server.specs.Ends.{Cause, no_message, by_message, unsent, unmade}
 use Rattle.session_server.specs.Response.{Response}
 use Rattle.session_server.specs.Talk.{AreRequests, IsRequest, Request, handling_in, response_to, talk_of, walk_of, with_request}
-use Rattle.connection_laws.specs.Causes.{AnswersInTurn}
+use Rattle.connection_laws.specs.Causes.{Answers, InTurn}
 use Rattle.connection_laws.proofs.Responses.{AllFine, HandlesFine, walk_fine}
 use Rattle.connection_laws.proofs.Short.{IsLimited}
 use Rattle.connection_laws.proofs.Talks.{more_apart}
@@ -30,7 +30,7 @@ pub record Turned (talk : Doing (List Response)) (requests : List Request) (p ne
   pub later : List Response
   pub whole : exchanges ≡ front ++ flat_map (λ part. part) parts
   pub all : responses ≡ earlier ++ later
-  pub in_turn : AnswersInTurn requests mid parts later new
+  pub in_turn : InTurn Answers requests mid parts later new
 
 turned : (requests : List Request) (talk : Doing (List Response)) (p new : SessionProgress) (exchanges : List Exchange) (responses : List Response) → Held (fold with_request talk requests) p exchanges responses new → Turned talk requests p new exchanges responses
 turned [] talk p new exchanges responses held = record {
@@ -64,7 +64,7 @@ turned (request ∷ others) talk p new exchanges responses held =
 pub record TalkTurns (requests : List Request) (new : SessionProgress) (exchanges : List Exchange) (responses : List Response) : Type 0 where
   pub parts : List (List Exchange)
   pub whole : exchanges ≡ flat_map (λ part. part) parts
-  pub in_turn : AnswersInTurn requests first_progress parts responses new
+  pub in_turn : InTurn Answers requests first_progress parts responses new
 
 talk_turns : (requests : List Request) (new : SessionProgress) (exchanges : List Exchange) (responses : List Response) → Held (talk_of requests) first_progress exchanges responses new → TalkTurns requests new exchanges responses
 unfolding talk_of Held
@@ -74,8 +74,8 @@ talk_turns requests new exchanges responses held =
     record {
       parts = on.parts;
       whole = on.whole ∙ ap (λ (l : List Exchange). l ++ flat_map (λ part. part) on.parts) on.talked.0;
-      in_turn = subst (λ (l : List Response). AnswersInTurn requests first_progress on.parts l new) (sym all)
-          (subst (λ (q : SessionProgress). AnswersInTurn requests q on.parts on.later new) on.talked.2 on.in_turn);
+      in_turn = subst (λ (l : List Response). InTurn Answers requests first_progress on.parts l new) (sym all)
+          (subst (λ (q : SessionProgress). InTurn Answers requests q on.parts on.later new) on.talked.2 on.in_turn);
     }
 
 -- ---- connections
@@ -87,7 +87,7 @@ module _ (Fine : Response → Type 0) (all_fine : AllFine Fine) (config : Config
     pub behind : List Exchange
     pub talked : SessionProgress
     pub whole : exchanges ≡ flat_map (λ part. part) parts ++ behind
-    pub in_turn : AnswersInTurn requests first_progress parts responses talked
+    pub in_turn : InTurn Answers requests first_progress parts responses talked
     pub fine : AllByRecursion (HandlesFine Fine all_fine) (map handling_in requests)
     pub are : All IsRequest requests
 
@@ -105,7 +105,7 @@ module _ (Fine : Response → Type 0) (all_fine : AllFine Fine) (config : Config
         behind = one.back;
         talked = one.mid;
         whole = one.parts ∙ ap (λ (l : List Exchange). l ++ one.back) turns.whole;
-        in_turn = subst (λ (l : List Response). AnswersInTurn requests first_progress turns.parts l one.mid) (sym two.rest.1) turns.in_turn;
+        in_turn = subst (λ (l : List Response). InTurn Answers requests first_progress turns.parts l one.mid) (sym two.rest.1) turns.in_turn;
         fine = fine_by messages limits are;
         are = are.are;
       }

@@ -11,3 +11,4 @@ pub mod Responses  -- what holds of each response by its own stretch of what the
 pub mod InTurn  -- each response is what its request comes to by its own stretch
 pub mod Causes  -- each response tells an error of a lock only where the engine has replied so
 pub mod Ample  -- each response is whole, and tells want of memory only where it was wanting
+pub mod Small  -- and tells 49002 only where a result was more than its limit

@@ -1,5 +1,5 @@
 -- A batch's tokens with one DONE at their end: what holds of each still does, and they are whole as before.
-use Rattle.std.proofs.Common.{◌≡◌, ℕ, ◌-◌, ◌%◌, ◌&&◌, Bool, true, false, if◌then◌else◌, List, [], ◌∷◌, ◌++◌, refl, sym, ap, subst, arith, eqb-true}
+use Rattle.std.proofs.Common.{◌≡◌, ℕ, ◌-◌, ◌%◌, ◌&&◌, Bool, true, false, if◌then◌else◌, List, [], ◌∷◌, ◌++◌, refl, sym, ap, ◌∙◌, subst, arith, eqb-true}
 use Rattle.std.proofs.lemmas.Bool.{and_parts}
 use Rattle.std.proofs.lemmas.Grind.{and_numeral}
 use Rattle.std.specs.Prelude.{bit_and}
@@ -7,7 +7,8 @@ use Rattle.std.specs.List.{AllByRecursion}
 use Rattle.tds_tokens.specs.Numbers.{done_more}
 use Rattle.tds_tokens.specs.declared.token.DoneKind.TheVariants.{Done, InProc, Proc}
 use Rattle.tds_tokens.specs.declared.token.Token.{Token}
-use Rattle.tds_tokens.specs.declared.token.Token.TheVariants.{Finished}
+use Rattle.tds_tokens.specs.declared.notice.Notice.{Notice}
+use Rattle.tds_tokens.specs.declared.token.Token.TheVariants.{Error, Finished}
 use Rattle.ample_laws.specs.Telling.{MoreFollows, SaysMore}
 use Rattle.session_server.specs.Response.{ended_once, is_final, is_followed, unfollowed}
 use Rattle.connection_laws.specs.Ample.{AreWhole, IsEnd}
@@ -30,6 +31,41 @@ module _ (Such : Token → Type 0) (unfollowed_such : (token : Token) → Such t
   pub once_if : (test : Bool) (tokens : List Token) → AllByRecursion Such tokens → AllByRecursion Such (if test then ended_once tokens else tokens)
   once_if true tokens all = once_such tokens all
   once_if false tokens all = all
+
+-- ---- where an ERROR stands
+
+module _ (told : Notice) where
+  -- behind as many as it does in all of them
+  abbrev Place : List Token → List Token → Type 0
+  Place tokens front = (behind : List Token) × (tokens ≡ front ++ Error told ∷ behind)
+
+  merged_place : (first last : Token) (front behind : List Token) (test : Bool) → (is_followed first && is_final last) ≡ test → (if test then unfollowed first ∷ [] else first ∷ last ∷ []) ≡ front ++ Error told ∷ behind → Place (first ∷ last ∷ []) front
+  merged_place first last front behind false same is = (behind, is)
+  merged_place first last [] behind true same is = absurd (not_error first (and_parts (is_followed first) (is_final last) same).0 (let so : unfollowed first ≡ Error told = cc in so))
+    where
+      not_error : (token : Token) → is_followed token ≡ true → unfollowed token ≡ Error told → ⊥
+      not_error (Finished kind status command rows) followed so = let differ : Finished kind (status - done_more) command rows ≡ Error told = so in absurd (cc)
+      not_error token followed so = absurd (let differ : false ≡ true = followed in cc)
+  merged_place first last (token ∷ front) behind true same is = absurd (not_nil front (let so : [] ≡ front ++ Error told ∷ behind = cc in so))
+    where
+      not_nil : (front : List Token) → [] ≡ front ++ Error told ∷ behind → ⊥
+      not_nil [] so = absurd (cc)
+      not_nil (one ∷ front) so = absurd (cc)
+
+  ended_place : (tokens front behind : List Token) → ended_once tokens ≡ front ++ Error told ∷ behind → Place tokens front
+  unfolding ended_once
+  ended_place [] front behind is = (behind, is)
+  ended_place (token ∷ []) front behind is = (behind, is)
+  ended_place (first ∷ last ∷ []) front behind is = merged_place first last front behind (is_followed first && is_final last) refl is
+  ended_place (first ∷ second ∷ third ∷ rest) [] behind is = (second ∷ third ∷ rest, ap (λ (t : Token). t ∷ second ∷ third ∷ rest) (let so : first ≡ Error told = cc in so))
+  ended_place (first ∷ second ∷ third ∷ rest) (token ∷ front) behind is =
+      let same : first ≡ token = cc in
+      let on = ended_place (second ∷ third ∷ rest) front behind (let so : ended_once (second ∷ third ∷ rest) ≡ front ++ Error told ∷ behind = cc in so) in
+      (on.0, ap (λ (t : Token). t ∷ second ∷ third ∷ rest) same ∙ ap (λ (l : List Token). token ∷ l) on.1)
+
+pub once_place : (test : Bool) (tokens front behind : List Token) (told : Notice) → (if test then ended_once tokens else tokens) ≡ front ++ Error told ∷ behind → (more : List Token) × (tokens ≡ front ++ Error told ∷ more)
+once_place true tokens front behind told is = ended_place told tokens front behind is
+once_place false tokens front behind told is = (behind, is)
 
 -- ---- whole tokens
 

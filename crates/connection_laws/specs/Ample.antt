@@ -1,5 +1,6 @@
--- Own: `ConnectionEnds` and `ConnectionAmple`. Each response of a connection is whole. Where memory was never wanting, each has its own stretch of what the
--- connection has asked, one behind another, and tells ERROR 701, 1205 or 1222 only where the engine has refused an operation in that.
+-- Own: `ConnectionEnds`, `ConnectionAmple` and `ConnectionSmall`. Each response of a connection is whole. Where memory was never wanting, each has its own stretch of what
+-- the connection has asked, one behind another, and tells ERROR 701, 1205 or 1222 only where the engine has refused an operation in that. And it tells ERROR
+-- 49002 only where, by its own stretch, a result was more than its limit.
 use Rattle.std.specs.Prelude.{◌≡◌, ℕ, List, [], ◌∷◌, ◌++◌}
 use Rattle.std.specs.List.{AllByRecursion, flat_map}
 use Rattle.tds_login.specs.declared.config.Config.{Config}
@@ -10,10 +11,12 @@ use Rattle.tds_tokens.specs.declared.token.Token.TheVariants.{Finished}
 use Rattle.step_model.specs.Exchange.{Exchange}
 use Rattle.batch_meaning.specs.Progress.{SessionProgress, first_progress}
 use Rattle.ample_laws.specs.Ample.{Ample, NoneRefused}
-use Rattle.ample_laws.specs.Telling.{IsNoRefusal, MoreFollows, SaysMore, TellsOnly}
+use Rattle.ample_laws.specs.Small.{Small}
+use Rattle.ample_laws.specs.Telling.{IsNoRefusal, IsNotPast, MoreFollows, SaysMore, TellsOnly}
 use Rattle.session_server.specs.Conversation.{closed}
 use Rattle.session_server.specs.Response.{Response, options, tabular}
-use Rattle.session_server.specs.Talk.{AreRequests, Request, talk_of, walk_of}
+use Rattle.session_server.specs.Talk.{AreRequests, Request, response_to, talk_of, walk_of}
+use Rattle.connection_laws.specs.Causes.{Answer, Answers, InTurn}
 use Rattle.connection_laws.specs.Laws.{IsConnection}
 
 -- ---- whole responses
@@ -76,3 +79,27 @@ pub record HasAmple (exchanges : List Exchange) (responses : List Response) : Ty
 -- so it is in each such connection
 abbrev pub ConnectionAmple : Type 0
 ConnectionAmple = (exchanges : List Exchange) (connection : IsAmple exchanges) → HasAmple exchanges connection.responses
+
+-- ---- where no result was more than its limit
+
+-- None of the tokens of a response tells 49002.
+abbrev pub ResponseIsWithin : Response → Type 0
+ResponseIsWithin options = Unit {0}
+ResponseIsWithin (tabular size tokens) = TellsOnly IsNotPast tokens
+
+-- The response is what its request comes to by its stretch; and where nothing in that was more than its limit, it does not tell 49002.
+abbrev pub IsSmall : Answer
+IsSmall request p part response new = Answers request p part response new
+    × (Small (response_to request.handling request.read_as) p part response new → ResponseIsWithin response)
+
+-- these are a front of the exchanges, one behind another
+pub record HasSmall (requests : List Request) (exchanges : List Exchange) (responses : List Response) : Type 0 where
+  pub parts : List (List Exchange)
+  pub behind : List Exchange
+  pub talked : SessionProgress
+  pub whole : exchanges ≡ flat_map (λ part. part) parts ++ behind
+  pub small : InTurn IsSmall requests first_progress parts responses talked
+
+-- so it is in each connection
+abbrev pub ConnectionSmall : Type 0
+ConnectionSmall = (exchanges : List Exchange) (connection : IsConnection exchanges) → HasSmall connection.requests exchanges connection.responses
