@@ -4,7 +4,7 @@
  * connection, and prints nothing.
  *
  *   serve_client PORT run FILE
- *   serve_client PORT one|point|call|transfer CONNECTIONS SECONDS
+ *   serve_client PORT one|small|point|large|call|transfer|both CONNECTIONS SECONDS
  */
 #include <arpa/inet.h>
 #include <netinet/tcp.h>
@@ -17,7 +17,7 @@
 #include <time.h>
 #include <unistd.h>
 
-enum { ACCOUNTS = 10000, ROOM = 1 << 20, HEADER = 8 };
+enum { SMALL = 1000, ACCOUNTS = 10000, LARGE = 1000000, ROOM = 1 << 20, HEADER = 8, DONE = 13 };
 
 typedef struct {
     int port, seconds, number;
@@ -70,21 +70,22 @@ static void send_message(int socket, uint8_t kind, const uint8_t *payload, size_
     send_all(socket, packet, whole);
 }
 
-/* A whole reply; whether it holds an ERROR as its first token. */
+/* A whole reply; whether it holds an ERROR as its first token, or what it ended with had failed. */
 static int receive_reply(int socket)
 {
     static __thread uint8_t payload[ROOM];
     uint8_t header[HEADER];
     int error = 0, first = 1;
+    size_t length;
     do {
         receive_all(socket, header, HEADER);
-        size_t length = (size_t)(header[2] << 8 | header[3]) - HEADER;
+        length = (size_t)(header[2] << 8 | header[3]) - HEADER;
         receive_all(socket, payload, length);
         if (first && length > 0 && payload[0] == 0xAA)
             error = 1;
         first = 0;
     } while (!(header[1] & 1));
-    return error;
+    return error || (length >= DONE && payload[length - DONE + 1] & 2);
 }
 
 /* ALL_HEADERS, with which a batch and a call begin. */
@@ -166,26 +167,52 @@ static int open_connection(int port)
     return s;
 }
 
+static const char *table_of(char mode)
+{
+    return mode == 's' ? "small" : mode == 'l' ? "large" : "accounts";
+}
+
+static int rows_of(char mode)
+{
+    return mode == 's' ? SMALL : mode == 'l' ? LARGE : ACCOUNTS;
+}
+
+/* The text of a batch over the rows a and b, but for the one with a parameter. */
+static void put_batch(char *text, char mode, int a, int b)
+{
+    const char *add = "UPDATE accounts SET amount = amount + CASE WHEN id = %d THEN -1 ELSE 1 END WHERE id = %d";
+    if (mode == 'o') {
+        strcpy(text, "SELECT 1");
+    } else if (mode == 't') {
+        int length = sprintf(text, add, a, a);
+        sprintf(text + length, " OR id = %d", b);
+    } else if (mode == 'b') {
+        int length = sprintf(text, "BEGIN TRANSACTION ");
+        length += sprintf(text + length, add, a, a < b ? a : b);
+        length += sprintf(text + length, " ");
+        length += sprintf(text + length, add, a, a < b ? b : a);
+        sprintf(text + length, " COMMIT");
+    } else {
+        sprintf(text, "SELECT amount FROM %s WHERE id = %d", table_of(mode), a);
+    }
+}
+
 static void *work(void *given)
 {
     Worker *w = given;
     int socket = open_connection(w->port);
     unsigned seed = 7919u * (unsigned)(w->number + 1);
-    char text[256];
+    char text[512];
     double end = now() + w->seconds;
+    int rows = rows_of(w->mode);
     while (now() < end) {
-        int a = 1 + rand_r(&seed) % ACCOUNTS, b = 1 + (a + rand_r(&seed) % (ACCOUNTS - 1)) % ACCOUNTS;
+        int a = 1 + rand_r(&seed) % rows, b = 1 + (a + rand_r(&seed) % (rows - 1)) % rows;
         w->replies++;
         if (w->mode == 'c') {
             w->errors += (uint64_t)send_call(socket, "SELECT amount FROM accounts WHERE id = @k", a);
             continue;
         }
-        if (w->mode == 'o')
-            strcpy(text, "SELECT 1");
-        else if (w->mode == 'p')
-            sprintf(text, "SELECT amount FROM accounts WHERE id = %d", a);
-        else
-            sprintf(text, "UPDATE accounts SET amount = amount + CASE WHEN id = %d THEN -1 ELSE 1 END WHERE id = %d OR id = %d", a, a, b);
+        put_batch(text, w->mode, a, b);
         w->errors += (uint64_t)send_batch(socket, text);
     }
     close(socket);
@@ -217,7 +244,7 @@ int main(int count, char **words)
         run_file(port, words[3]);
         return 0;
     }
-    if (count != 5 || !strchr("opct", words[2][0]))
+    if (count != 5 || !strchr("osplctb", words[2][0]))
         return 2;
     int many = atoi(words[3]);
     Worker workers[64];
