@@ -59,6 +59,7 @@ void _exit(int status) {
 
 # The statements, and what stands in the place of one that is refused for want of memory.
 CONVERSATION = [
+    ("USE main", None),
     ("CREATE TABLE orders (id INT NOT NULL PRIMARY KEY, customer NVARCHAR(20) NOT NULL)", None),
     (
         "CREATE TABLE items (order_id INT NOT NULL REFERENCES orders (id), line INT NOT NULL, "
