@@ -96,7 +96,7 @@ class Maker:
     def work(self):
         """Statements with the variables @a and @b."""
         place = Place("batch", ("@a", "@b"))
-        begun = self.choose("", "", "", "BEGIN TRAN; ", "SET XACT_ABORT ON; ", "BEGIN TRAN; SAVE TRAN s; ")
+        begun = self.choose("", "", "", "BEGIN TRAN; ", "SET IMPLICIT_TRANSACTIONS ON; ", "SET XACT_ABORT ON; ", "BEGIN TRAN; SAVE TRAN s; ")
         return f"{self.loops()}; {begun}{self.statements(place)}; {self.statements(place)}"
 
     def loops(self):

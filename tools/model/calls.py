@@ -33,7 +33,7 @@ def execute(session, around, statement):
     status = exit.of if exit.way == Way.RETURN else 0
     give_back(session, statement, procedure, arguments, inner, status)
     ended = [f"RETURNSTATUS {status}", "PROC(01,0,0)"]
-    if session.count() != count:
+    if not session.is_even(count):
         return uneven(session, around, statement, ended)
     session.lines += ended
     return session.succeeds(statement)

@@ -18,8 +18,8 @@ MOST_PARAMETERS, MOST_KEPT, MOST_UNITS, LONGEST = 10_000, 1_000, 1_048_576, 4_00
 LAST_HANDLE = 2_147_483_647
 WHOLES = {1: TINYINT, 2: SMALLINT, 4: INT, 8: BIGINT}
 RESET = (
-    "IF @@TRANCOUNT > 0 ROLLBACK; SET XACT_ABORT OFF; SET NOCOUNT OFF; SET TRANSACTION ISOLATION LEVEL READ COMMITTED; "
-    "SET LOCK_TIMEOUT -1; SET DEADLOCK_PRIORITY NORMAL"
+    "IF @@TRANCOUNT > 0 ROLLBACK; SET XACT_ABORT OFF; SET NOCOUNT OFF; SET IMPLICIT_TRANSACTIONS OFF; "
+    "SET TRANSACTION ISOLATION LEVEL READ COMMITTED; SET LOCK_TIMEOUT -1; SET DEADLOCK_PRIORITY NORMAL"
 )
 DEFINITION = re.compile(r"CREATE (PROC|PROCEDURE|TRIGGER)(?![A-Za-z0-9_@$#])", re.IGNORECASE)
 COMMENT = re.compile(r"/\*((?!/\*).)*?\*/", re.DOTALL)
@@ -241,7 +241,7 @@ class Calls:
         if reader.flaw:
             return self.flawed(reader.flaw)
         session, around = self.session, Around()
-        exit = session.run_all(around, tree) if isinstance(tree, list) else MEANINGS[type(tree)](session, around, tree)
+        exit = session.run_all(around, tree) if isinstance(tree, list) else session.define(around, tree)
         return self.well(None) if exit == ON else exit
 
     def body(self, texts):
@@ -305,7 +305,7 @@ class Calls:
             if one.is_output
         ]
         session.row_count = session.error = 0
-        if session.count() == count:
+        if session.is_even(count):
             session.lines += lines
             return ON
         raised = raised_by(Failure(266), "", 1)

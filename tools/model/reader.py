@@ -10,7 +10,7 @@ FIXED = {
         ("ANSI_NULLS", "ANSI_NULL_DFLT_ON", "ANSI_PADDING", "ANSI_WARNINGS", "ARITHABORT", "CONCAT_NULL_YIELDS_NULL", "QUOTED_IDENTIFIER"),
         ("ON",),
     ),
-    **dict.fromkeys(("FMTONLY", "IMPLICIT_TRANSACTIONS", "NUMERIC_ROUNDABORT"), ("OFF",)),
+    **dict.fromkeys(("FMTONLY", "NUMERIC_ROUNDABORT"), ("OFF",)),
     "CURSOR_CLOSE_ON_COMMIT": ("ON", "OFF"),
 }
 LEVELS = {
@@ -208,7 +208,7 @@ class Reader(Phrases):
         self.want("SET")
         if self.is_variable():
             return trees.SetVariable(self.variable(), self.assigned())
-        if self.is_word("XACT_ABORT", "NOCOUNT"):
+        if self.is_word("XACT_ABORT", "NOCOUNT", "IMPLICIT_TRANSACTIONS"):
             option = self.advance().value.upper()
             return trees.SetOption(option, self.on_or_off() == "ON")
         return trees.SetOther(self.is_known())

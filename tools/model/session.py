@@ -17,6 +17,9 @@ from .values import Failure, Kind, converted
 MOST_STEPS = 20_000
 WRITES = (trees.Insert, trees.Update, trees.Delete)
 TRIGGER_TABLES = ("inserted", "deleted")
+
+# What begins a transaction unseen where IMPLICIT_TRANSACTIONS is ON and none is open, beside a SELECT with FROM.
+UNSEEN = WRITES + (trees.CreateTable, trees.Drop, trees.OpenCursor, trees.Fetch, trees.BeginTransaction)
 SERVER_VALUES = {
     "@@VERSION": "Microsoft SQL Server protocol, tsqld - 15.0.0.0",
     "@@SERVERNAME": "tsqld",
@@ -38,6 +41,7 @@ class Variable:
 class Options:
     xact_abort: bool = False
     no_count: bool = False
+    implicit: bool = False
 
 
 @dataclass(frozen=True)
@@ -157,7 +161,7 @@ class Session:
             self.variables = variables_of(read)
             exit = self.run_all(around, read)
         else:
-            exit = MEANINGS[type(read)](self, around, read)
+            exit = self.define(around, read)
         self.end_batch(exit.has_failed())
         return self.lines
 
@@ -167,6 +171,12 @@ class Session:
             self.roll_back_told()
             has_failed = True
         self.lines.append(f"DONE({'02' if has_failed else '00'},0,0)")
+
+    def define(self, around, definition):
+        """A batch that is the definition of a procedure or trigger."""
+        if self.wants_begin():
+            self.begin_told(None)
+        return MEANINGS[type(definition)](self, around, definition)
 
     def run_all(self, around, statements):
         for statement in statements:
@@ -178,11 +188,23 @@ class Session:
     def run(self, around, statement):
         self.spend(1)
         try:
+            if self.begins_unseen(statement):
+                self.begin_told(None)
             if self.is_doomed() and isinstance(statement, REFUSED_DOOMED):
                 raise Failure(3930)
             return MEANINGS[type(statement)](self, around, statement)
         except Failure as failure:
             return self.fails(around, statement, failure)
+
+    def wants_begin(self):
+        return self.options.implicit and not self.transaction
+
+    def begins_unseen(self, statement):
+        if not self.wants_begin():
+            return False
+        if isinstance(statement, trees.Select):
+            return bool(statement.query.references)
+        return isinstance(statement, UNSEEN)
 
     def spend(self, steps):
         """A statement begins, a WHILE again too, or pairs are tried."""
@@ -252,8 +274,19 @@ class Session:
     def is_doomed(self):
         return self.transaction is not None and self.transaction.is_doomed
 
+    def is_even(self, count):
+        """As many are open as before a call, or the one that a statement of its procedure has begun unseen."""
+        return self.count() == count or (self.options.implicit and count == 0 and self.count() == 1)
+
     def begin(self, is_own):
         self.transaction = Transaction(self.database.copy(), is_own)
+
+    def begin_told(self, name):
+        """The outermost BEGIN TRANSACTION."""
+        self.begin(is_own=False)
+        self.last_number += 1
+        self.transaction.number, self.transaction.count, self.transaction.name = self.last_number, 1, name
+        self.lines.append(f"ENVCHANGE 8 with {self.last_number}")
 
     def commit(self):
         self.transaction = None

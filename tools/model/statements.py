@@ -171,7 +171,7 @@ def set_variable(session, around, statement):
 
 @meaning_of(trees.SetOption)
 def set_option(session, _around, statement):
-    name = {"XACT_ABORT": "xact_abort", "NOCOUNT": "no_count"}[statement.option]
+    name = {"XACT_ABORT": "xact_abort", "NOCOUNT": "no_count", "IMPLICIT_TRANSACTIONS": "implicit"}[statement.option]
     session.options = replace(session.options, **{name: statement.is_on})
     return session.succeeds(statement)
 
@@ -191,11 +191,7 @@ def begin_transaction(session, _around, statement):
     if session.transaction:
         session.transaction.count += 1
         return session.succeeds(statement)
-    session.begin(is_own=False)
-    session.last_number += 1
-    session.transaction.number, session.transaction.count = session.last_number, 1
-    session.transaction.name = statement.name
-    session.lines.append(f"ENVCHANGE 8 with {session.last_number}")
+    session.begin_told(statement.name)
     return session.succeeds(statement)
 
 

@@ -1,4 +1,5 @@
 pub mod Affording
+pub mod Begun
 pub mod Bodies
 pub mod Called
 pub mod Fired

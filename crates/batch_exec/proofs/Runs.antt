@@ -1,5 +1,5 @@
 -- Statements one after another, levels, and loops.
-use Rattle.std.proofs.Common.{◌≡◌, ℕ, pos, zero, suc, ◌-◌, ◌≤◌, ◌<◌, ◌&&◌, Bool, true, false, nat_eq, List, [], ◌∷◌, ◌++◌, append_assoc, drop, length, Option, None, Some, Result, Ok, Err, refl, sym, ap, ◌∙◌, subst, arith}
+use Rattle.std.proofs.Common.{◌≡◌, ℕ, pos, zero, suc, ◌-◌, ◌≤◌, ◌<◌, ◌&&◌, not, Bool, true, false, nat_eq, List, [], ◌∷◌, ◌++◌, append_assoc, drop, length, Option, None, Some, Result, Ok, Err, refl, sym, ap, ◌∙◌, subst, arith}
 use Rattle.std.proofs.lemmas.List.{drop_all}
 use Rattle.value_types.specs.declared.memory.Memory.{Memory}
 use Rattle.tsql_tree.specs.declared.option.SessionOption.{SessionOption}
@@ -23,7 +23,8 @@ use Rattle.batch_meaning.specs.Settings.{set_option}
 use Rattle.batch_meaning.specs.Working.{tests}
 use Rattle.batch_meaning.specs.Progress.{SessionProgress, made, counts, sets, stands_with, tells_error}
 use Rattle.batch_meaning.specs.Doing.{Doing, over, makes, ◌then◌, Came, Did, Leads}
-use Rattle.batch_meaning.specs.Meaning.{Meaning, concluded, concludes, decides, does, doomed_write, each_of, fails_for, goes_on, handled, is_refused_doomed, mean_by, mean_form, mean_of, set_by, sets_option, spends, succeeds, turned, turns, turns_again}
+use Rattle.batch_meaning.specs.Unseen.{begins_unseen, is_unseen}
+use Rattle.batch_meaning.specs.Meaning.{Meaning, begun_unseen, concluded, concludes, decides, does, doomed_write, each_of, fails_for, goes_on, handled, is_refused_doomed, mean_by, mean_form, mean_of, set_by, sets_option, spends, succeeds, turned, turns, turns_again}
 use Rattle.batch_meaning.proofs.Composed.{does_over, does_reads, does_makes, does_then, does_yes, does_no, leads_here, leads_then, leads_to, leads_reads, leads_makes, leads_no}
 use Rattle.batch_exec.specs.Running.{IsWhile, Loops, turning}
 
@@ -80,7 +81,7 @@ module _ {before after : PortPast} where
 
   -- one more has begun
   pub begun_level : (levels : ℕ) (s : Statement) (around : Around) {p q new : SessionProgress} {result : Result Exit Memory} → p.statements_left ≤ levels → false ≡ nat_eq p.statements_left 0 → q ≡ made counts p
-      → ((fewer : ℕ) → q.statements_left ≤ fewer → Did before after (mean_by (λ inner at. mean_of fewer inner at) s around) q result new) → Did before after (mean_of levels s around) p result new
+      → ((fewer : ℕ) → q.statements_left ≤ fewer → Did before after (begun_unseen (λ q. is_unseen q (form_of s)) (fails_for around s) (mean_by (λ inner at. mean_of fewer inner at) s around)) q result new) → Did before after (mean_of levels s around) p result new
   unfolding mean_of
   begun_level zero s around {p = p} below some same ran = absurd (let more : 0 < p.statements_left = some_left p.statements_left (sym some) in omega (arith, more, below))
   begun_level (suc fewer) s around {p = p} {q = q} below some same ran =
@@ -114,19 +115,25 @@ while_kept : (body : Statement) (node : Layer) → IsWhile body node → is_refu
 while_kept body (Form-F.While test held) loops = refl
 while_kept body node loops = absurd loops
 
+-- and begins no transaction
+while_seen : (body : Statement) (node : Layer) → IsWhile body node → begins_unseen node ≡ false
+while_seen body (Form-F.While test held) loops = refl
+while_seen body node loops = absurd loops
+
 -- a loop that was begun again leads on, one level lower
 pub again_level : {before now : PortPast} {whole : Doing Exit} {old mid q : SessionProgress} (levels : ℕ) (s body : Statement) (around : Around) → IsWhile body (form_of s) → mid.statements_left ≤ levels → false ≡ nat_eq mid.statements_left 0 → q ≡ made counts mid
     → Leads before now whole old (mean_of levels s around) mid
     → (fewer : ℕ) × (q.statements_left ≤ fewer) × Leads before now whole old (decides around s (turns (λ inner at. mean_of fewer inner at) around s body)) q
-unfolding mean_of mean_by
+unfolding mean_of mean_by begun_unseen
 again_level {mid = mid} zero s body around loops below some same leads = absurd (let more : 0 < mid.statements_left = some_left mid.statements_left (sym some) in omega (arith, more, below))
 again_level {before = before} {now = now} {whole = whole} {old = old} {mid = mid} {q = q} (suc fewer) s body around loops below some same leads =
     let left : q.statements_left ≡ mid.statements_left - 1 = ap (λ (x : SessionProgress). x.statements_left) same in
-    let kept : (q.txn.doomed && is_refused_doomed (form_of s)) ≡ false = ap (λ (b : Bool). q.txn.doomed && b) (while_kept body (form_of s) loops) ∙ and_false q.txn.doomed in (
+    let kept : (q.txn.doomed && is_refused_doomed (form_of s)) ≡ false = ap (λ (b : Bool). q.txn.doomed && b) (while_kept body (form_of s) loops) ∙ and_false q.txn.doomed in
+    let seen : is_unseen q (form_of s) ≡ false = ap (λ (b : Bool). (q.settings.implicit && not q.is_open) && b) (while_seen body (form_of s) loops) ∙ and_false (q.settings.implicit && not q.is_open) in (
       fewer,
       omega (arith, left, below),
       subst (λ (tree : Doing Exit). Leads before now whole old tree q) (while_form (λ inner at. mean_of fewer inner at) around s body (form_of s) loops)
-          (leads_no _ _ _ kept (leads_reads (leads_makes same (leads_no _ _ _ (sym some) (leads_reads leads))))),
+          (leads_no _ _ _ kept (leads_reads (leads_no _ _ _ seen (leads_reads (leads_makes same (leads_no _ _ _ (sym some) (leads_reads leads))))))),
     )
 
 -- what leads on leads on

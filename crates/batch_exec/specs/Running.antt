@@ -37,7 +37,7 @@ use Rattle.batch_meaning.specs.Calls.{Call, call_over, parameter_var}
 use Rattle.batch_meaning.specs.Cursors.{closes_cursor, declares_cursor, fetches_cursor, opens_cursor, removes_cursor}
 use Rattle.batch_meaning.specs.Databases.{uses_database}
 use Rattle.batch_meaning.specs.Transactions.{begins_transaction, commits_transaction, rolls_back_transaction, saves_transaction}
-use Rattle.batch_meaning.specs.Meaning.{decides, mean_of, turns, uneven_end}
+use Rattle.batch_meaning.specs.Meaning.{begins_first, decides, mean_of, turns, uneven_end}
 use Rattle.batch_meaning.specs.Rpc.{Placed, is_given, is_output, return_value, rpc_argument}
 
 -- ---- transactions
@@ -136,6 +136,20 @@ tells_uneven tokens caught action raised = makes (tells_rows 0) (makes (tells_er
 abbrev pub sent_some : List Token → SessionProgress → SessionProgress
 sent_some [] p = p
 sent_some (token ∷ tokens) p = made (sends (token ∷ tokens)) p
+
+-- ---- what begins a transaction unseen
+
+-- what was to be done came to its end, or this is left of it
+abbrev pub LeadsOn : PortPast → PortPast → Doing Exit → Doing Exit → SessionProgress → Result (Option Exit) Memory → SessionProgress → Type 0
+LeadsOn before after whole rest old (Ok (Some exit)) new = Did before after whole old (Ok exit) new
+LeadsOn before after whole rest old (Ok None) new = Leads before after whole old rest new
+LeadsOn before after whole rest old (Err memory) new = Did before after whole old (Err memory) new
+
+-- behind that BEGIN this is left, or this, where it failed; or memory was wanting to tell it
+abbrev pub LeadsBehind : PortPast → PortPast → (Failure → Doing Exit) → Doing Exit → SessionProgress → Result (Option Failure) Memory → SessionProgress → Type 0
+LeadsBehind before after fails next old (Ok None) new = Leads before after (begins_first fails next old) old next new
+LeadsBehind before after fails next old (Ok (Some failure)) new = Leads before after (begins_first fails next old) old (fails failure) new
+LeadsBehind before after fails next old (Err memory) new = Did before after (begins_first fails next old) old (Err memory) new
 
 -- ---- loops
 

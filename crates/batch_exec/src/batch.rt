@@ -5,12 +5,13 @@ ghost use Rattle.batch_meaning.specs.declared.exit.Exit.TheVariants.{End};
 ghost use Rattle.batch_meaning.specs.Failures.{naming};
 ghost use Rattle.batch_meaning.specs.Raised.{error_token, raised_at};
 ghost use Rattle.batch_meaning.specs.Doing.{Did};
-ghost use Rattle.batch_meaning.specs.Meaning.{batch, defined, defines_object, has_failed, rolls_back_doomed, runs_text, tells_end, vars_in_text};
+ghost use Rattle.batch_meaning.specs.Meaning.{batch, defined, defines_object, has_failed, puts_object, rolls_back_doomed, runs_text, tells_end, vars_in_text};
 ghost use Rattle.batch_meaning.specs.Tokens.{last_done};
 ghost use Rattle.batch_meaning.specs.Progress.{Ready, made, sends, statement_limit};
 
 use crate::errors::{raise_at, roll_back_told};
 use crate::running::run_statements;
+use crate::unseen::{begin_told, wants_begin};
 use batch_meaning::{Exit, Failure, ReadText};
 use session_state::{
     Around, DOOMED_AT_END, DOOMED_WRITE, SessionState, error_tokens, last_tokens, raised_at,
@@ -84,6 +85,28 @@ fn define<P: Port>(
 ) -> Result<Exit, Memory>
     requires ready { Ready session.old (P.past port.old) }
     ensures does { Did (P.past port.old) (P.past port.new) (defines_object line of.now text.now) session.old result session.new }
+    ensures ready { Ready session.new (P.past port.new) }
+{
+    if !wants_begin(session) {
+        return put_object(alloc, session, port, line, of, text);
+    }
+    match begin_told(alloc, session, port)? {
+        None => put_object(alloc, session, port, line, of, text),
+        Some(failure) => fail_at(alloc, session, port, line, &failure),
+    }
+}
+
+/// It is put, unless the transaction is doomed.
+fn put_object<P: Port>(
+    alloc: Global,
+    session: &mut SessionState,
+    port: &mut P,
+    line: i32,
+    of: &Definition,
+    text: &Units,
+) -> Result<Exit, Memory>
+    requires ready { Ready session.old (P.past port.old) }
+    ensures does { Did (P.past port.old) (P.past port.new) (puts_object line of.now text.now) session.old result session.new }
     ensures ready { Ready session.new (P.past port.new) }
 {
     if session.is_doomed() {

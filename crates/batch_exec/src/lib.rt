@@ -20,6 +20,7 @@ mod rpc;
 mod running;
 mod simple;
 mod transactions;
+mod unseen;
 
 pub use batch::run_batch;
 pub use errors::roll_back_open;

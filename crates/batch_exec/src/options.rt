@@ -32,8 +32,10 @@ pub(crate) fn set_option(option: SessionOption, settings: Settings) -> Result<Se
             no_count,
             ..settings
         }),
-        SessionOption::ImplicitTransactions(true) => Err(not_known()),
-        SessionOption::ImplicitTransactions(false) => Ok(settings),
+        SessionOption::ImplicitTransactions(implicit) => Ok(Settings {
+            implicit,
+            ..settings
+        }),
         SessionOption::Fixed(which, is_on) => if_known(is_setting(which, is_on), settings),
         SessionOption::Isolation(level) => at_level(level, settings),
         SessionOption::LockTimeout(number) => with_timeout(number, settings),

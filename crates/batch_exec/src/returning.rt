@@ -1,12 +1,12 @@
 //! What a procedure gives back, and how its call ends.
 
-ghost use Rattle.std.specs.Prelude.{◌≡◌, ◌==◌, ◌++◌, ◌∷◌, ◌≤◌, [], List, IfOk, map, option_map};
+ghost use Rattle.std.specs.Prelude.{◌≡◌, ◌++◌, ◌∷◌, ◌≤◌, [], List, IfOk, map, option_map};
 ghost use Rattle.value_types.specs.declared.value.Value.{Value as Of};
 ghost use Rattle.call_rules.specs.Arguments.{outputs_of};
 ghost use Rattle.dml_exec.specs.Asking.{seen};
 ghost use Rattle.batch_meaning.specs.Calls.{given_back, output_value, status_names, status_values};
 ghost use Rattle.batch_meaning.specs.Doing.{Did};
-ghost use Rattle.batch_meaning.specs.Meaning.{ends_call, ends_even, ends_uneven, gives_back, returns_from, uneven_end, uneven_tokens};
+ghost use Rattle.batch_meaning.specs.Meaning.{ends_call, ends_even, ends_uneven, gives_back, is_even, returns_from, uneven_end, uneven_tokens};
 ghost use Rattle.batch_meaning.specs.Progress.{Ready};
 ghost use Rattle.session_state.specs.Parts.{IsOrMemory, SetsFit};
 ghost use Rattle.batch_exec.specs.Running.{returned_with, tells_uneven};
@@ -277,11 +277,11 @@ fn end_call<P: Port>(
     end_uneven(alloc, session, port, statement, status, raised, around)
 }
 
-/// Whether so many transactions are open in one another.
+/// Whether so many transactions are open in one another, or the one that a statement has begun unseen.
 pub(crate) fn is_even(session: &SessionState, count: u32) -> bool
-    ensures { result ≡ (session.now.txn.count == count) }
+    ensures { result ≡ is_even session.now count }
 {
-    session.count() == count
+    session.count() == count || (session.settings().implicit && count == 0 && session.count() == 1)
 }
 
 /// With as many transactions as before.

@@ -18,6 +18,7 @@ use crate::firing::{effect_of, end_write, leave_fired, tells_behind, trigger_end
 use crate::looping::begin_again;
 use crate::returning::{CallEnd, return_from};
 use crate::simple::{is_refused, run_simple};
+use crate::unseen::begin_unseen;
 use batch_forms::vars_of;
 use batch_meaning::{Exit, Failure, Home, Settings, Stop};
 use session_state::{Around, DOOMED_WRITE, Effect, Fired, NO_MEMORY, SessionState, TOO_DEEP};
@@ -70,6 +71,10 @@ fn run_statement<P: Port>(
         return spend(alloc, session, port, statement, around);
     }
     session.begin_statement();
+    match begin_unseen(alloc, session, port, statement, around)? {
+        Some(exit) => return Ok(exit),
+        None => {}
+    }
     if is_refused(session, &statement.form) {
         let failure = Failure::plain(DOOMED_WRITE);
         return fail(alloc, session, port, statement, around, failure);

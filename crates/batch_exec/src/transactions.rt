@@ -102,7 +102,7 @@ fn copy_of(alloc: Global, name: Option<&Units>) -> Result<Option<Units>, Memory>
 }
 
 /// The outermost is begun at the port.
-fn begin_outermost<P: Port>(
+pub(crate) fn begin_outermost<P: Port>(
     alloc: Global,
     session: &mut SessionState,
     port: &mut P,

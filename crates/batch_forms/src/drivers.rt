@@ -381,7 +381,7 @@ fn reset_text(alloc: Global) -> Result<Units, Memory>
     let mut text = Vec::new(alloc);
     add_ascii(
         &mut text,
-        "IF @@TRANCOUNT > 0 ROLLBACK; SET XACT_ABORT OFF; SET NOCOUNT OFF; ",
+        "IF @@TRANCOUNT > 0 ROLLBACK; SET XACT_ABORT OFF; SET NOCOUNT OFF; SET IMPLICIT_TRANSACTIONS OFF; ",
     )?;
     add_ascii(
         &mut text,

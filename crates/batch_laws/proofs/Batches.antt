@@ -12,6 +12,7 @@ use Rattle.batch_meaning.specs.declared.exit.Exit.{Exit}
 use Rattle.batch_meaning.specs.declared.exit.Exit.TheVariants.{On, Leave, Again, Return, Raise, RaiseUp, End}
 use Rattle.batch_meaning.specs.Doing.{Doing, over, makes, ◌then◌, Held}
 use Rattle.batch_meaning.specs.declared.raised.Raised.{Raised}
+use Rattle.batch_meaning.specs.declared.settings.Settings.{Settings}
 use Rattle.batch_meaning.specs.Failures.{naming}
 use Rattle.batch_meaning.specs.Meaning.{batch, each_of, ends, ends_doomed, goes_on, has_failed, mean_of, meaning}
 use Rattle.batch_meaning.specs.Progress.{SessionProgress, begins, counts, made, sends, statement_limit}
@@ -20,11 +21,12 @@ use Rattle.batch_meaning.specs.Statements.{vars_of}
 use Rattle.batch_meaning.specs.Tokens.{batch_done}
 use Rattle.statement_paths.proofs.Apart.{held_apart}
 use Rattle.write_laws.proofs.Parts.{from_both}
-use Rattle.batch_laws.specs.Committing.{is_plain, Agrees, ArePlain, Commits, Ends, Fires, FiresAmong, IfOn, IsIdle, Leaves, NoneFires, Runs, Stays}
+use Rattle.batch_laws.specs.Committing.{is_plain, Agrees, ArePlain, Commits, Ends, Fires, FiresAmong, FiresSome, IfOn, IsIdle, Leaves, NoneFires, Runs, Stays}
 use Rattle.batch_laws.specs.Laws.{BatchRuns, PlainRun, RefusedEnds}
 use Rattle.batch_laws.proofs.Ending.{Ended}
 use Rattle.batch_laws.proofs.Leaving.{commits_both}
 use Rattle.batch_laws.proofs.Turns.{Finished, FinishedOr, fires_further, mean_finished}
+use Rattle.batch_laws.proofs.Unseen.{unseen_off}
 
 -- ---- one statement
 
@@ -47,20 +49,20 @@ pub record Closed (around : Around) (statement : Statement) (p : SessionProgress
   pub stays : Stays p new
 
 idle_agrees : (p : SessionProgress) → IsIdle p → Agrees p.is_open none_open
-idle_agrees p idle = subst (λ (b : Bool). Agrees b none_open) (sym idle.shut) refl
+idle_agrees p idle = subst (λ (b : Bool). Agrees b none_open) (sym idle.none.shut) refl
 
 pub counts_idle : (p : SessionProgress) → IsIdle p → IsIdle (made counts p)
-counts_idle p idle = record { shut = idle.shut; closed = idle.closed; sound = idle.sound }
+counts_idle p idle = record { none = record { shut = idle.none.shut; closed = idle.none.closed; sound = idle.none.sound }; seen = idle.seen }
 
 -- one that fires no triggers
 pub mean_closed : (levels : ℕ) (around : Around) (statement : Statement) (p new : SessionProgress) (exchanges : List Exchange) (exit : Exit) → is_plain (form_of statement) ≡ true → IsIdle p → (Fires around (made counts p) statement exchanges → ⊥) → Held (mean_of levels statement around) p exchanges exit new
     → Closed around statement p exchanges exit new
-mean_closed levels around statement p new exchanges exit is idle calm held = by_ways (mean_finished levels around statement p new exchanges exit none_open (idle_agrees p idle) is held)
+mean_closed levels around statement p new exchanges exit is idle calm held = by_ways (mean_finished levels around statement p new exchanges exit none_open (idle_agrees p idle) is (unseen_off p (form_of statement) idle.seen) held)
   where
     by_ended : Finished around statement (made counts p) new exchanges exit none_open (idle_agrees p idle) → Ended around statement (made counts p) new exchanges exit none_open (idle_agrees p idle) → Closed around statement p exchanges exit new
     by_ended finished (sent, planned, tokens, ended, leaves) =
-        let closed = closed_leaves p.is_open new.is_open exchanges planned idle.shut leaves in
-        let shut = finished.idle (idle.closed, idle.sound) in
+        let closed = closed_leaves p.is_open new.is_open exchanges planned idle.none.shut leaves in
+        let shut = finished.idle (idle.none.closed, idle.none.sound) in
         let stays = finished.stays in
         record {
           sent = sent;
@@ -69,7 +71,7 @@ mean_closed levels around statement p new exchanges exit is idle calm held = by_
           ended = ended;
           none = closed.1;
           commits = closed.2;
-          idle = record { shut = closed.0; closed = shut.0; sound = shut.1 };
+          idle = record { none = record { shut = closed.0; closed = shut.0; sound = shut.1 }; seen = ap (λ (s : Settings). s.implicit) stays.settings ∙ idle.seen };
           stays = record { settings = stays.settings; serial = stays.serial; cursors = stays.cursors; fetched = stays.fetched };
         }
 
@@ -79,25 +81,23 @@ mean_closed levels around statement p new exchanges exit is idle calm held = by_
 
 -- ---- triggers among statements
 
--- this one, as it begins, has fired them
-pub fires_here : (around : Around) (statement : Statement) (others : List Statement) (p : SessionProgress) (exchanges front back : List Exchange) → IsIdle p → exchanges ≡ front ++ back → Fires around (made counts p) statement front → FiresAmong around (statement ∷ others) exchanges
-fires_here around statement others p exchanges front back idle parts fires = record {
+-- this one has fired them, in a session and behind a part of what it asked
+pub some_here : (around : Around) (statement : Statement) (others : List Statement) (q : SessionProgress) (exchanges earlier path back : List Exchange) → exchanges ≡ (earlier ++ path) ++ back → Fires around q statement path → FiresSome around (statement ∷ others) exchanges
+some_here around statement others q exchanges earlier path back parts fires = record {
   ahead = [];
   statement = statement;
   others = others;
   among = refl;
-  earlier = [];
-  path = exchanges;
-  parts = refl;
-  none = refl;
-  old = made counts p;
-  idle = counts_idle p idle;
-  fires = fires_further around (made counts p) statement front back exchanges parts fires;
+  earlier = earlier;
+  path = path ++ back;
+  parts = parts ∙ append_assoc earlier path back;
+  old = q;
+  fires = fires_further around q statement path back (path ++ back) refl fires;
 }
 
 -- or one of the others has
-pub fires_later : (around : Around) (statement : Statement) (others : List Statement) (exchanges front back : List Exchange) → exchanges ≡ front ++ back → progress_of front ≡ none_open → FiresAmong around others back → FiresAmong around (statement ∷ others) exchanges
-fires_later around statement others exchanges front back parts none f = record {
+pub some_later : (around : Around) (statement : Statement) (others : List Statement) (exchanges front back : List Exchange) → exchanges ≡ front ++ back → FiresSome around others back → FiresSome around (statement ∷ others) exchanges
+some_later around statement others exchanges front back parts f = record {
   ahead = statement ∷ f.ahead;
   statement = f.statement;
   others = f.others;
@@ -105,10 +105,22 @@ fires_later around statement others exchanges front back parts none f = record {
   earlier = front ++ f.earlier;
   path = f.path;
   parts = parts ∙ ap (λ (l : List Exchange). front ++ l) f.parts ∙ sym (append_assoc front f.earlier f.path);
-  none = from_both none_open front f.earlier ∙ ap (λ (s : Stand). progress_from s f.earlier) none ∙ f.none;
   old = f.old;
-  idle = f.idle;
   fires = f.fires;
+}
+
+-- this one, as it begins, has fired them
+pub fires_here : (around : Around) (statement : Statement) (others : List Statement) (p : SessionProgress) (exchanges front back : List Exchange) → IsIdle p → exchanges ≡ front ++ back → Fires around (made counts p) statement front → FiresAmong around (statement ∷ others) exchanges
+unfolding some_here
+fires_here around statement others p exchanges front back idle parts fires =
+    record { some = some_here around statement others (made counts p) exchanges [] front back parts fires; none = refl; idle = counts_idle p idle }
+
+pub fires_later : (around : Around) (statement : Statement) (others : List Statement) (exchanges front back : List Exchange) → exchanges ≡ front ++ back → progress_of front ≡ none_open → FiresAmong around others back → FiresAmong around (statement ∷ others) exchanges
+unfolding some_later
+fires_later around statement others exchanges front back parts none f = record {
+  some = some_later around statement others exchanges front back parts f.some;
+  none = from_both none_open front f.some.earlier ∙ ap (λ (s : Stand). progress_from s f.some.earlier) none ∙ f.none;
+  idle = f.idle;
 }
 
 -- ---- one behind another
@@ -178,17 +190,19 @@ plain_run levels around statements old new exchanges exit plain_all idle calm he
 -- in front of more exchanges
 pub fires_first : (around : Around) (statements : List Statement) (exchanges front back : List Exchange) → exchanges ≡ front ++ back → FiresAmong around statements front → FiresAmong around statements exchanges
 fires_first around statements exchanges front back parts f = record {
-  ahead = f.ahead;
-  statement = f.statement;
-  others = f.others;
-  among = f.among;
-  earlier = f.earlier;
-  path = f.path ++ back;
-  parts = parts ∙ ap (λ (l : List Exchange). l ++ back) f.parts ∙ append_assoc f.earlier f.path back;
+  some = record {
+    ahead = f.some.ahead;
+    statement = f.some.statement;
+    others = f.some.others;
+    among = f.some.among;
+    earlier = f.some.earlier;
+    path = f.some.path ++ back;
+    parts = parts ∙ ap (λ (l : List Exchange). l ++ back) f.some.parts ∙ append_assoc f.some.earlier f.some.path back;
+    old = f.some.old;
+    fires = fires_further around f.some.old f.some.statement f.some.path back (f.some.path ++ back) refl f.some.fires;
+  };
   none = f.none;
-  old = f.old;
   idle = f.idle;
-  fires = fires_further around f.old f.statement f.path back (f.path ++ back) refl f.fires;
 }
 
 pub ends_held : (exit : Exit) (p new : SessionProgress) (exchanges : List Exchange) (done : Unit {0}) → p.txn.doomed ≡ false → Held (ends exit) p exchanges done new → (exchanges ≡ []) × (new ≡ made (sends (batch_done (has_failed exit) ∷ [])) p)
@@ -204,9 +218,9 @@ unfolding batch Held
 batch_runs statements old new exchanges plain_all idle calm held =
     let begun : SessionProgress = made (begins (vars_of statements)) old in
     let on = held_apart (meaning statement_limit statements around_batch) ends begun new exchanges tt held in
-    let now : IsIdle begun = record { shut = idle.shut; closed = idle.closed; sound = idle.sound } in
+    let now : IsIdle begun = record { none = record { shut = idle.none.shut; closed = idle.none.closed; sound = idle.none.sound }; seen = idle.seen } in
     let ran = run_held statement_limit around_batch statements begun on.mid on.front on.came plain_all now (λ fires. calm (fires_first around_batch statements exchanges on.front on.back on.parts fires)) on.held in
-    by_ran begun on.front on.back on.mid on.came on.parts refl ran (ends_held on.came on.mid new on.back tt ran.2.sound on.rest)
+    by_ran begun on.front on.back on.mid on.came on.parts refl ran (ends_held on.came on.mid new on.back tt ran.2.none.sound on.rest)
   where
     by_ran : (begun : SessionProgress) (front back : List Exchange) (mid : SessionProgress) (exit : Exit) → exchanges ≡ front ++ back → begun ≡ made (begins (vars_of statements)) old → Ran statement_limit around_batch statements begun front exit mid
         → (back ≡ []) × (new ≡ made (sends (batch_done (has_failed exit) ∷ [])) mid)
@@ -222,7 +236,7 @@ batch_runs statements old new exchanges plain_all idle calm held =
             subst (λ (q : SessionProgress). Runs around_batch statements q exit ran.0.0 (commits_of exchanges) exchanges mid) same (subst (λ (l : List Exchange). Runs around_batch statements begun exit ran.0.0 (commits_of l) l mid) whole ran.0.2),
           ),
           subst (λ (l : List Exchange). progress_of l ≡ none_open) whole ran.1,
-          subst IsIdle (sym end.1) (record { shut = ran.2.shut; closed = ran.2.closed; sound = ran.2.sound }),
+          subst IsIdle (sym end.1) (record { none = record { shut = ran.2.none.shut; closed = ran.2.none.closed; sound = ran.2.none.sound }; seen = ran.2.seen }),
         )
 
 -- ---- a text that is refused

@@ -1,6 +1,7 @@
 -- What a statement that may begin does, by its form.
-use Rattle.std.proofs.Common.{◌≡◌, ◌⊎◌, inl, inr, ℕ, ℤ, zero, suc, pos, Bool, true, false, if◌then◌else◌, is_ok, List, [], ◌∷◌, ◌++◌, Option, None, Some, Result, Ok, Err, refl, sym, ap, ◌∙◌, subst, append-nil}
-use Rattle.std.specs.Prelude.{◌&&◌, ◌==◌, nat_le, nat_lt}
+use Rattle.std.proofs.Common.{◌≡◌, ◌⊎◌, inl, inr, ℕ, ℤ, zero, suc, pos, Bool, true, false, if◌then◌else◌, is_ok, List, [], ◌∷◌, ◌++◌, Option, None, Some, Result, Ok, Err, refl, sym, ap, ◌∙◌, subst, append-nil, arith}
+use Rattle.std.proofs.lemmas.Bool.{ne_eqb}
+use Rattle.std.specs.Prelude.{◌-◌, ◌&&◌, ◌==◌, nat_le, nat_lt}
 use Rattle.tsql_tree.specs.declared.definition.TriggerTree.{TriggerTree}
 use Rattle.tsql_tree.specs.declared.statement.Argument.{Argument}
 use Rattle.tsql_tree.specs.declared.statement.Form.{Form-F}
@@ -10,7 +11,6 @@ use Rattle.binder.specs.Names.{Layer, form_of}
 use Rattle.error_table.specs.declared.action.Action.{Action}
 use Rattle.step_model.specs.Exchange.{Exchange}
 use Rattle.step_model.specs.Ranges.{no_memory}
-use Rattle.txn_rules.specs.declared.state.TxnState.{TxnState}
 use Rattle.tds_tokens.specs.declared.token.Token.{Token}
 use Rattle.batch_meaning.specs.declared.exit.Exit.{Exit}
 use Rattle.batch_meaning.specs.declared.exit.Exit.TheVariants.{On, Leave, Again, Return, Raise, RaiseUp, End}
@@ -27,7 +27,7 @@ use Rattle.batch_meaning.specs.Databases.{uses_database}
 use Rattle.batch_meaning.specs.Doing.{Doing, makes, over, reads, ◌then◌, Held}
 use Rattle.batch_meaning.specs.Failures.{plain}
 use Rattle.batch_meaning.specs.Firing.{closes_own, in_trigger, leaves_fired, relaxes_then, trigger_end, undone_to}
-use Rattle.batch_meaning.specs.Meaning.{Meaning, branch, calls, counted, decides, does, doomed_write, each_of, effect_of, ends_call, ends_even, ends_uneven, fails_for, fires, gives_back, handled, is_refused_doomed, line_of, mean_by, mean_form, mean_of, raises, raises_again, raises_or_tells, returns_from, runs_body, runs_call, runs_fired, runs_trigger, runs_triggers, set_by, spends, statements_spent, succeeds, tells, tries, turned, turns, turns_again, uneven_end, uneven_tokens, unless_stopped, where_it_fits, writes, written}
+use Rattle.batch_meaning.specs.Meaning.{Meaning, begun_unseen, behind_unseen, branch, calls, counted, decides, does, doomed_write, each_of, effect_of, ends_call, ends_even, ends_uneven, fails_for, fires, gives_back, handled, is_even, is_refused_doomed, line_of, mean_by, mean_form, mean_of, raises, raises_again, raises_or_tells, returns_from, runs_body, runs_call, runs_fired, runs_trigger, runs_triggers, set_by, spends, statements_spent, succeeds, tells, tries, turned, turns, turns_again, uneven_end, uneven_tokens, unless_stopped, where_it_fits, writes, written}
 use Rattle.batch_meaning.specs.Progress.{SessionProgress, assigns, counts, fires_from, made, sends, sets, size_of, stands_with, tells_error, tells_rows}
 use Rattle.batch_meaning.specs.Raised.{Around, action_in, again, in_body, in_catch, in_try, info_token, is_caught_in, raised_in}
 use Rattle.batch_meaning.specs.Selecting.{Effect, no_effect, result_full, sending}
@@ -35,18 +35,22 @@ use Rattle.batch_meaning.specs.Settings.{outside_profile, set_option}
 use Rattle.batch_meaning.specs.Statements.{vars_of}
 use Rattle.batch_meaning.specs.Tokens.{command_of, procedure_done}
 use Rattle.batch_meaning.specs.Transactions.{begins_transaction, commits_transaction, rolls_back_transaction, saves_transaction}
+use Rattle.batch_meaning.specs.Unseen.{is_unseen}
 use Rattle.batch_meaning.specs.Values.{Assigned, is_message}
 use Rattle.batch_meaning.specs.Working.{composes, relaxes, tests}
 use Rattle.batch_meaning.specs.Writes.{Written}
 use Rattle.statement_paths.specs.Paths.{IsFired, IsUnfired, is_write}
 use Rattle.statement_paths.proofs.Apart.{held_apart}
 use Rattle.batch_laws.specs.Committing.{assigned_all}
-use Rattle.batch_laws.specs.Control.{AreRun, Calls, Composes, Controls, EndsCall, FiresBy, Gives, GivesBack, GoesOn, IsLeft, Returns, RunsBody, RunsCall, RunsFired, RunsTriggers, UnlessFull, UnlessStopped, Writes, WritesTo, WrittenBy, comes_by, told_uneven, uneven_raised, DoomedStrikes, FormControls, Handles, Loops, NamedDoes, Rethrows, Sends, SendsBy, Sets, SpentStrikes, StrikesAtOnce, Takes, TestStrikes, TurnsBy, is_refused, work_named}
+use Rattle.batch_laws.specs.Control.{AreRun, Calls, Composes, Controls, DoomedStrikes, EndsCall, FiresBy, FormControls, Gives, GivesBack, GoesOn, Handles, IsLeft, IsSeen, Loops, NamedDoes, Rethrows, Returns, RunsBody, RunsCall, RunsFired, RunsTriggers, Sends, SendsBy, Sets, SpentStrikes, StrikesAtOnce, Takes, TestStrikes, TurnsBy, UnlessFull, UnlessStopped, Writes, WritesTo, WrittenBy, comes_by, is_refused, told_uneven, uneven_raised, work_named}
 use Rattle.batch_laws.specs.Laws.{GoesBy}
+use Rattle.batch_laws.specs.Transactions.{Begins}
+use Rattle.batch_laws.specs.Unseen.{UnseenBegins, UnseenGoes, to_begin}
 use Rattle.batch_laws.proofs.Idle.{Behind}
 use Rattle.batch_laws.proofs.Ending.{HasTold, StruckBy, caught_held, counted_raises_held, ended_held, fails_held, raises_held, succeeds_held}
 use Rattle.batch_laws.proofs.Writing.{UnlessErr, write_apart}
 use Rattle.batch_laws.proofs.Telling.{work_tells}
+use Rattle.batch_laws.proofs.Unseen.{held_seen, seen_held, unseen_held, unseen_open}
 
 -- ---- whether it begins
 
@@ -59,27 +63,32 @@ module _ (around : Around) (statement : Statement) (old new : SessionProgress) (
     one inner at = mean_of levels inner at
 
     -- it has begun
-    begun_held : (old.statements_left == 0) ≡ false → Held (mean_of (suc levels) statement around) old exchanges exit new → Held (mean_by one statement around) (made counts old) exchanges exit new
+    begun_held : (old.statements_left == 0) ≡ false → Held (mean_of (suc levels) statement around) old exchanges exit new → Held (begun_unseen (λ q. is_unseen q (form_of statement)) (fails_for around statement) (mean_by one statement around)) (made counts old) exchanges exit new
     unfolding mean_of Held
     begun_held left held = by_left (old.statements_left == 0) left held
       where
-        by_left : (spent : Bool) → spent ≡ false → Held (if spent then spends statement around else makes counts (mean_by one statement around)) old exchanges exit new → Held (mean_by one statement around) (made counts old) exchanges exit new
+        by_left : (spent : Bool) → spent ≡ false → Held (if spent then spends statement around else makes counts (begun_unseen (λ q. is_unseen q (form_of statement)) (fails_for around statement) (mean_by one statement around))) old exchanges exit new
+            → Held (begun_unseen (λ q. is_unseen q (form_of statement)) (fails_for around statement) (mean_by one statement around)) (made counts old) exchanges exit new
         by_left true is was = absurd (let no : true ≡ false = is in cc)
         by_left false is was = was
 
+    -- with no transaction that is begun unseen
+    no_unseen_held : (old.statements_left == 0) ≡ false → IsSeen old statement → Held (mean_of (suc levels) statement around) old exchanges exit new → Held (mean_by one statement around) (made counts old) exchanges exit new
+    no_unseen_held left seen held = seen_held (λ q. is_unseen q (form_of statement)) (fails_for around statement) (mean_by one statement around) (made counts old) new exchanges exit seen (begun_held left held)
+
     -- and does what its form means
-    form_held : (old.statements_left == 0) ≡ false → is_refused old statement ≡ false → Held (mean_of (suc levels) statement around) old exchanges exit new → Held (mean_form one around statement (form_of statement)) (made counts old) exchanges exit new
+    form_held : (old.statements_left == 0) ≡ false → IsSeen old statement → is_refused old statement ≡ false → Held (mean_of (suc levels) statement around) old exchanges exit new → Held (mean_form one around statement (form_of statement)) (made counts old) exchanges exit new
     unfolding mean_by Held
-    form_held left allowed held = by_doom (old.txn.doomed && is_refused_doomed (form_of statement)) allowed (begun_held left held)
+    form_held left seen allowed held = by_doom (old.txn.doomed && is_refused_doomed (form_of statement)) allowed (no_unseen_held left seen held)
       where
         by_doom : (refused : Bool) → refused ≡ false → Held (if refused then fails_for around statement (plain doomed_write) else mean_form one around statement (form_of statement)) (made counts old) exchanges exit new
             → Held (mean_form one around statement (form_of statement)) (made counts old) exchanges exit new
         by_doom true is was = absurd (let no : true ≡ false = is in cc)
         by_doom false is was = was
 
-    doomed_held : (old.statements_left == 0) ≡ false → is_refused old statement ≡ true → Held (mean_of (suc levels) statement around) old exchanges exit new → Held (fails_for around statement (plain doomed_write)) (made counts old) exchanges exit new
+    doomed_held : (old.statements_left == 0) ≡ false → IsSeen old statement → is_refused old statement ≡ true → Held (mean_of (suc levels) statement around) old exchanges exit new → Held (fails_for around statement (plain doomed_write)) (made counts old) exchanges exit new
     unfolding mean_by Held
-    doomed_held left refused held = by_doom (old.txn.doomed && is_refused_doomed (form_of statement)) refused (begun_held left held)
+    doomed_held left seen refused held = by_doom (old.txn.doomed && is_refused_doomed (form_of statement)) refused (no_unseen_held left seen held)
       where
         by_doom : (refused : Bool) → refused ≡ true → Held (if refused then fails_for around statement (plain doomed_write) else mean_form one around statement (form_of statement)) (made counts old) exchanges exit new
             → Held (fails_for around statement (plain doomed_write)) (made counts old) exchanges exit new
@@ -91,14 +100,49 @@ unfolding mean_of Held
 spent_strikes zero around statement old new exchanges exit spent held = spent_strikes_at around statement old new exchanges exit held
 spent_strikes (suc levels) around statement old new exchanges exit spent held = by_left (old.statements_left == 0) spent held
   where
-    by_left : (left : Bool) → left ≡ true → Held (if left then spends statement around else makes counts (mean_by (λ inner at. mean_of levels inner at) statement around)) old exchanges exit new → StrikesAtOnce around old old statement statements_spent exchanges exit new
+    by_left : (left : Bool) → left ≡ true → Held (if left then spends statement around else makes counts (begun_unseen (λ q. is_unseen q (form_of statement)) (fails_for around statement) (mean_by (λ inner at. mean_of levels inner at) statement around))) old exchanges exit new → StrikesAtOnce around old old statement statements_spent exchanges exit new
     by_left true is was = spent_strikes_at around statement old new exchanges exit was
     by_left false is was = absurd (let no : false ≡ true = is in cc)
 
 pub doomed_strikes : DoomedStrikes
-doomed_strikes levels around statement old new exchanges exit left refused held =
-    let struck = fails_held around statement (plain doomed_write) (made counts old) new exchanges exit (doomed_held around statement old new exchanges exit levels left refused held) in
+doomed_strikes levels around statement old new exchanges exit left seen refused held =
+    let struck = fails_held around statement (plain doomed_write) (made counts old) new exchanges exit (doomed_held around statement old new exchanges exit levels left seen refused held) in
     (struck.tokens, struck.sent, struck.strikes)
+
+-- in a transaction that is open it does what it means, as it begins
+pub mean_again : (levels : ℕ) (around : Around) (statement : Statement) (p new : SessionProgress) (exchanges : List Exchange) (exit : Exit) → p.is_open ≡ true → Held (mean_by (λ inner at. mean_of levels inner at) statement around) p exchanges exit new
+    → Held (mean_of (suc levels) statement around) (to_begin p) exchanges exit new
+unfolding mean_of Held
+mean_again levels around statement p new exchanges exit begun held = by_left (suc p.statements_left == 0) (ne_eqb (suc p.statements_left) 0 (λ is. omega (arith, is)))
+  where
+    Next : Doing Exit
+    Next = mean_by (λ inner at. mean_of levels inner at) statement around
+
+    less : suc p.statements_left - 1 ≡ p.statements_left
+    less = omega arith
+
+    same : made counts (to_begin p) ≡ p
+    same = ap (λ (n : ℕ). record p { statements_left = n }) less
+
+    by_left : (spent : Bool) → spent ≡ false → Held (if spent then spends statement around else makes counts (begun_unseen (λ q. is_unseen q (form_of statement)) (fails_for around statement) Next)) (to_begin p) exchanges exit new
+    by_left true is = absurd (let no : true ≡ false = is in cc)
+    by_left false is = subst (λ (s : SessionProgress). Held (begun_unseen (λ q. is_unseen q (form_of statement)) (fails_for around statement) Next) s exchanges exit new) (sym same)
+        (held_seen (λ q. is_unseen q (form_of statement)) (fails_for around statement) Next p new exchanges exit (unseen_open p (form_of statement) begun) held)
+
+pub unseen_begins : UnseenBegins
+unfolding Held
+unseen_begins levels around statement old new exchanges exit left unseen held =
+    let on = unseen_held (λ q. is_unseen q (form_of statement)) (fails_for around statement) Next (made counts old) new exchanges exit unseen (begun_held around statement old new exchanges exit levels left held) in
+    (on.0, on.1, on.2, on.3, on.4, on.5, by_came on.3 on.0 on.1 on.2 on.5 on.6)
+  where
+    Next : Doing Exit
+    Next = mean_by (λ inner at. mean_of levels inner at) statement around
+
+    by_came : (came : Result Effect Failure) (front back : List Exchange) (mid : SessionProgress) → Begins (made counts old) None false came front mid → Held (behind_unseen (fails_for around statement) Next came) mid back exit new
+        → UnseenGoes levels around statement came mid back exit new
+    by_came (Ok effect) front back mid was goes =
+        mean_again levels around statement (made (sends effect.tokens) mid) new back exit (ap (λ (s : SessionProgress). s.is_open) was.2) goes
+    by_came (Err failure) front back mid was goes = let struck = fails_held around statement failure mid new back exit goes in (struck.tokens, struck.sent, struck.strikes)
 
 -- ---- its own work
 
@@ -125,10 +169,10 @@ module _ (one : Statement → Meaning) (around : Around) (statement : Statement)
 
 pub named_does : NamedDoes
 unfolding does
-named_does levels around statement work old new exchanges exit left allowed is held =
+named_does levels around statement work old new exchanges exit left seen allowed is held =
     work_tells Effect around statement exit (λ effect. succeeds statement effect (over On)) work (made counts old) new exchanges
     (let did : Does (λ inner at. mean_of levels inner at) around statement (made counts old) new exchanges exit work = named_held (λ inner at. mean_of levels inner at) around statement (made counts old) new exchanges exit (form_of statement) work is
-    (form_held around statement old new exchanges exit levels left allowed held) in did)
+    (form_held around statement old new exchanges exit levels left seen allowed held) in did)
 
 -- ---- statements that hold others
 
@@ -277,9 +321,9 @@ module _ (levels : ℕ) (around : Around) (statement : Statement) (p new : Sessi
       let struck = uneven_struck status q later (is_caught_in around (uneven_raised levels around statement)) (action_in around q.settings.xact_abort (uneven_raised levels around statement)) was in
       (struck.0.tokens, struck.0.sent, (struck.0.strikes, struck.0.error), struck.1)) held
 
-  ends_call_held : (count : ℕ) (status : ℤ) (q : SessionProgress) (later : List Exchange) → Held (ends_call around statement count status) q later exit new → EndsCall levels around statement (q.txn.count == count) status q later exit new
+  ends_call_held : (count : ℕ) (status : ℤ) (q : SessionProgress) (later : List Exchange) → Held (ends_call around statement count status) q later exit new → EndsCall levels around statement (is_even q count) status q later exit new
   unfolding Held
-  ends_call_held count status q later held = by_count (q.txn.count == count) held
+  ends_call_held count status q later held = by_count (is_even q count) held
     where
       by_count : (test : Bool) → Held (if test then ends_even around statement status else ends_uneven around statement status (uneven_raised levels around statement)) q later exit new → EndsCall levels around statement test status q later exit new
       by_count true was = even_held status q later was
@@ -290,9 +334,9 @@ module _ (levels : ℕ) (around : Around) (statement : Statement) (p new : Sessi
   assigns_on [] next q later held = held
   assigns_on (one ∷ assigned) next q later held = assigns_on assigned next (made (assigns one.0 one.1) q) later held
 
-  assigned_txn : (assigned : List Assigned) (q : SessionProgress) → (assigned_all assigned q).txn ≡ q.txn
-  assigned_txn [] q = refl
-  assigned_txn (one ∷ assigned) q = assigned_txn assigned (made (assigns one.0 one.1) q)
+  assigned_even : (count : ℕ) (assigned : List Assigned) (q : SessionProgress) → is_even (assigned_all assigned q) count ≡ is_even q count
+  assigned_even count [] q = refl
+  assigned_even count (one ∷ assigned) q = assigned_even count assigned (made (assigns one.0 one.1) q)
 
   module _ (variable : Option (List ℕ)) (arguments : List Argument) where
     given_held : (call : Call) (count : ℕ) (vars : List Variable) (status : ℤ) (q : SessionProgress) (later : List Exchange) → Held (gives_back around statement variable arguments call count vars status) q later exit new
@@ -305,7 +349,7 @@ module _ (levels : ℕ) (around : Around) (statement : Statement) (p new : Sessi
         goes_by : (given : Result (List Assigned) Failure) (mid : SessionProgress) (back : List Exchange) → GoesBy around mid statement (λ assigned. assigns_all assigned (ends_call around statement count status)) exit given back new
             → GivesBack levels around statement count status given mid back exit new
         goes_by (Ok assigned) mid back goes =
-            subst (λ (t : TxnState). EndsCall levels around statement (t.count == count) status (assigned_all assigned mid) back exit new) (assigned_txn assigned mid)
+            subst (λ (even : Bool). EndsCall levels around statement even status (assigned_all assigned mid) back exit new) (assigned_even count assigned mid)
             (ends_call_held count status (assigned_all assigned mid) back (assigns_on assigned (ends_call around statement count status) mid back goes))
         goes_by (Err failure) mid back goes = goes
 
@@ -467,5 +511,5 @@ module _ (levels : ℕ) (around : Around) (statement : Statement) (p new : Sessi
   controls_held form is held = tt
 
 pub form_controls : FormControls
-form_controls levels around statement old new exchanges exit left allowed held =
-    controls_held levels around statement (made counts old) new exchanges exit (form_of statement) refl (form_held around statement old new exchanges exit levels left allowed held)
+form_controls levels around statement old new exchanges exit left seen allowed held =
+    controls_held levels around statement (made counts old) new exchanges exit (form_of statement) refl (form_held around statement old new exchanges exit levels left seen allowed held)

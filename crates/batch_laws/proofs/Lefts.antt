@@ -28,12 +28,13 @@ use Rattle.batch_meaning.specs.declared.stop.Stop.TheVariants.{Failed, Left as L
 use Rattle.batch_meaning.specs.Asking.{assigns_all, where_ended}
 use Rattle.batch_meaning.specs.Doing.{Doing, over, makes, asks, ◌then◌, Held, Left}
 use Rattle.batch_meaning.specs.Failures.{plain}
-use Rattle.batch_meaning.specs.Meaning.{Meaning, batch, caught_as, concluded, concludes, does, doomed_write, each_of, ended_by, ends, ends_doomed, fails_for, fires, goes_on, has_failed, is_refused_doomed, leaves_rows, line_of, mean_by, mean_form, mean_of, meaning, or_full, raises, raises_at, rolls_back_told, sends_some, spends, strikes, succeeds, told_unless_own, writes, written}
+use Rattle.batch_meaning.specs.Meaning.{Meaning, batch, begun_unseen, caught_as, concluded, concludes, does, doomed_write, each_of, ended_by, ends, ends_doomed, fails_for, fires, goes_on, has_failed, is_refused_doomed, leaves_rows, line_of, mean_by, mean_form, mean_of, meaning, or_full, raises, raises_at, rolls_back_told, sends_some, spends, strikes, succeeds, told_unless_own, writes, written}
 use Rattle.batch_meaning.specs.Progress.{SessionProgress, begins, counts, made, sends, statement_limit, tells_rows}
 use Rattle.batch_meaning.specs.Raised.{Around, action_in, around_batch, is_caught_in}
 use Rattle.batch_meaning.specs.Selecting.{Effect, no_effect}
 use Rattle.batch_meaning.specs.Statements.{vars_of}
 use Rattle.batch_meaning.specs.Tokens.{batch_done, command_of}
+use Rattle.batch_meaning.specs.Unseen.{is_unseen}
 use Rattle.batch_meaning.specs.Values.{Assigned}
 use Rattle.batch_meaning.specs.Working.{asks_any, known_by, status_bound, statuses}
 use Rattle.statement_paths.specs.Paths.{HasDone, HasFailedIn, HasReturned, IsAround, IsFired, IsRelaxed, IsReturned, IsStatus, IsUnfired, NoneCommits, asks_of, is_write, replied, work_for, work_of}
@@ -52,6 +53,7 @@ use Rattle.batch_laws.proofs.Batches.{Closed, fires_first, fires_here, fires_lat
 use Rattle.batch_laws.proofs.Leaving.{Wrote, commits_both, wrote_done, wrote_failed, wrote_returned}
 use Rattle.batch_laws.proofs.Statements.{done_leaves}
 use Rattle.batch_laws.proofs.Turns.{done_by, fires_further, fires_so, is_done, write_done_by}
+use Rattle.batch_laws.proofs.Unseen.{seen_left, unseen_off}
 
 -- ---- no commit
 
@@ -324,20 +326,23 @@ module _ (around : Around) (statement : Statement) (p : SessionProgress) (shut :
   form_went one new exchanges (Form-F.Delete table filter) is plain_one left = writes_went one new exchanges (Form-F.Delete table filter) is refl left
   form_went one new exchanges form is plain_one left = inl (does_went new exchanges form is refl (subst (λ (f : Layer). Left (does around statement On (work_for around statement f)) p exchanges new) (sym is) left))
 
-pub mean_went : (levels : ℕ) (around : Around) (statement : Statement) (p new : SessionProgress) (exchanges : List Exchange) → is_plain (form_of statement) ≡ true → p.is_open ≡ false → Left (mean_of levels statement around) p exchanges new → WentOr around (made counts p) statement exchanges
+pub mean_went : (levels : ℕ) (around : Around) (statement : Statement) (p new : SessionProgress) (exchanges : List Exchange) → is_plain (form_of statement) ≡ true → p.is_open ≡ false → p.settings.implicit ≡ false → Left (mean_of levels statement around) p exchanges new → WentOr around (made counts p) statement exchanges
 unfolding mean_of mean_by Left
-mean_went zero around statement p new exchanges is shut left = inl (inl (calm_left (spends statement around) p new exchanges (spends_calm around statement) left))
-mean_went (suc levels) around statement p new exchanges is shut left = by_spent (p.statements_left == 0) left
+mean_went zero around statement p new exchanges is shut off left = inl (inl (calm_left (spends statement around) p new exchanges (spends_calm around statement) left))
+mean_went (suc levels) around statement p new exchanges is shut off left = by_spent (p.statements_left == 0) left
   where
+    Next : Doing Exit
+    Next = mean_by (λ inner at. mean_of levels inner at) statement around
+
     by_doom : (refused : Bool) → Left (if refused then fails_for around statement (plain doomed_write) else mean_form (λ inner at. mean_of levels inner at) around statement (form_of statement)) (made counts p) exchanges new → WentOr around (made counts p) statement exchanges
     by_doom true was = inl (inl (calm_left (fails_for around statement (plain doomed_write)) (made counts p) new exchanges (fails_calm around statement (plain doomed_write)) was))
     by_doom false was = form_went around statement (made counts p) shut (λ inner at. mean_of levels inner at) new exchanges (form_of statement) refl is was
 
-    by_count : ((exchanges ≡ []) × (new ≡ p)) ⊎ Left (mean_by (λ inner at. mean_of levels inner at) statement around) (made counts p) exchanges new → WentOr around (made counts p) statement exchanges
+    by_count : ((exchanges ≡ []) × (new ≡ p)) ⊎ Left (begun_unseen (λ q. is_unseen q (form_of statement)) (fails_for around statement) Next) (made counts p) exchanges new → WentOr around (made counts p) statement exchanges
     by_count (inl here) = inl (inl (subst NoneCommits (sym here.0) tt))
-    by_count (inr later) = by_doom ((made counts p).txn.doomed && is_refused_doomed (form_of statement)) later
+    by_count (inr later) = by_doom ((made counts p).txn.doomed && is_refused_doomed (form_of statement)) (seen_left (λ q. is_unseen q (form_of statement)) (fails_for around statement) Next (made counts p) new exchanges (unseen_off p (form_of statement) off) later)
 
-    by_spent : (spent : Bool) → Left (if spent then spends statement around else makes counts (mean_by (λ inner at. mean_of levels inner at) statement around)) p exchanges new → WentOr around (made counts p) statement exchanges
+    by_spent : (spent : Bool) → Left (if spent then spends statement around else makes counts (begun_unseen (λ q. is_unseen q (form_of statement)) (fails_for around statement) Next)) p exchanges new → WentOr around (made counts p) statement exchanges
     by_spent true was = inl (inl (calm_left (spends statement around) p new exchanges (spends_calm around statement) was))
     by_spent false was = by_count was
 
@@ -393,7 +398,7 @@ module _ (levels : ℕ) (around : Around) where
 
       by_left : ((q : SessionProgress) (back : List Exchange) → IsIdle q → NoneFires around others back → Left (each_of one others around) q back new → LeftRuns around others q (commits_of back) back)
           → Left (one statement around) p exchanges new ⊎ Apart (one statement around) p exchanges (λ came mid back. Left (goes_on (each_of one others around) came) mid back new) → LeftRuns around (statement ∷ others) p (commits_of exchanges) exchanges
-      by_left goes (inl here) = by_went (mean_went levels around statement p new exchanges plain_all.0 idle.shut here)
+      by_left goes (inl here) = by_went (mean_went levels around statement p new exchanges plain_all.0 idle.none.shut idle.seen here)
       by_left goes (inr on) =
           let first = mean_closed levels around statement p on.mid on.front on.came plain_all.0 idle (λ fires. calm (fires_here around statement others p exchanges on.front on.back idle on.parts fires)) on.held in
           by_came on.front on.back on.mid on.came on.parts first (λ q now rest. goes q on.back now (λ fires. calm (fires_later around statement others exchanges on.front on.back on.parts first.none fires)) rest) on.rest
@@ -421,7 +426,7 @@ left_run statements old new exchanges plain_all idle calm left = by_begins left
     begun = made (begins (vars_of statements)) old
 
     now : IsIdle begun
-    now = record { shut = idle.shut; closed = idle.closed; sound = idle.sound }
+    now = record { none = record { shut = idle.none.shut; closed = idle.none.closed; sound = idle.none.sound }; seen = idle.seen }
 
     by_apart : Left (meaning statement_limit statements around_batch) begun exchanges new ⊎ Apart (meaning statement_limit statements around_batch) begun exchanges (λ exit mid back. Left (ends exit) mid back new)
         → LeftRuns around_batch statements begun (commits_of exchanges) exchanges
@@ -429,7 +434,7 @@ left_run statements old new exchanges plain_all idle calm left = by_begins left
     by_apart (inr on) =
         let quiet : NoneFires around_batch statements on.front = λ fires. calm (fires_first around_batch statements exchanges on.front on.back on.parts fires) in
         let ran = plain_run statement_limit around_batch statements begun on.mid on.front on.came plain_all now quiet on.held in
-        let whole : on.front ≡ exchanges = sym (on.parts ∙ ap (λ (l : List Exchange). on.front ++ l) (ends_quiet on.came on.mid new on.back ran.2.sound on.rest) ∙ append-nil on.front) in
+        let whole : on.front ≡ exchanges = sym (on.parts ∙ ap (λ (l : List Exchange). on.front ++ l) (ends_quiet on.came on.mid new on.back ran.2.none.sound on.rest) ∙ append-nil on.front) in
         subst (λ (l : List Exchange). LeftRuns around_batch statements begun (commits_of l) l) whole
         (run_left statement_limit around_batch statements begun on.mid on.front plain_all now quiet (held_left (meaning statement_limit statements around_batch) begun on.mid on.front on.came on.held))
 

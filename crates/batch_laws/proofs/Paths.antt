@@ -114,7 +114,7 @@ went_ends around p statement others exchanges idle (inr (exit, planned, effect, 
 
 mean_ends : (levels : ℕ) (around : Around) (statement : Statement) (others : List Statement) (p new : SessionProgress) (exchanges : List Exchange) → is_plain (form_of statement) ≡ true → IsIdle p → NoneFires around (statement ∷ others) exchanges → Left (mean_of levels statement around) p exchanges new
     → CommitsEnd around (statement ∷ others) p.settings exchanges
-mean_ends levels around statement others p new exchanges is idle calm left = by_went (mean_went levels around statement p new exchanges is idle.shut left)
+mean_ends levels around statement others p new exchanges is idle calm left = by_went (mean_went levels around statement p new exchanges is idle.none.shut idle.seen left)
   where
     by_went : WentOr around (made counts p) statement exchanges → CommitsEnd around (statement ∷ others) p.settings exchanges
     by_went (inl went) = went_ends around (made counts p) statement others exchanges (counts_idle p idle) went
@@ -189,14 +189,14 @@ left_commits statements old new exchanges plain_all idle calm left = by_begins l
     begun = made (begins (vars_of statements)) old
 
     now : IsIdle begun
-    now = record { shut = idle.shut; closed = idle.closed; sound = idle.sound }
+    now = record { none = record { shut = idle.none.shut; closed = idle.none.closed; sound = idle.none.sound }; seen = idle.seen }
 
     by_apart : Left (meaning statement_limit statements around_batch) begun exchanges new ⊎ Apart (meaning statement_limit statements around_batch) begun exchanges (λ exit mid back. Left (ends exit) mid back new) → CommitsEnd around_batch statements old.settings exchanges
     by_apart (inl here) = run_ends statement_limit around_batch statements begun new exchanges plain_all now calm here
     by_apart (inr on) =
         let quiet : NoneFires around_batch statements on.front = λ fires. calm (fires_first around_batch statements exchanges on.front on.back on.parts fires) in
         let ran = plain_run statement_limit around_batch statements begun on.mid on.front on.came plain_all now quiet on.held in
-        let whole : on.front ≡ exchanges = sym (on.parts ∙ ap (λ (l : List Exchange). on.front ++ l) (ends_quiet on.came on.mid new on.back ran.2.sound on.rest) ∙ append-nil on.front) in
+        let whole : on.front ≡ exchanges = sym (on.parts ∙ ap (λ (l : List Exchange). on.front ++ l) (ends_quiet on.came on.mid new on.back ran.2.none.sound on.rest) ∙ append-nil on.front) in
         subst (CommitsEnd around_batch statements old.settings) whole
         (run_ends statement_limit around_batch statements begun on.mid on.front plain_all now quiet (held_left (meaning statement_limit statements around_batch) begun on.mid on.front on.came on.held))
 

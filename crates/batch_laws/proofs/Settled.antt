@@ -57,7 +57,7 @@ use Rattle.batch_meaning.specs.Databases.{uses_database}
 use Rattle.batch_meaning.specs.Doing.{Doing, asks, makes, over, reads, ◌then◌, Held}
 use Rattle.batch_meaning.specs.Failures.{plain}
 use Rattle.batch_meaning.specs.Firing.{closes_own, has_mark, in_trigger, leaves_fired, relaxes_then, settles, trigger_end, undone_to}
-use Rattle.batch_meaning.specs.Meaning.{Meaning, batch, branch, calls, caught_as, concluded, concludes, counted, decides, defined, defines_object, does, doomed_write, each_of, effect_of, ended_by, ends, ends_call, ends_doomed, ends_even, ends_uneven, ends_uneven_as, fails_for, fires, gives_back, goes_on, handled, has_failed, is_refused_doomed, leaves_rows, line_of, mean_by, mean_form, mean_of, or_full, raises, raises_again, raises_at, raises_or_tells, returns_from, rolls_back_doomed, rolls_back_told, runs_body, runs_call, runs_fired, runs_text, runs_trigger, runs_triggers, sends_some, set_by, sets_option, spends, strikes, succeeds, tells, tells_behind, tells_end, told_as, told_unless_own, tries, turned, turns, turns_again, uneven_end, uneven_tokens, unless_stopped, way_of, where_it_fits, writes, written}
+use Rattle.batch_meaning.specs.Meaning.{Meaning, batch, begun_unseen, behind_unseen, branch, calls, caught_as, concluded, concludes, counted, decides, defined, defines_object, does, doomed_write, each_of, effect_of, ended_by, ends, ends_call, ends_doomed, ends_even, ends_uneven, ends_uneven_as, fails_for, fires, gives_back, goes_on, handled, has_failed, is_even, is_refused_doomed, leaves_rows, line_of, mean_by, mean_form, mean_of, or_full, puts_object, raises, raises_again, raises_at, raises_or_tells, returns_from, rolls_back_doomed, rolls_back_told, runs_body, runs_call, runs_fired, runs_text, runs_trigger, runs_triggers, sends_some, set_by, sets_option, spends, strikes, succeeds, tells, tells_behind, tells_end, told_as, told_unless_own, tries, turned, turns, turns_again, uneven_end, uneven_tokens, unless_stopped, way_of, where_it_fits, writes, written}
 use Rattle.batch_meaning.specs.Rpc.{behind_batch, binds_call, defined_in, ending, ends_exec, ends_rpc, ends_rpc_doomed, error_or_full, execs, fails_call, finds_named, finds_read, gives_call_back, goes_on_with, is_too_many, leaves_body, mismatch, no_statement, object_in, returned, returns_uneven, rpc, rpc_arguments, rpc_statement, runs_exec, runs_rpc, runs_sql, runs_way, skips_place, tells_returned, tells_unless, tells_well}
 use Rattle.batch_meaning.specs.Progress.{SessionProgress, SessionStep, after_doom, asked, assigns, begins, closes_one, counts, declares, dooms, fetches, fills, fired_from, fires_from, made, opens, removes, saves, sends, sets, shuts, size_of, stands_with, statement_limit, tells_error, tells_fetch, tells_rows, touches}
 use Rattle.batch_meaning.specs.Raised.{Around, action_in, around_batch, in_body, in_catch, in_try, is_caught_in, raised_at, raised_in}
@@ -66,9 +66,11 @@ use Rattle.batch_meaning.specs.Settings.{outside_profile, set_option}
 use Rattle.batch_meaning.specs.Statements.{vars_of}
 use Rattle.batch_meaning.specs.Tokens.{batch_done, command_of, done_kind, procedure_done, rpc_done}
 use Rattle.batch_meaning.specs.Transactions.{begins_transaction, bound_first, commits_transaction, rolls_back_transaction, saves_transaction}
+use Rattle.batch_meaning.specs.Unseen.{is_unseen, wants_begin}
 use Rattle.batch_meaning.specs.Values.{Assigned, is_message, outside_limits}
 use Rattle.batch_meaning.specs.Working.{asks_any, binds, closes, composes, composes_bound, known_by, leaves, own, prepares, relaxes, status_bound, statuses, tests, tests_bound, within, works, works_bound}
 use Rattle.batch_meaning.specs.Writes.{Written, change_bound, creates, creates_definition, creates_table, drops, is_odd_list, is_odd_procedure, unless_objects}
+use Rattle.batch_meaning.proofs.Unseen.{unseen_shut, wanted_shut}
 use Rattle.statement_paths.specs.Paths.{IsEntered, IsFired, changes_of, is_write}
 use Rattle.statement_paths.proofs.Only.{AnyOp, Only, held_keeps, only_bind, only_comes, only_if, only_mono, only_naming}
 use Rattle.statement_paths.proofs.Apart.{held_apart}
@@ -84,6 +86,7 @@ use Rattle.batch_laws.proofs.Opened.{IsInside, inside_keeps, own_inside, owns_in
 use Rattle.batch_laws.proofs.Telling.{composes_read, tests_read}
 use Rattle.batch_laws.proofs.Transactions.{back_held, begin_held, close_held, save_held}
 use Rattle.batch_laws.proofs.Named.{calling_reads, dropping_works, trigger_works}
+use Rattle.batch_laws.proofs.Unseen.{seen_held, unseen_held}
 use Rattle.batch_laws.proofs.Writing.{Unfired, writes_apart}
 
 -- ---- numbers
@@ -540,7 +543,7 @@ uneven_settles around statement status raised caught action = fits_settles aroun
 
 ends_settle : (around : Around) (statement : Statement) (count : ℕ) (status : ℤ) → Settles (ends_call around statement count status)
 unfolding ends_even ends_uneven
-ends_settle around statement count status = reads_settles _ (λ p. if_settles (p.txn.count == count) (ends_even around statement status) (ends_uneven around statement status raised)
+ends_settle around statement count status = reads_settles _ (λ p. if_settles (is_even p count) (ends_even around statement status) (ends_uneven around statement status raised)
     (fits_settles around statement (procedure_done status) (succeeds statement (sending (procedure_done status)) (over On)) (succeeds_settles statement (sending (procedure_done status)) On))
     (reads_settles _ (λ q. uneven_settles around statement status raised (is_caught_in around raised) (action_in around q.settings.xact_abort raised))))
   where
@@ -836,15 +839,33 @@ module _ (one : Statement → Meaning) (each : (inner : Statement) (at : Around)
         (λ p. if_settles (p.txn.doomed && is_refused_doomed (form_of statement)) (fails_for around statement (plain doomed_write)) (mean_form one around statement (form_of statement))
         (fails_settles around statement (plain doomed_write)) (form_settles (form_of statement) refl))
 
+-- behind a transaction that is begun unseen
+begun_settles : (wants : SessionProgress → Bool) (fails : Failure → Doing Exit) (next : Doing Exit) → ((p : SessionProgress) → wants p ≡ true → p.is_open ≡ false) → ((failure : Failure) → Settles (fails failure)) → Settles next → Settles (begun_unseen wants fails next)
+begun_settles wants fails next shut failing more p new exchanges exit steady held = by_test (wants p) refl
+  where
+    by_came : (came : Result Effect Failure) → Settles (behind_unseen fails next came)
+    by_came (Ok effect) = makes_settles (sends effect.tokens) next tt more
+    by_came (Err failure) = failing failure
+
+    by_test : (unseen : Bool) → wants p ≡ unseen → IsSteady new
+    by_test true is =
+        let on = unseen_held wants fails next p new exchanges exit is held in
+        by_came on.3 on.2 new on.1 exit (begin_steady p on.2 on.0 steady None false on.3 (shut p is) on.5) on.6
+    by_test false is = more p new exchanges exit steady (seen_held wants fails next p new exchanges exit is held)
+
 -- ---- the cycle
 
 mean_settles : (levels : ℕ) (p0 : SessionProgress) (statement : Statement) (around : Around) → Settles (mean_of levels statement around)
 unfolding mean_of
 mean_settles zero p0 statement around = raises_settles around statement _
 mean_settles (suc levels) p0 statement around =
-    reads_settles (λ p. if p.statements_left == 0 then spends statement around else makes counts (mean_by (λ inner at. mean_of levels inner at) statement around))
-    (λ p. if_settles (p.statements_left == 0) (spends statement around) (makes counts (mean_by (λ inner at. mean_of levels inner at) statement around)) (raises_settles around statement _)
-    (makes_settles counts (mean_by (λ inner at. mean_of levels inner at) statement around) tt (by_settles (λ inner at. mean_of levels inner at) (λ inner at. mean_settles levels p0 inner at) p0 around statement)))
+    reads_settles (λ p. if p.statements_left == 0 then spends statement around else makes counts (begun_unseen (λ q. is_unseen q (form_of statement)) (fails_for around statement) Next))
+    (λ p. if_settles (p.statements_left == 0) (spends statement around) (makes counts (begun_unseen (λ q. is_unseen q (form_of statement)) (fails_for around statement) Next)) (raises_settles around statement _)
+    (makes_settles counts (begun_unseen (λ q. is_unseen q (form_of statement)) (fails_for around statement) Next) tt
+    (begun_settles (λ q. is_unseen q (form_of statement)) (fails_for around statement) Next (λ p is. unseen_shut p (form_of statement) is) (λ failure. fails_settles around statement failure) (by_settles (λ inner at. mean_of levels inner at) (λ inner at. mean_settles levels p0 inner at) p0 around statement))))
+  where
+    Next : Doing Exit
+    Next = mean_by (λ inner at. mean_of levels inner at) statement around
 
 -- ---- batches
 
@@ -852,10 +873,14 @@ defined_settles : (line : ℤ) (came : Result Effect Failure) → Settles (defin
 defined_settles line (Ok effect) = makes_settles (tells_rows 0) _ tt (makes_settles (tells_error (pos 0)) (over On) tt (over_settles On))
 defined_settles line (Err failure) = makes_settles (tells_rows 0) _ tt (at_settles around_batch line command_none _)
 
+puts_settle : (line : ℤ) (of : Definition) (text : List ℕ) → Settles (puts_object line of text)
+unfolding puts_object
+puts_settle line of text = reads_settles _ (λ p. if_settles p.txn.doomed (defined line (Err (plain doomed_write))) (creates_definition of text then defined line) (defined_settles line (Err (plain doomed_write)))
+    (then_settles (creates_definition of text) (defined line) (definition_settles of text) (defined_settles line)))
+
 object_settles : (line : ℤ) (of : Definition) (text : List ℕ) → Settles (defines_object line of text)
 unfolding defines_object
-object_settles line of text = reads_settles _ (λ p. if_settles p.txn.doomed (defined line (Err (plain doomed_write))) (creates_definition of text then defined line) (defined_settles line (Err (plain doomed_write)))
-    (then_settles (creates_definition of text) (defined line) (definition_settles of text) (defined_settles line)))
+object_settles line of text = begun_settles (λ p. wants_begin p) (λ failure. defined line (Err failure)) (puts_object line of text) wanted_shut (λ failure. defined_settles line (Err failure)) (puts_settle line of text)
 
 text_settles : (p0 : SessionProgress) (read : ReadText) → Settles (runs_text read)
 text_settles p0 (text.Statements statements) = all_settle (λ inner at. mean_of statement_limit inner at) (λ inner at. mean_settles statement_limit p0 inner at) p0 statements around_batch
@@ -898,7 +923,7 @@ returned_settles number tokens next more = reads_settles _ (λ p. if_settles (na
 exec_ends : (call : Errand) (count : ℕ) (status : ℤ) → Settles (ends_exec call count status)
 unfolding ends_exec
 exec_ends call count status = reads_settles _ (λ p. reads_settles _ (λ q.
-    if_settles (q.txn.count == count) (tells_returned (pos 0) (returned call p.vars status) (over On)) (returns_uneven (returned call p.vars status) raised (action_in around_batch q.settings.xact_abort raised))
+    if_settles (is_even q count) (tells_returned (pos 0) (returned call p.vars status) (over On)) (returns_uneven (returned call p.vars status) raised (action_in around_batch q.settings.xact_abort raised))
     (returned_settles (pos 0) (returned call p.vars status) (over On) (over_settles On))
     (returned_settles raised.number _ (ended_by (action_in around_batch q.settings.xact_abort raised)) (ended_settles (action_in around_batch q.settings.xact_abort raised)))))
   where

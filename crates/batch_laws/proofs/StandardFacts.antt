@@ -44,7 +44,7 @@ created_commits name text = refl
 
 -- before its first batch a session is idle
 first_idle : IsIdle first_progress
-first_idle = record { shut = refl; closed = refl; sound = refl }
+first_idle = record { none = record { shut = refl; closed = refl; sound = refl }; seen = refl }
 
 -- and steady
 first_steady : IsSteady first_progress

@@ -135,9 +135,9 @@ module _ (p new : SessionProgress) (exchanges : List Exchange) (came : Result Ef
               (inr (refl, is ∙ ap (λ (y : Exchange). y ∷ later) (is_replied x p.settings.manner ops.Begin replies.Memory was.0 was.1 told) ∙ ap (λ (l : List Exchange). replied p.settings.manner ops.Begin replies.Memory ∷ l) so.0, so.2))
           by_reply reply told can so = absurd can
 
-  begin_over : (name : Option (List ℕ)) → Held (begins_over name p) p exchanges came new → Begins p name p.is_open came exchanges new
+  outermost_over : (name : Option (List ℕ)) → Held (begins_outermost name (next_serial p.txn)) p exchanges came new → Begins p name false came exchanges new
   unfolding begins_outermost Held
-  begin_over name held = by_open p.is_open held
+  outermost_over name held = by_bytes (bytes_or _ _ held)
     where
       by_room : Failed ⊎ Held (asks ops.Begin (unless_refused (where_begun (makes (opens name) (over (Ok (sending (transaction_begun (next_serial p.txn) ∷ [])))))))) p exchanges came new → Begins p name false came exchanges new
       by_room (inl failed) = begin_refused name false failed
@@ -147,13 +147,25 @@ module _ (p new : SessionProgress) (exchanges : List Exchange) (came : Result Ef
       by_bytes (inl denied) = begin_refused name false (failed_so denied)
       by_bytes (inr here) = by_room (room_or _ here)
 
+  -- one that is begun unseen wants memory first
+  pub outermost_held : (name : Option (List ℕ)) → Held (with_room (begins_outermost name (next_serial p.txn))) p exchanges came new → Begins p name false came exchanges new
+  outermost_held name held = by_room (room_or (begins_outermost name (next_serial p.txn)) held)
+    where
+      by_room : Failed ⊎ Held (begins_outermost name (next_serial p.txn)) p exchanges came new → Begins p name false came exchanges new
+      by_room (inl failed) = begin_refused name false failed
+      by_room (inr here) = outermost_over name here
+
+  begin_over : (name : Option (List ℕ)) → Held (begins_over name p) p exchanges came new → Begins p name p.is_open came exchanges new
+  unfolding Held
+  begin_over name held = by_open p.is_open held
+    where
       by_count : (test : Bool) → Held (if test then fails outside_profile else makes (opens name) (over (Ok no_effect))) p exchanges came new → Begins p name true came exchanges new
       by_count true was = begin_refused name true (plain outside_profile, was.1, was.0, was.2)
       by_count false was = subst (λ (r : Result Effect Failure). Begins p name true r exchanges new) (sym was.1) (was.0, refl, was.2)
 
       by_open : (is_open : Bool) → Held (if not is_open then begins_outermost name (next_serial p.txn) else if nat_le count_limit p.txn.count then fails outside_profile else makes (opens name) (over (Ok no_effect))) p exchanges came new → Begins p name is_open came exchanges new
       by_open true was = by_count (nat_le count_limit p.txn.count) was
-      by_open false was = by_bytes (bytes_or _ _ was)
+      by_open false was = outermost_over name was
 
   pub begin_held : (statement : Statement) (name : Option (List ℕ)) → Held (begins_transaction statement name) p exchanges came new → Begins p name p.is_open came exchanges new
   unfolding begins_transaction

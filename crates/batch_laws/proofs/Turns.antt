@@ -15,13 +15,14 @@ use Rattle.batch_meaning.specs.declared.home.Home.{Home}
 use Rattle.batch_meaning.specs.declared.raised.Raised.{Raised}
 use Rattle.batch_meaning.specs.declared.stop.Stop.{Stop}
 use Rattle.batch_meaning.specs.declared.stop.Stop.TheVariants.{Failed, Left}
-use Rattle.batch_meaning.specs.Doing.{makes, over, ◌then◌, Held}
+use Rattle.batch_meaning.specs.Doing.{Doing, makes, over, ◌then◌, Held}
 use Rattle.batch_meaning.specs.Failures.{plain}
-use Rattle.batch_meaning.specs.Meaning.{Meaning, concluded, concludes, does, doomed_write, each_of, fails_for, fires, goes_on, is_refused_doomed, line_of, mean_by, mean_form, mean_of, raises_at, spends, statements_spent, succeeds, writes, written}
+use Rattle.batch_meaning.specs.Meaning.{Meaning, begun_unseen, concluded, concludes, does, doomed_write, each_of, fails_for, fires, goes_on, is_refused_doomed, line_of, mean_by, mean_form, mean_of, raises_at, spends, statements_spent, succeeds, writes, written}
 use Rattle.batch_meaning.specs.Progress.{SessionProgress, counts, made}
 use Rattle.batch_meaning.specs.Raised.{Around, raised_in}
 use Rattle.batch_meaning.specs.Selecting.{Effect, no_effect}
 use Rattle.batch_meaning.specs.Tokens.{command_of}
+use Rattle.batch_meaning.specs.Unseen.{is_unseen}
 use Rattle.batch_meaning.specs.Working.{statuses}
 use Rattle.batch_meaning.specs.Writes.{Written}
 use Rattle.statement_paths.specs.Paths.{HasDone, HasFailed, HasFailedIn, IsFired, asks_for, is_write, work_for, work_of}
@@ -34,6 +35,7 @@ use Rattle.batch_laws.proofs.Idle.{Behind, IsShut, fails_shut, raises_shut, shut
 use Rattle.batch_laws.proofs.Variables.{status_vars, work_vars}
 use Rattle.batch_laws.proofs.Ending.{Ended, err_ended, fail_as, ok_ended, raises_held}
 use Rattle.batch_laws.proofs.Telling.{status_leaves}
+use Rattle.batch_laws.proofs.Unseen.{seen_held}
 use Rattle.batch_laws.proofs.Writing.{UnlessErr, status_behind, work_behind, write_leaves_apart}
 
 -- ---- each in turn
@@ -254,14 +256,18 @@ spent_finished around statement old new exchanges exit before agrees held =
     }
 
 pub mean_finished : (levels : ℕ) (around : Around) (statement : Statement) (old new : SessionProgress) (exchanges : List Exchange) (exit : Exit) (before : Stand) (agrees : Agrees old.is_open before) → is_plain (form_of statement) ≡ true
-    → Held (mean_of levels statement around) old exchanges exit new → FinishedOr around statement (made counts old) new exchanges exit before agrees
+    → is_unseen old (form_of statement) ≡ false → Held (mean_of levels statement around) old exchanges exit new → FinishedOr around statement (made counts old) new exchanges exit before agrees
 unfolding mean_of Held
-mean_finished zero around statement old new exchanges exit before agrees plain_one held = inl (spent_finished around statement old new exchanges exit before agrees held)
-mean_finished (suc levels) around statement old new exchanges exit before agrees plain_one held = by_left (old.statements_left == 0) held
+mean_finished zero around statement old new exchanges exit before agrees plain_one seen held = inl (spent_finished around statement old new exchanges exit before agrees held)
+mean_finished (suc levels) around statement old new exchanges exit before agrees plain_one seen held = by_left (old.statements_left == 0) held
   where
-    by_left : (spent : Bool) → Held (if spent then spends statement around else makes counts (mean_by (λ inner at. mean_of levels inner at) statement around)) old exchanges exit new → FinishedOr around statement (made counts old) new exchanges exit before agrees
+    Next : Doing Exit
+    Next = mean_by (λ inner at. mean_of levels inner at) statement around
+
+    by_left : (spent : Bool) → Held (if spent then spends statement around else makes counts (begun_unseen (λ q. is_unseen q (form_of statement)) (fails_for around statement) Next)) old exchanges exit new → FinishedOr around statement (made counts old) new exchanges exit before agrees
     by_left true was = inl (spent_finished around statement old new exchanges exit before agrees was)
-    by_left false was = begun_finished around statement (made counts old) new exchanges exit before agrees (λ inner at. mean_of levels inner at) plain_one was
+    by_left false was = begun_finished around statement (made counts old) new exchanges exit before agrees (λ inner at. mean_of levels inner at) plain_one
+        (seen_held (λ q. is_unseen q (form_of statement)) (fails_for around statement) Next (made counts old) new exchanges exit seen was)
 
 has_ended : (around : Around) (statement : Statement) (p new : SessionProgress) (exchanges : List Exchange) (exit : Exit) (before : Stand) (agrees : Agrees p.is_open before) → FinishedOr around statement p new exchanges exit before agrees
     → HasEnded around p statement exit before exchanges new ⊎ Fires around p statement exchanges
@@ -272,4 +278,4 @@ pub statement_ends : StatementEnds
 statement_ends one around statement old new exchanges exit before plain_one agrees held = has_ended around statement old new exchanges exit before agrees (form_finished around statement old new exchanges exit before agrees one (form_of statement) refl plain_one held)
 
 pub plain_ends : PlainEnds
-plain_ends levels around statement old new exchanges exit before plain_one agrees held = has_ended around statement (made counts old) new exchanges exit before agrees (mean_finished levels around statement old new exchanges exit before agrees plain_one held)
+plain_ends levels around statement old new exchanges exit before plain_one seen agrees held = has_ended around statement (made counts old) new exchanges exit before agrees (mean_finished levels around statement old new exchanges exit before agrees plain_one seen held)

@@ -206,10 +206,15 @@ Fires around p statement exchanges = IsFired around p statement (λ home done mi
 -- ---- what stays of a session
 
 -- no transaction is open, and BEGIN TRANSACTION has opened none
-pub record IsIdle (p : SessionProgress) : Type 0 where
+pub record HasNoneOpen (p : SessionProgress) : Type 0 where
   pub shut : p.is_open ≡ false
   pub closed : is_closed p.txn ≡ true
   pub sound : p.txn.doomed ≡ false
+
+-- and IMPLICIT_TRANSACTIONS is OFF, so that none is begun unseen
+pub record IsIdle (p : SessionProgress) : Type 0 where
+  pub none : HasNoneOpen p
+  pub seen : p.settings.implicit ≡ false
 
 -- what a plain statement leaves as it was: all that SET has set, with its manner and its level; the number of the transaction; its cursors,
 -- and @@FETCH_STATUS
@@ -257,8 +262,8 @@ LeftRuns around (statement ∷ others) p commits exchanges = LeftAt around (made
     ⊎ ((came : Exit) × (mid : SessionProgress) × (sent : List Token) × (planned : List Planned) × (rest : Commits) × (front back : List Exchange)
     × (commits ≡ commit_of (Net planned) ++ rest) × (exchanges ≡ front ++ back) × Ends around (made counts p) statement came sent planned front mid × Stays p mid × IsIdle mid × IfOn came (LeftRuns around others mid rest back) ((rest ≡ []) × (back ≡ [])))
 
--- One of these statements, which began where no transaction was open, has fired triggers.
-pub record FiresAmong (around : Around) (statements : List Statement) (exchanges : List Exchange) : Type 0 where
+-- One of these statements has fired triggers.
+pub record FiresSome (around : Around) (statements : List Statement) (exchanges : List Exchange) : Type 0 where
   pub ahead : List Statement
   pub statement : Statement
   pub others : List Statement
@@ -266,10 +271,14 @@ pub record FiresAmong (around : Around) (statements : List Statement) (exchanges
   pub earlier : List Exchange
   pub path : List Exchange
   pub parts : exchanges ≡ earlier ++ path
-  pub none : progress_of earlier ≡ none_open
   pub old : SessionProgress
-  pub idle : IsIdle old
   pub fires : Fires around old statement path
+
+-- which began where no transaction was open
+pub record FiresAmong (around : Around) (statements : List Statement) (exchanges : List Exchange) : Type 0 where
+  pub some : FiresSome around statements exchanges
+  pub none : progress_of some.earlier ≡ none_open
+  pub idle : IsIdle some.old
 
 abbrev pub NoneFires : Around → List Statement → List Exchange → Type 0
 NoneFires around statements exchanges = FiresAmong around statements exchanges → ⊥

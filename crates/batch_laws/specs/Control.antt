@@ -27,7 +27,7 @@ use Rattle.batch_meaning.specs.Databases.{uses_database}
 use Rattle.batch_meaning.specs.Doing.{Doing, over, Held}
 use Rattle.batch_meaning.specs.Failures.{plain}
 use Rattle.batch_meaning.specs.Firing.{closes_own, in_trigger, leaves_fired, relaxes_then, trigger_end, undone_to}
-use Rattle.batch_meaning.specs.Meaning.{doomed_write, is_refused_doomed, line_of, mean_of, meaning, statements_spent, succeeds, uneven_tokens}
+use Rattle.batch_meaning.specs.Meaning.{doomed_write, is_even, is_refused_doomed, line_of, mean_of, meaning, statements_spent, succeeds, uneven_tokens}
 use Rattle.batch_meaning.specs.Progress.{SessionProgress, counts, fires_from, made, sets, size_of, stands_with, tells_error, tells_rows}
 use Rattle.batch_meaning.specs.Raised.{Around, action_in, again, in_body, in_catch, in_try, info_token, is_caught_in, raised_in}
 use Rattle.batch_meaning.specs.Selecting.{Effect, no_effect, result_full, sending}
@@ -35,11 +35,12 @@ use Rattle.batch_meaning.specs.Settings.{outside_profile, set_option}
 use Rattle.batch_meaning.specs.Statements.{vars_of}
 use Rattle.batch_meaning.specs.Tokens.{procedure_done}
 use Rattle.batch_meaning.specs.Transactions.{begins_transaction, commits_transaction, rolls_back_transaction, saves_transaction}
+use Rattle.batch_meaning.specs.Unseen.{is_unseen}
 use Rattle.batch_meaning.specs.Values.{Assigned, is_message}
 use Rattle.batch_meaning.specs.Working.{composes, relaxes, tests}
 use Rattle.batch_meaning.specs.Writes.{Written}
 use Rattle.statement_paths.specs.Paths.{IsFired, IsUnfired}
-use Rattle.batch_laws.specs.Committing.{assigned_all, behind_effect, IsBehind, Strikes, StrikesWith}
+use Rattle.batch_laws.specs.Committing.{IsBehind, Strikes, StrikesWith, assigned_all, behind_effect}
 use Rattle.batch_laws.specs.Laws.{GoesBy}
 
 -- ---- whether it begins
@@ -47,6 +48,10 @@ use Rattle.batch_laws.specs.Laws.{GoesBy}
 -- fewer statements of its batch have begun than may
 abbrev pub MayBegin : SessionProgress → Type 0
 MayBegin p = (p.statements_left == 0) ≡ false
+
+-- it begins no transaction unseen
+abbrev pub IsSeen : SessionProgress → Statement → Type 0
+IsSeen p statement = is_unseen p (form_of statement) ≡ false
 
 -- it is refused, since its transaction is doomed
 abbrev pub is_refused : SessionProgress → Statement → Bool
@@ -62,7 +67,7 @@ SpentStrikes = (levels : ℕ) (around : Around) (statement : Statement) (old new
     → StrikesAtOnce around old old statement statements_spent exchanges exit new
 
 abbrev pub DoomedStrikes : Type 0
-DoomedStrikes = (levels : ℕ) (around : Around) (statement : Statement) (old new : SessionProgress) (exchanges : List Exchange) (exit : Exit) → MayBegin old → is_refused old statement ≡ true → Held (mean_of (suc levels) statement around) old exchanges exit new
+DoomedStrikes = (levels : ℕ) (around : Around) (statement : Statement) (old new : SessionProgress) (exchanges : List Exchange) (exit : Exit) → MayBegin old → IsSeen old statement → is_refused old statement ≡ true → Held (mean_of (suc levels) statement around) old exchanges exit new
     → StrikesAtOnce around (made counts old) old statement doomed_write exchanges exit new
 
 -- ---- its own work
@@ -83,7 +88,7 @@ work_named around statement form = None
 
 -- that comes first, and then what it came to is told, and the next statement comes; or its error strikes
 abbrev pub NamedDoes : Type 0
-NamedDoes = (levels : ℕ) (around : Around) (statement : Statement) (work : Doing (Result Effect Failure)) (old new : SessionProgress) (exchanges : List Exchange) (exit : Exit) → MayBegin old → is_refused old statement ≡ false
+NamedDoes = (levels : ℕ) (around : Around) (statement : Statement) (work : Doing (Result Effect Failure)) (old new : SessionProgress) (exchanges : List Exchange) (exit : Exit) → MayBegin old → IsSeen old statement → is_refused old statement ≡ false
     → work_named around statement (form_of statement) ≡ Some work → Held (mean_of (suc levels) statement around) old exchanges exit new
     → (front back : List Exchange) × (mid : SessionProgress) × (result : Result Effect Failure) × (exchanges ≡ front ++ back) × Held work (made counts old) front result mid
     × GoesBy around mid statement (λ effect. succeeds statement effect (over On)) exit result back new
@@ -208,7 +213,7 @@ module _ (levels : ℕ) (around : Around) (statement : Statement) where
 
   -- what it gives back is assigned first, or can't be
   abbrev pub GivesBack : ℕ → ℤ → Result (List Assigned) Failure → SessionProgress → List Exchange → Exit → SessionProgress → Type 0
-  GivesBack count status (Ok assigned) q later exit new = EndsCall (q.txn.count == count) status (assigned_all assigned q) later exit new
+  GivesBack count status (Ok assigned) q later exit new = EndsCall (is_even q count) status (assigned_all assigned q) later exit new
   GivesBack count status (Err failure) q later exit new = TestStrikes q failure later exit new
 
   module _ (variable : Option (List ℕ)) (arguments : List Argument) where
@@ -304,5 +309,5 @@ module _ (levels : ℕ) (around : Around) (statement : Statement) where
   Controls form p exchanges exit new = Unit {0}
 
 abbrev pub FormControls : Type 0
-FormControls = (levels : ℕ) (around : Around) (statement : Statement) (old new : SessionProgress) (exchanges : List Exchange) (exit : Exit) → MayBegin old → is_refused old statement ≡ false → Held (mean_of (suc levels) statement around) old exchanges exit new
+FormControls = (levels : ℕ) (around : Around) (statement : Statement) (old new : SessionProgress) (exchanges : List Exchange) (exit : Exit) → MayBegin old → IsSeen old statement → is_refused old statement ≡ false → Held (mean_of (suc levels) statement around) old exchanges exit new
     → Controls levels around statement (form_of statement) (made counts old) exchanges exit new

@@ -33,6 +33,7 @@ use Rattle.batch_meaning.specs.Raised.{Around, around_batch, error_token, raised
 use Rattle.batch_meaning.specs.Selecting.{Effect}
 use Rattle.batch_meaning.specs.Statements.{vars_of}
 use Rattle.batch_meaning.specs.Tokens.{batch_done}
+use Rattle.batch_meaning.specs.Unseen.{is_unseen, wants_begin}
 use Rattle.batch_meaning.specs.Working.{composes, statuses, tests}
 use Rattle.statement_paths.specs.Paths.{HasDone, HasFailed, HasPut, HasPutFailed, IsFired, is_write, work_of}
 use Rattle.batch_laws.specs.Committing.{behind_effect, is_plain, Agrees, ArePlain, ArePut, DoneBy, Ends, Fires, InTurn, IsBehind, IsIdle, IsWithin, Leaves, LeftRuns, NoneFires, Runs, Stays, Strikes, StrikesAt}
@@ -85,9 +86,9 @@ abbrev pub EachInTurn : Type 0
 EachInTurn = (one : Statement → Meaning) (statements : List Statement) (around : Around) (old new : SessionProgress) (exchanges : List Exchange) (exit : Exit)
     → Held (each_of one statements around) old exchanges exit new → InTurn (λ statement p front came mid. Held (one statement around) p front came mid) statements old exchanges exit new
 
--- a plain statement, as it begins: it was done, or it failed, before it asked anything or behind what it asked; or it has fired triggers
+-- a plain statement, as it begins, which begins no transaction unseen: it was done, or it failed, before it asked anything or behind what it asked; or it has fired triggers
 abbrev pub PlainEnds : Type 0
-PlainEnds = (levels : ℕ) (around : Around) (statement : Statement) (old new : SessionProgress) (exchanges : List Exchange) (exit : Exit) (before : Progress) → is_plain (form_of statement) ≡ true → Agrees old.is_open before
+PlainEnds = (levels : ℕ) (around : Around) (statement : Statement) (old new : SessionProgress) (exchanges : List Exchange) (exit : Exit) (before : Progress) → is_plain (form_of statement) ≡ true → is_unseen old (form_of statement) ≡ false → Agrees old.is_open before
     → Held (mean_of levels statement around) old exchanges exit new → HasEnded around (made counts old) statement exit before exchanges new ⊎ Fires around (made counts old) statement exchanges
 
 -- where no transaction is open, plain statements that fire no triggers have sent and committed what each of them has, and none is open behind them
@@ -123,13 +124,14 @@ abbrev pub PutFails : ℤ → SessionProgress → Exit → List Token → List E
 PutFails line p exit tokens exchanges new = (failure : Failure) × (work behind : List Exchange) × (struck : SessionProgress) × (exchanges ≡ work ++ behind)
     × HasPutFailed p work × IsBehind p struck × StrikesAt around_batch struck command_none line (raised_at line failure) exit tokens behind new
 
--- A batch that defines a procedure or a trigger does that, and it has no rows; what it leaves of its transaction is what it planned.
+-- A batch that defines a procedure or a trigger, and begins no transaction unseen, does that, and it has no rows; what it leaves of its transaction is what it
+-- planned.
 abbrev pub DefinesEnds : Type 0
-DefinesEnds = (line : ℤ) (of : Definition) (units : List ℕ) (old new : SessionProgress) (exchanges : List Exchange) (exit : Exit) (before : Progress) → Agrees old.is_open before → Held (defines_object line of units) old exchanges exit new
+DefinesEnds = (line : ℤ) (of : Definition) (units : List ℕ) (old new : SessionProgress) (exchanges : List Exchange) (exit : Exit) (before : Progress) → wants_begin old ≡ false → Agrees old.is_open before → Held (defines_object line of units) old exchanges exit new
     → ((tokens : List Token) × (planned : List Planned) × (new.tokens ≡ old.tokens ++ tokens) × (PutSucceeds of units old exit tokens planned exchanges new ⊎ ((planned ≡ []) × PutFails line old exit tokens exchanges new)) × Leaves old.is_open new.is_open before exchanges planned)
     × (new.row_count ≡ 0) × (new.vars ≡ old.vars) × Stays old new
 
--- where none is open it is committed, or nothing is; and then comes the batch's end
+-- where none is open, and none is begun unseen, it is committed, or nothing is; and then comes the batch's end
 abbrev pub DefinitionRuns : Type 0
 DefinitionRuns = (line : ℤ) (of : Definition) (units : List ℕ) (old new : SessionProgress) (exchanges : List Exchange) → IsIdle old → Held (batch (text.Defines line of units)) old exchanges tt new
     → ((tokens : List Token) × (planned : List Planned) × (exit : Exit) × (last : SessionProgress) × (new.tokens ≡ tokens ++ batch_done (has_failed exit) ∷ []) × (commits_of exchanges ≡ commit_of (Net planned))

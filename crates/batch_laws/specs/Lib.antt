@@ -4,4 +4,5 @@ pub mod Laws  -- WorkLeaves, StatementEnds, BatchRuns: the laws
 pub mod Transactions  -- Begins, Closes, CommitLeaves: BEGIN TRANSACTION, COMMIT, ROLLBACK and SAVE TRANSACTION, and their laws
 pub mod Cursors  -- Moves, OpenLeaves: the statements on cursors, and their laws
 pub mod Control  -- NamedDoes, FormControls: what a statement that may begin does, by its form
+pub mod Unseen  -- UnseenBegins: what begins a transaction unseen
 pub mod Settled  -- IsSteady: whether a transaction is open between two statements, and its laws

@@ -12,7 +12,7 @@ use Rattle.batch_meaning.specs.Meaning.{batch, mean_of}
 use Rattle.batch_meaning.specs.Progress.{IsSettled, SessionProgress}
 use Rattle.batch_meaning.specs.Raised.{Around}
 use Rattle.batch_meaning.specs.Rpc.{rpc}
-use Rattle.batch_laws.specs.Committing.{IsIdle}
+use Rattle.batch_laws.specs.Committing.{HasNoneOpen}
 
 -- so it is, and none is doomed where none is open
 abbrev pub IsSteady : SessionProgress → Type 0
@@ -30,6 +30,6 @@ BatchSettles = (read : ReadText) (old new : SessionProgress) (exchanges : List E
 abbrev pub CallSettles : Type 0
 CallSettles = (call : Errand) (read : ReadText) (old new : SessionProgress) (exchanges : List Exchange) → IsSteady old → Held (rpc call read) old exchanges tt new → IsSteady new × (new.txn.doomed ≡ false)
 
--- where none is open then, the session is idle
+-- where none is open then, BEGIN TRANSACTION has opened none
 abbrev pub SteadyIdle : Type 0
-SteadyIdle = (p : SessionProgress) → IsSteady p → p.is_open ≡ false → IsIdle p
+SteadyIdle = (p : SessionProgress) → IsSteady p → p.is_open ≡ false → HasNoneOpen p

@@ -15,6 +15,7 @@ ghost use Rattle.batch_meaning.specs.Selecting.{Effect};
 ghost use Rattle.batch_laws.specs.Control.{DoomedStrikes, FormControls, NamedDoes, SpentStrikes};
 ghost use Rattle.batch_laws.specs.Cursors.{CloseMoves, DeclareMoves, FetchMoves, OpenLeaves, OpenMoves, RemoveMoves};
 ghost use Rattle.batch_laws.specs.Laws.{BatchCommits, BatchRuns, DefinesEnds, DefinitionRuns, EachInTurn, EffectTells, ErrorStrikes, FailureLeaves, LeftRun, MessageLeaves, PlainEnds, PlainRun, RefusedEnds, StatementEnds, StatusLeaves, TestLeaves, WorkLeaves, WorkTells, WriteLeaves, WritesWhole};
+ghost use Rattle.batch_laws.specs.Unseen.{UnseenBegins, UnseenDefines, UnseenRun};
 ghost use Rattle.batch_laws.specs.Settled.{BatchSettles, CallSettles, StatementSettles, SteadyIdle};
 ghost use Rattle.batch_laws.specs.Transactions.{BeginLeaves, CommitLeaves, RollbackLeaves, SaveLeaves};
 
@@ -93,13 +94,23 @@ pub fn law_cursors()
 /// or cursors its own work; IF the statement that its test says, WHILE its body and then the same again, TRY its statements and,
 /// where an error of theirs was caught, those of CATCH, and a block its statements; EXEC the statements of its procedure, and a write
 /// those of the triggers that it fires; PRINT, RAISERROR and THROW send their message, or it strikes, and SET sets. Of one that may
-/// not begin, or is refused, an error strikes at once.
+/// not begin, or is refused, an error strikes at once. Of one that begins a transaction unseen `law_unseen` says it.
 #[tactic(auto, using(crate::proofs::Control::named_does, crate::proofs::Control::form_controls, crate::proofs::Control::spent_strikes, crate::proofs::Control::doomed_strikes))]
 pub fn law_forms()
     ensures works { NamedDoes }
     ensures controls { FormControls }
     ensures spent { SpentStrikes }
     ensures doomed { DoomedStrikes }
+{}
+
+/// Under IMPLICIT_TRANSACTIONS ON a statement, or the definition of a procedure or trigger, that begins a transaction unseen
+/// begins that first, and does then what it does in a transaction that is open; or that failed, and its error strikes. Plain
+/// statements that fire no triggers commit nothing then.
+#[tactic(auto, using(crate::proofs::Control::unseen_begins, crate::proofs::Defining::unseen_defines, crate::proofs::Implicit::unseen_run))]
+pub fn law_unseen()
+    ensures statement { UnseenBegins }
+    ensures definition { UnseenDefines }
+    ensures run { UnseenRun }
 {}
 
 /// Of statements one after another each did what it means, from where the one before it had left its session, until one left
@@ -145,7 +156,7 @@ pub fn law_commits()
 {}
 
 /// Between two statements a transaction is open at the port exactly where BEGIN TRANSACTION has opened one, whatever statements
-/// they are; behind a batch or a call by RPC that was done none is doomed, and where none is open the session is idle.
+/// they are; behind a batch or a call by RPC that was done none is doomed, and where none is open BEGIN TRANSACTION has opened none.
 #[tactic(auto, using(crate::proofs::Settled::statement_settles, crate::proofs::Settled::batch_settles, crate::proofs::Settled::call_settles, crate::proofs::Settled::steady_idle))]
 pub fn law_settled()
     ensures statement { StatementSettles }

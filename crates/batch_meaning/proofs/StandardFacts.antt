@@ -41,16 +41,17 @@ use Rattle.batch_meaning.specs.declared.stop.Stop.TheVariants.{Failed, Left}
 use Rattle.batch_meaning.specs.declared.form.ReadText.TheVariants as text
 use Rattle.batch_meaning.specs.Raised.{Around, Fired, action_in, around_batch, error_token, in_body, in_try, is_caught_in, raised_at, raised_in}
 use Rattle.batch_meaning.specs.Failures.{plain}
-use Rattle.batch_meaning.specs.Settings.{first_manner}
+use Rattle.batch_meaning.specs.Settings.{first_manner, first_settings}
 use Rattle.batch_meaning.specs.Tokens.{batch_done, done_kind, result_tokens}
 use Rattle.batch_meaning.specs.Changing.{definition_erased, is_referred, told_by, with_definitions}
 use Rattle.batch_meaning.specs.Values.{rows_assigned}
 use Rattle.batch_meaning.specs.Progress.{SessionProgress, batch_limit, end_size, first_progress, size_of}
 use Rattle.batch_meaning.specs.Doing.{◌then◌, Held, over}
 use Rattle.batch_meaning.specs.Working.{asks_any, closes, given_in, known_in, leaves, relaxes}
+use Rattle.batch_meaning.specs.Unseen.{is_unseen}
 use Rattle.batch_meaning.specs.Calls.{Call, call_vars, given_back}
 use Rattle.batch_meaning.specs.Firing.{leaves_fired, relaxes_then, trigger_end}
-use Rattle.batch_meaning.specs.Meaning.{Meaning, batch, each_of, ends, raises_at, returns_from, told_tokens, tries, uneven_tokens, way_of}
+use Rattle.batch_meaning.specs.Meaning.{Meaning, batch, each_of, ends, is_even, raises_at, returns_from, told_tokens, tries, uneven_tokens, way_of}
 
 -- behind the first batch, which has sent these tokens
 abbrev behind_one : List Token → SessionProgress
@@ -401,3 +402,29 @@ mark_is_dead = (refl, refl, tt, (refl, refl, refl))
 other_stays_open : Held (leaves_fired Own 1 false false) (running 1 false (named_a 1 ∷ []) false false) [] tt (running 1 false (named_a 1 ∷ []) false false)
 unfolding Held ◌then◌ leaves_fired
 other_stays_open = (refl, refl, refl)
+
+-- ---- transactions that are begun unseen
+
+-- a session under SET IMPLICIT_TRANSACTIONS, with a transaction open or none
+abbrev implicit : Bool → SessionProgress
+implicit is_open = record first_progress { is_open = is_open; settings = record first_settings { implicit = true } }
+
+-- OPEN begins one where none is open, CLOSE none, and neither where the option is OFF
+open_begins : is_unseen (implicit false) (Form-F.OpenCursor (codes "c")) ≡ true
+open_begins = refl
+
+open_goes_on_open : is_unseen (implicit true) (Form-F.OpenCursor (codes "c")) ≡ false
+open_goes_on_open = refl
+
+close_begins_none : is_unseen (implicit false) (Form-F.CloseCursor (codes "c")) ≡ false
+close_begins_none = refl
+
+option_off : is_unseen first_progress (Form-F.OpenCursor (codes "c")) ≡ false
+option_off = refl
+
+-- a call that begins with none may end with one, and one that begins with one may not end with two
+ends_with_one : is_even (record (implicit true) { txn = record no_transaction { count = 1 } }) 0 ≡ true
+ends_with_one = refl
+
+ends_with_two : is_even (record (implicit true) { txn = record no_transaction { count = 2 } }) 1 ≡ false
+ends_with_two = refl

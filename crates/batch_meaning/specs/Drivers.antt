@@ -310,7 +310,7 @@ unprepared p parameters handle one = (system_errand way.Tells None parameters, w
 -- sp_reset_connection: what is open is rolled back, options are as at first, and nothing is kept
 abbrev pub reset_text : List ℕ
 reset_text =
-    codes "IF @@TRANCOUNT > 0 ROLLBACK; SET XACT_ABORT OFF; SET NOCOUNT OFF; "
+    codes "IF @@TRANCOUNT > 0 ROLLBACK; SET XACT_ABORT OFF; SET NOCOUNT OFF; SET IMPLICIT_TRANSACTIONS OFF; "
     ++ codes "SET TRANSACTION ISOLATION LEVEL READ COMMITTED; SET LOCK_TIMEOUT -1; SET DEADLOCK_PRIORITY NORMAL"
 
 abbrev pub system_taken : KeptStatements → List RpcParameter → DriverProcedure → Taken

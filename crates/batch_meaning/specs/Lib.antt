@@ -13,6 +13,7 @@ pub mod Asking  -- looks_up, reads_images, applies: what the parts of a statemen
 pub mod Working  -- within, works: what a statement that reads tables asks, and what comes of it
 pub mod Writes  -- changes, drops, creates_definition: what a statement that changes something asks, up to where its triggers run
 pub mod Transactions  -- begins_transaction: what the statements on transactions ask
+pub mod Unseen  -- is_unseen: which statements begin a transaction that no BEGIN begins
 pub mod Cursors  -- opens_cursor: what the statements on cursors ask, and what comes of them
 pub mod Databases  -- uses_database: what USE sends
 pub mod Calls  -- finds_call, given_back: what a call runs, and what it gives back

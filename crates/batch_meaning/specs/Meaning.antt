@@ -1,7 +1,7 @@
 -- Own: what a batch means: its statements one after another, what each of them ends, and where an error goes. A statement's case is a
 -- function of what stands around it, of how far the session has come and of the meaning of the statements that it holds. A meaning
 -- is a tree; the code asks the port, and goes on by its replies.
-use Rattle.std.specs.Prelude.{ℕ, zero, suc, ℤ, pos, ◌==◌, ◌&&◌, Bool, true, false, nat_le, nat_lt, is_ok, if◌then◌else◌, List, [], ◌∷◌, Option, None, Some, Result, Ok, Err}
+use Rattle.std.specs.Prelude.{ℕ, zero, suc, ℤ, pos, ◌==◌, ◌&&◌, ◌||◌, Bool, true, false, nat_le, nat_lt, is_ok, if◌then◌else◌, List, [], ◌∷◌, Option, None, Some, Result, Ok, Err}
 use Rattle.tsql_tree.specs.declared.definition.Definition.{Definition}
 use Rattle.tsql_tree.specs.declared.definition.TriggerTree.{TriggerTree}
 use Rattle.tsql_tree.specs.declared.option.SessionOption.{SessionOption}
@@ -39,14 +39,15 @@ use Rattle.batch_meaning.specs.Doing.{Doing, over, reads, makes, asks, room, ◌
 use Rattle.batch_meaning.specs.Selecting.{Effect, messages, no_effect, result_full, sending}
 use Rattle.batch_meaning.specs.Values.{is_message}
 use Rattle.session_vars.specs.declared.Variable.{Variable}
-use Rattle.batch_meaning.specs.Asking.{assigns_all, comes_to, where_ended}
+use Rattle.batch_meaning.specs.Asking.{assigns_all, comes_to, where_ended, with_room}
 use Rattle.batch_meaning.specs.Working.{asks_any, binds, composes, enters, known_by, leaves, relaxes, statuses, tests, works}
 use Rattle.batch_meaning.specs.Writes.{Written, change_bound, creates_definition, creates_table, drops}
 use Rattle.batch_meaning.specs.Calls.{Call, call_vars, depth_limit, finds_call, given_back, too_deep, uneven}
 use Rattle.batch_meaning.specs.Firing.{closes_own, in_trigger, leaves_fired, relaxes_then, trigger_end, undone_to}
 use Rattle.batch_meaning.specs.Cursors.{closes_cursor, declares_cursor, fetches_cursor, opens_cursor, removes_cursor}
 use Rattle.batch_meaning.specs.Databases.{uses_database}
-use Rattle.batch_meaning.specs.Transactions.{begins_transaction, commits_transaction, rolls_back_transaction, saves_transaction}
+use Rattle.batch_meaning.specs.Transactions.{begins_outermost, begins_transaction, commits_transaction, next_serial, rolls_back_transaction, saves_transaction}
+use Rattle.batch_meaning.specs.Unseen.{wants_begin, is_unseen}
 
 abbrev pub Meaning : Type 0
 Meaning = Around → Doing Exit
@@ -206,8 +207,12 @@ unfoldable pub ends_uneven : Around → Statement → ℤ → Raised → Doing E
 ends_uneven around statement status raised = reads λ p.
     ends_uneven_as around statement status raised (is_caught_in around raised) (action_in around p.settings.xact_abort raised)
 
+-- with as many as before, or with the one that a statement of the procedure has begun unseen
+abbrev pub is_even : SessionProgress → ℕ → Bool
+is_even p count = (p.txn.count == count) || ((p.settings.implicit && (count == 0)) && (p.txn.count == 1))
+
 abbrev pub ends_call : Around → Statement → ℕ → ℤ → Doing Exit
-ends_call around statement count status = reads λ p. if p.txn.count == count then ends_even around statement status
+ends_call around statement count status = reads λ p. if is_even p count then ends_even around statement status
     else ends_uneven around statement status (raised_in around.procedure (line_of statement) (plain uneven))
 
 -- what it gives back is assigned first
@@ -415,6 +420,22 @@ module _ (one : Statement → Meaning) where
       then fails_for around statement (plain doomed_write)
       else mean_form around statement (form_of statement)
 
+-- ---- what begins a transaction unseen
+
+-- behind that BEGIN: it is told, and then this comes; or it fails so
+abbrev pub behind_unseen : (Failure → Doing Exit) → Doing Exit → Result Effect Failure → Doing Exit
+behind_unseen fails next (Ok effect) = makes (sends effect.tokens) next
+behind_unseen fails next (Err failure) = fails failure
+
+abbrev pub begins_first : (Failure → Doing Exit) → Doing Exit → SessionProgress → Doing Exit
+begins_first fails next p = with_room (begins_outermost None (next_serial p.txn)) then behind_unseen fails next
+
+-- where one is begun unseen, that comes first
+unfoldable pub begun_unseen : (SessionProgress → Bool) → (Failure → Doing Exit) → Doing Exit → Doing Exit
+begun_unseen wants fails next = reads λ p. if wants p then begins_first fails next p else next
+
+-- ---- statements, as they begin
+
 -- where no statement may begin any more
 abbrev pub spends : Statement → Meaning
 spends statement around = raises around statement (raised_in around.procedure (line_of statement) (plain statements_spent))
@@ -424,7 +445,7 @@ spends statement around = raises around statement (raised_in around.procedure (l
 unfoldable pub mean_of : ℕ → Statement → Meaning
 mean_of zero statement around = spends statement around
 mean_of (suc levels) statement around = reads λ p. if p.statements_left == 0 then spends statement around
-    else makes counts (mean_by (λ inner at. mean_of levels inner at) statement around)
+    else makes counts (begun_unseen (λ q. is_unseen q (form_of statement)) (fails_for around statement) (mean_by (λ inner at. mean_of levels inner at) statement around))
 
 abbrev pub meaning : ℕ → List Statement → Meaning
 meaning levels statements around = each_of (λ inner at. mean_of levels inner at) statements around
@@ -459,9 +480,12 @@ abbrev pub defined : ℤ → Result Effect Failure → Doing Exit
 defined line (Ok effect) = makes (tells_rows 0) (makes (tells_error (pos 0)) (over On))
 defined line (Err failure) = makes (tells_rows 0) (raises_at around_batch line command_none (raised_at line failure))
 
+unfoldable pub puts_object : ℤ → Definition → List ℕ → Doing Exit
+puts_object line of text = reads λ p. if p.txn.doomed then defined line (Err (plain doomed_write)) else (creates_definition of text then defined line)
+
 -- the definition of a procedure or trigger is a batch of one statement, at this line
 unfoldable pub defines_object : ℤ → Definition → List ℕ → Doing Exit
-defines_object line of text = reads λ p. if p.txn.doomed then defined line (Err (plain doomed_write)) else (creates_definition of text then defined line)
+defines_object line of text = begun_unseen wants_begin (λ failure. defined line (Err failure)) (puts_object line of text)
 
 -- ---- texts
 

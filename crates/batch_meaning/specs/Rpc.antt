@@ -46,7 +46,7 @@ use Rattle.batch_meaning.specs.Values.{outside_limits}
 use Rattle.batch_meaning.specs.Writes.{is_odd_procedure}
 use Rattle.batch_meaning.specs.Asking.{◌>>=◌, assigns_all, comes_to, fails_naming, with_room}
 use Rattle.batch_meaning.specs.Calls.{Call, call_over, call_vars, finds_call, given_back, no_procedure, uneven}
-use Rattle.batch_meaning.specs.Meaning.{Meaning, ended_by, mean_of, rolls_back_doomed, runs_body, runs_text, tells_end, uneven_with}
+use Rattle.batch_meaning.specs.Meaning.{Meaning, ended_by, is_even, mean_of, rolls_back_doomed, runs_body, runs_text, tells_end, uneven_with}
 
 -- ---- the text that is read for it
 
@@ -226,7 +226,7 @@ abbrev pub returns_uneven : List Token → Raised → Action → Doing Exit
 returns_uneven tokens raised action = tells_returned raised.number (uneven_with false action tokens raised) (ended_by action)
 
 abbrev pub returns_by : ℕ → List Token → Raised → Doing Exit
-returns_by count tokens raised = reads λ p. if p.txn.count == count then tells_returned (pos 0) tokens (over On)
+returns_by count tokens raised = reads λ p. if is_even p count then tells_returned (pos 0) tokens (over On)
     else returns_uneven tokens raised (action_in around_batch p.settings.xact_abort raised)
 
 unfoldable pub ends_exec : Errand → ℕ → ℤ → Doing Exit

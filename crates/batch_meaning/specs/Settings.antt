@@ -30,7 +30,7 @@ first_manner = record { patience = Forever; priority = pos 0 }
 
 -- before its first batch
 abbrev pub first_settings : Settings
-first_settings = record { xact_abort = false; no_count = false; level = level.ReadCommitted; manner = first_manner }
+first_settings = record { xact_abort = false; no_count = false; implicit = false; level = level.ReadCommitted; manner = first_manner }
 
 -- ---- each option
 
@@ -86,8 +86,7 @@ all_rows = pos 0
 abbrev pub set_option : SessionOption → Settings → Result Settings Failure
 set_option (option.XactAbort is_on) settings = Ok (record settings { xact_abort = is_on })
 set_option (option.NoCount is_on) settings = Ok (record settings { no_count = is_on })
-set_option (option.ImplicitTransactions true) settings = not_known
-set_option (option.ImplicitTransactions false) settings = Ok settings
+set_option (option.ImplicitTransactions is_on) settings = Ok (record settings { implicit = is_on })
 set_option (option.Fixed which is_on) settings = if_known (is_setting which is_on) settings
 set_option (option.Isolation level) settings = at_level level settings
 set_option (option.LockTimeout number) settings = with_timeout number settings

@@ -10,6 +10,8 @@ pub struct Settings {
     pub xact_abort: bool,
     /// NOCOUNT: no count of rows is told.
     pub no_count: bool,
+    /// IMPLICIT_TRANSACTIONS: a statement that reads or writes tables begins a transaction where none is open.
+    pub implicit: bool,
     /// TRANSACTION ISOLATION LEVEL
     pub level: Level,
     /// LOCK_TIMEOUT and DEADLOCK_PRIORITY: how operations are asked.

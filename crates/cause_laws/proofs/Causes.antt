@@ -38,14 +38,14 @@ use Rattle.batch_meaning.specs.declared.raised.Raised.{Raised}
 use Rattle.batch_meaning.specs.declared.settings.Settings.{Settings}
 use Rattle.batch_meaning.specs.declared.stop.Stop.{Stop}
 use Rattle.batch_meaning.specs.declared.stop.Stop.TheVariants.{Failed, Left}
-use Rattle.batch_meaning.specs.Asking.{assigns_all, comes_to, fails_naming, where_done, where_ended}
+use Rattle.batch_meaning.specs.Asking.{assigns_all, comes_to, fails_naming, where_done, where_ended, with_room}
 use Rattle.batch_meaning.specs.Calls.{Call, call_over, call_vars, depth_limit, finds_call, given_back, no_procedure, too_deep, uneven}
 use Rattle.batch_meaning.specs.Cursors.{closes_cursor, declares_cursor, fetches_cursor, opens_cursor, removes_cursor}
 use Rattle.batch_meaning.specs.Databases.{uses_database}
 use Rattle.batch_meaning.specs.Doing.{Doing, asks, makes, over, reads, ◌then◌, Held}
 use Rattle.batch_meaning.specs.Failures.{plain}
 use Rattle.batch_meaning.specs.Firing.{closes_own, ended_in_trigger, doomed_in_trigger, has_mark, in_trigger, leaves_fired, relaxes_then, settles, trigger_end, undone_to}
-use Rattle.batch_meaning.specs.Meaning.{Meaning, batch, branch, calls, caught_as, concluded, concludes, counted, decides, defined, defines_object, does, doomed_write, each_of, effect_of, ended_by, ends, ends_call, ends_doomed, ends_even, ends_uneven, ends_uneven_as, fails_for, fires, gives_back, goes_on, handled, has_failed, is_refused_doomed, leaves_rows, line_of, mean_by, mean_form, mean_of, raises, raises_again, raises_at, raises_or_tells, returns_from, rolls_back_told, runs_body, runs_call, runs_fired, runs_text, runs_trigger, runs_triggers, sends_some, set_by, sets_option, spends, statements_spent, strikes, succeeds, tells, told_as, told_tokens, told_unless_own, tries, turned, turns, turns_again, uneven_end, uneven_tokens, uneven_with, unless_stopped, vars_in_text, way_of, where_it_fits, writes, writes_in, written, written_in, written_with}
+use Rattle.batch_meaning.specs.Meaning.{Meaning, batch, begins_first, begun_unseen, behind_unseen, branch, calls, caught_as, concluded, concludes, counted, decides, defined, defines_object, does, doomed_write, each_of, effect_of, ended_by, ends, ends_call, ends_doomed, ends_even, ends_uneven, ends_uneven_as, fails_for, fires, gives_back, goes_on, handled, has_failed, is_even, is_refused_doomed, leaves_rows, line_of, mean_by, mean_form, mean_of, puts_object, raises, raises_again, raises_at, raises_or_tells, returns_from, rolls_back_told, runs_body, runs_call, runs_fired, runs_text, runs_trigger, runs_triggers, sends_some, set_by, sets_option, spends, statements_spent, strikes, succeeds, tells, told_as, told_tokens, told_unless_own, tries, turned, turns, turns_again, uneven_end, uneven_tokens, uneven_with, unless_stopped, vars_in_text, way_of, where_it_fits, writes, writes_in, written, written_in, written_with}
 use Rattle.batch_meaning.specs.Rpc.{Placed, ReadsFor, behind_batch, binds_call, defined_in, ending, ends_exec, ends_rpc, ends_rpc_doomed, execs, fails_call, finds_named, finds_read, gives_call_back, goes_on_with, is_output, is_too_many, leaves_body, mismatch, no_statement, object_in, placed_in, return_value, returned, returns_uneven, rpc, rpc_arguments, rpc_statement, rpc_vars, runs_exec, runs_rpc, runs_sql, runs_way, skips_place, strikes_call, tells_returned, tells_unless, tells_well}
 use Rattle.batch_meaning.specs.Progress.{SessionProgress, begins, counts, fired_from, fires_from, made, sends, statement_limit, tells_error, tells_rows}
 use Rattle.batch_meaning.specs.Raised.{Around, again, action_in, around_batch, error_token, in_body, in_catch, in_try, is_caught_in, raised_at, raised_in}
@@ -53,7 +53,8 @@ use Rattle.batch_meaning.specs.Selecting.{Effect, bound_over, messages, no_effec
 use Rattle.batch_meaning.specs.Settings.{outside_profile, set_option}
 use Rattle.batch_meaning.specs.Statements.{vars_of}
 use Rattle.batch_meaning.specs.Tokens.{batch_done, command_of, done_kind, procedure_done, rpc_done}
-use Rattle.batch_meaning.specs.Transactions.{begins_transaction, commits_transaction, rolls_back_transaction, saves_transaction}
+use Rattle.batch_meaning.specs.Transactions.{begins_outermost, begins_transaction, commits_transaction, next_serial, rolls_back_transaction, saves_transaction}
+use Rattle.batch_meaning.specs.Unseen.{is_unseen, wants_begin}
 use Rattle.batch_meaning.specs.Values.{Assigned, is_message, outside_limits}
 use Rattle.batch_meaning.specs.Working.{asks_any, binds, composes, enters, known_by, leaves, relaxes, statuses, tests, works}
 use Rattle.batch_meaning.specs.Writes.{Written, change_bound, creates_definition, creates_table, drops, is_odd_procedure}
@@ -65,7 +66,7 @@ use Rattle.cause_laws.proofs.Watch.{CaughtBy, CaughtOther, Guard, IsOther, Leave
 use Rattle.cause_laws.proofs.Locks.{caught_other, leaves_other, lock_watch, told_none}
 use Rattle.cause_laws.proofs.Clean.{Clean, OtherOr, clean_bind, clean_comes, clean_done, clean_ended, clean_enough, clean_if, clean_naming, clean_room, clean_test, clean_then, held_clean, usual_other}
 use Rattle.cause_laws.proofs.CleanParts.{EffectOther, Effects, Plainly, RaisesOther, WrittenOther, clean_assigns, clean_binds, clean_bound, clean_call, clean_change, clean_closes, clean_composes, clean_drops, clean_enters, clean_leaves, clean_relaxes, clean_statuses, clean_tests, clean_works, messages_other}
-use Rattle.cause_laws.proofs.CleanForms.{clean_begins, clean_commits, clean_create, clean_declares, clean_definition, clean_fetches, clean_opens, clean_removes, clean_rolls, clean_saves, clean_shuts, clean_uses}
+use Rattle.cause_laws.proofs.CleanForms.{clean_begins, clean_commits, clean_create, clean_declares, clean_definition, clean_fetches, clean_opens, clean_outermost, clean_removes, clean_rolls, clean_saves, clean_shuts, clean_uses}
 
 module _ (error : Guard) where
   -- a statement, or what comes of it
@@ -157,6 +158,20 @@ module _ (error : Guard) where
   unfolding does
   clean_does around statement work clean = clean_concludes (EffectOther error) around statement (λ effect. succeeds statement effect (over On)) work clean (λ effect other. clean_succeeds statement effect (over On) other tt)
 
+  -- ---- behind a transaction that is begun unseen
+
+  pub clean_unseen : (wants : SessionProgress → Bool) (fails : Failure → Doing Exit) (next : Doing Exit) → ((failure : Failure) → IsOther error failure.number → Exits (fails failure)) → Exits next → Exits (begun_unseen wants fails next)
+  unfolding begun_unseen
+  clean_unseen wants fails next failing clean = λ p at. clean_if error (LeavesOther error) (wants p) (begins_first fails next p) next
+      (clean_then error (OtherOr error (EffectOther error)) (LeavesOther error) (with_room (begins_outermost None (next_serial p.txn))) (λ came. behind_unseen fails next came)
+      (clean_room error (EffectOther error) (begins_outermost None (next_serial p.txn)) (clean_outermost error None (next_serial p.txn))) by_came) clean
+    where
+      by_came : (came : Result Effect Failure) → OtherOr error (EffectOther error) came → Exits (behind_unseen fails next came)
+      by_came (Ok effect) other = (other, clean)
+      by_came (Err failure) other = failing failure other
+
+  -- ---- each kind of statement
+
   clean_tells : (around : Around) (statement : Statement) → Exits (tells around statement)
   unfolding tells
   clean_tells around statement = clean_concludes (RaisesOther error around statement) around statement (raises_or_tells around statement) (composes around statement) (clean_composes error around statement)
@@ -200,7 +215,7 @@ module _ (error : Guard) where
 
   clean_ends_call : (around : Around) (statement : Statement) (count : ℕ) (status : ℤ) → Exits (ends_call around statement count status)
   unfolding ends_even ends_uneven
-  clean_ends_call around statement count status = λ p at. clean_if error (LeavesOther error) (p.txn.count == count) (ends_even around statement status) (ends_uneven around statement status raised)
+  clean_ends_call around statement count status = λ p at. clean_if error (LeavesOther error) (is_even p count) (ends_even around statement status) (ends_uneven around statement status raised)
       (clean_where around statement (procedure_done status) (succeeds statement (sending (procedure_done status)) (over On)) (clean_succeeds statement (sending (procedure_done status)) (over On) (tt, (error.watch.more, tt)) tt))
       (λ q at. clean_uneven around statement status raised (is_caught_in around raised) (action_in around q.settings.xact_abort raised) (usual_other error (pos 266) refl))
     where
@@ -438,10 +453,14 @@ module _ (error : Guard) where
   clean_defined line (Ok effect) other = (tt, (tt, tt))
   clean_defined line (Err failure) other = (tt, clean_at around_batch line command_none (raised_at line failure) other)
 
+  clean_puts : (line : ℤ) (of : Definition) (units : List ℕ) → Exits (puts_object line of units)
+  unfolding puts_object
+  clean_puts line of units = λ p at. clean_if error (LeavesOther error) p.txn.doomed (defined line (Err (plain doomed_write))) (creates_definition of units then defined line) (clean_defined line (Err (plain doomed_write)) (usual_other error (pos 3930) refl))
+      (clean_then error (OtherOr error (EffectOther error)) (LeavesOther error) (creates_definition of units) (defined line) (clean_definition error of units) (clean_defined line))
+
   pub clean_object : (line : ℤ) (of : Definition) (units : List ℕ) → Exits (defines_object line of units)
   unfolding defines_object
-  clean_object line of units = λ p at. clean_if error (LeavesOther error) p.txn.doomed (defined line (Err (plain doomed_write))) (creates_definition of units then defined line) (clean_defined line (Err (plain doomed_write)) (usual_other error (pos 3930) refl))
-      (clean_then error (OtherOr error (EffectOther error)) (LeavesOther error) (creates_definition of units) (defined line) (clean_definition error of units) (clean_defined line))
+  clean_object line of units = clean_unseen (λ p. wants_begin p) (λ failure. defined line (Err failure)) (puts_object line of units) (λ failure other. clean_defined line (Err failure) other) (clean_puts line of units)
 
   pub clean_end : ((failed : Bool) → TellsOther error (batch_done failed)) → (exit : Exit) → Plainly error (ends exit)
   unfolding ends ends_doomed
@@ -490,7 +509,7 @@ module _ (error : Guard) where
 
   clean_ends_exec : (call : Errand) (count : ℕ) (status : ℤ) → Exits (ends_exec call count status)
   unfolding ends_exec
-  clean_ends_exec call count status = λ p at q also. clean_if error (LeavesOther error) (q.txn.count == count) (tells_returned (pos 0) (returned call p.vars status) (over On)) (returns_uneven (returned call p.vars status) raised (action_in around_batch q.settings.xact_abort raised))
+  clean_ends_exec call count status = λ p at q also. clean_if error (LeavesOther error) (is_even q count) (tells_returned (pos 0) (returned call p.vars status) (over On)) (returns_uneven (returned call p.vars status) raised (action_in around_batch q.settings.xact_abort raised))
       (clean_tells_returned (pos 0) (returned call p.vars status) (over On) (tt, values_none p.vars (placed_in call)) tt)
       (clean_tells_returned raised.number _ (ended_by (action_in around_batch q.settings.xact_abort raised))
       (uneven_none (action_in around_batch q.settings.xact_abort raised) (returned call p.vars status) raised (tt, values_none p.vars (placed_in call)) (usual_other error (pos 266) refl)) (clean_ends (action_in around_batch q.settings.xact_abort raised)))
@@ -609,9 +628,14 @@ module _ (watch : Watch) where
   clean_mean (suc levels) statement around caught = λ p at. by_left (λ inner so is. clean_mean levels inner so is) p (watch.spent (LeavesBy watch) (suc levels) p _ at) (p.statements_left == 0) refl
     where
       by_left : ((inner : Statement) (so : Around) → CaughtBy watch so.caught → Exits (at_left levels) (mean_of levels inner so)) → (p : SessionProgress) → ((p.statements_left == 0) ≡ true → watch.Other (pos statements_spent))
-          → (none : Bool) → (p.statements_left == 0) ≡ none → Clean (at_left (suc levels)) (LeavesBy watch) (if none then spends statement around else makes counts (mean_by (λ inner at. mean_of levels inner at) statement around))
+          → (none : Bool) → (p.statements_left == 0) ≡ none
+          → Clean (at_left (suc levels)) (LeavesBy watch) (if none then spends statement around else makes counts (begun_unseen (λ q. is_unseen q (form_of statement)) (fails_for around statement) (mean_by (λ inner at. mean_of levels inner at) statement around)))
       by_left each p spent true is = clean_raises (at_left (suc levels)) around statement (raised_in around.procedure (line_of statement) (plain statements_spent)) (spent is)
-      by_left each p spent false is = (tt, clean_by (at_left levels) (CaughtBy watch) (λ raised other. other) (λ inner at. mean_of levels inner at) each around statement caught (λ is. caught))
+      by_left each p spent false is = (
+        tt,
+        clean_unseen (at_left levels) (λ q. is_unseen q (form_of statement)) (fails_for around statement) (mean_by (λ inner at. mean_of levels inner at) statement around) (λ failure other. clean_fails (at_left levels) around statement failure other)
+            (clean_by (at_left levels) (CaughtBy watch) (λ raised other. other) (λ inner at. mean_of levels inner at) each around statement caught (λ is. caught)),
+      )
 
   -- ---- batches and calls, behind their beginning
 

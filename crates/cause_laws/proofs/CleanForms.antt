@@ -137,14 +137,15 @@ module _ (error : Guard) where
   clean_first : (statement : Statement) (go : SessionProgress → Doing (Result Effect Failure)) → ((p : SessionProgress) → Effects error (go p)) → Effects error (bound_first statement go)
   clean_first statement go clean = clean_bind error {A = Bound} Anything (EffectOther error) (reads λ p. comes_to (bound_over [] p.vars statement)) (λ of. with_room (reads go)) (clean_bound error [] statement) (λ of any. clean_room error (EffectOther error) (reads go) (λ p at. clean p))
 
+  pub clean_outermost : (name : Option (List ℕ)) (serial : ℕ) → Effects error (begins_outermost name serial)
+  unfolding begins_outermost
+  clean_outermost name serial = clean_left error (EffectOther error) (transaction_begun serial ∷ []) _ (clean_room error (EffectOther error) _ (clean_refused error (EffectOther error) (where_begun (makes (opens name) (over (Ok (sending (transaction_begun serial ∷ []))))))
+      (λ reply says. clean_begun error (EffectOther error) (makes (opens name) (over (Ok (sending (transaction_begun serial ∷ []))))) (tt, (tt, tt)) reply)))
+
   pub clean_begins : (statement : Statement) (name : Option (List ℕ)) → Effects error (begins_transaction statement name)
-  unfolding begins_transaction begins_outermost
-  clean_begins statement name = clean_first statement (begins_over name) (λ p. clean_if error (OtherOr error (EffectOther error)) (not p.is_open) (begins_outermost name (next_serial p.txn)) _ (outermost (next_serial p.txn))
+  unfolding begins_transaction
+  clean_begins statement name = clean_first statement (begins_over name) (λ p. clean_if error (OtherOr error (EffectOther error)) (not p.is_open) (begins_outermost name (next_serial p.txn)) _ (clean_outermost name (next_serial p.txn))
       (clean_if error (OtherOr error (EffectOther error)) (nat_le count_limit p.txn.count) (fails outside_profile) (makes (opens name) (over (Ok no_effect))) (usual_other error (pos 49004) refl) (tt, tt)))
-    where
-      outermost : (serial : ℕ) → Effects error (begins_outermost name serial)
-      outermost serial = clean_left error (EffectOther error) (transaction_begun serial ∷ []) _ (clean_room error (EffectOther error) _ (clean_refused error (EffectOther error) (where_begun (makes (opens name) (over (Ok (sending (transaction_begun serial ∷ []))))))
-          (λ reply says. clean_begun error (EffectOther error) (makes (opens name) (over (Ok (sending (transaction_begun serial ∷ []))))) (tt, (tt, tt)) reply)))
 
   own_other : (is_own : Bool) (token : Token) → TellsOther error token → TellsNone error (unless_own is_own token)
   own_other true token other = tt

@@ -1,4 +1,4 @@
--- Parts of statements that send nothing, whatever is replied: what a statement does before it runs others is such.
+-- Parts of statements that send nothing, whatever is replied: what a statement does before it runs others is such, but for the word of a transaction that it has begun unseen.
 use Rattle.std.proofs.Common.{◌≡◌, refl, sym, ap, ◌∙◌, subst, ℕ, List, [], ◌∷◌, Option, Bool, true, false, Result, Ok, Err, is_ok, if◌then◌else◌}
 use Rattle.std.specs.Prelude.{nat_lt}
 use Rattle.tsql_tree.specs.declared.definition.Definition.{Definition}
@@ -33,10 +33,11 @@ use Rattle.batch_meaning.specs.Asking.{applies, comes_to, fails, finds_by, on_ok
 use Rattle.batch_meaning.specs.Calls.{Call, call_over, finds_call}
 use Rattle.batch_meaning.specs.Changing.{told_by, planned_over}
 use Rattle.batch_meaning.specs.Doing.{Doing, asks, defines, makes, never, over, reads, room, ◌then◌, Held}
-use Rattle.batch_meaning.specs.Progress.{SessionProgress, SessionStep, asked, begins, first_progress, made, sends, size_of, touches}
+use Rattle.batch_meaning.specs.Progress.{SessionProgress, SessionStep, asked, begins, first_progress, made, opens, sends, size_of, touches}
 use Rattle.batch_meaning.specs.Raised.{Around, Fired}
-use Rattle.batch_meaning.specs.Selecting.{Effect, bound_over, result_full}
-use Rattle.batch_meaning.specs.Tokens.{done_kind}
+use Rattle.batch_meaning.specs.Selecting.{Effect, bound_over, result_full, sending}
+use Rattle.batch_meaning.specs.Tokens.{done_kind, transaction_begun}
+use Rattle.batch_meaning.specs.Transactions.{begins_outermost}
 use Rattle.batch_meaning.specs.Working.{asks_any, binds, closes, enters, given_in, known_by, leaves, own, prepares, relaxes, tests, tests_bound, values_bound, if_it_fits, within}
 use Rattle.batch_meaning.specs.Writes.{Written, change_bound, changes, fired_by, fires_of, shape_or}
 use Rattle.statement_paths.proofs.Looking.{definitions_read, finds_read}
@@ -198,6 +199,24 @@ unfolding own
 silent_own {A = A} asking work silent = silent_bind {A = Home} {B = A} Anything Anything (enters asking) (λ home. work then λ came. leaves home (is_ok came) then λ done. over came) (silent_enters asking)
     (λ home any. silent_then (OkIs {A = A} Anything) (OkIs {A = A} Anything) work (λ came. leaves home (is_ok came) then λ done. over came) silent
     (λ came is. silent_then Anything (OkIs {A = A} Anything) (leaves home (is_ok came)) (λ done. over came) (silent_leaves home (is_ok came)) (λ done some. is)))
+
+-- ---- a transaction that is begun unseen
+
+-- what it tells is a word of that alone
+pub silent_outermost : (P : Effect → Type 0) (name : Option (List ℕ)) (serial : ℕ) → P (sending (transaction_begun serial ∷ [])) → Silent (OkIs P) (begins_outermost name serial)
+unfolding begins_outermost
+silent_outermost P name serial is = λ p. silent_if (OkIs P) (nat_lt p.bytes_left (size_of (transaction_begun serial ∷ []))) (fails result_full) (with_room (asks ops.Begin (unless_refused (where_begun begun)))) tt
+    (silent_room P (asks ops.Begin (unless_refused (where_begun begun))) (λ reply can. by_reply reply))
+  where
+    begun : Doing (Result Effect Failure)
+    begun = makes (opens name) (over (Ok (sending (transaction_begun serial ∷ []))))
+
+    by_reply : (reply : Reply) → Silent (OkIs P) (unless_refused (where_begun begun) reply)
+    by_reply replies.Memory = tt
+    by_reply (replies.TimedOut holder held wanted on) = tt
+    by_reply (replies.Victim cycle) = tt
+    by_reply replies.Began = (tt, is)
+    by_reply reply = tt
 
 -- ---- before IF, WHILE and EXEC run others
 

@@ -1,5 +1,5 @@
 -- Each statement shows the cause of the errors of locks that it and those that it runs tell: by induction on the levels of statements. One that runs no other is found by its place; one that runs
--- others has sent nothing before them, and asks for no lock behind them.
+-- others has told no error before them, though it may have begun a transaction unseen, and asks for no lock behind them.
 use Rattle.std.proofs.Common.{◌≡◌, ◌⊎◌, inl, inr, refl, sym, ap, ◌∙◌, subst, ℕ, zero, suc, pos, List, [], ◌∷◌, ◌++◌, Option, Some, None, Bool, true, false, Result, Ok, Err, is_ok, if◌then◌else◌, ◌==◌, append-nil, append_assoc}
 use Rattle.std.specs.Prelude.{◌&&◌, ◌||◌, nat_le, nat_lt}
 use Rattle.std.specs.List.{list_any}
@@ -26,17 +26,20 @@ use Rattle.batch_meaning.specs.declared.raised.Raised.{Raised}
 use Rattle.batch_meaning.specs.declared.settings.Settings.{Settings}
 use Rattle.batch_meaning.specs.declared.stop.Stop.{Stop}
 use Rattle.batch_meaning.specs.declared.stop.Stop.TheVariants.{Failed, Left}
+use Rattle.batch_meaning.specs.Asking.{with_room}
 use Rattle.batch_meaning.specs.Calls.{Call, call_vars, depth_limit, finds_call, too_deep}
 use Rattle.batch_meaning.specs.Changing.{told_by, write_command}
 use Rattle.batch_meaning.specs.Doing.{Doing, makes, never, over, reads, room, ◌then◌, Held}
 use Rattle.batch_meaning.specs.Failures.{plain}
 use Rattle.batch_meaning.specs.Firing.{closes_own, ended_in_trigger, doomed_in_trigger, in_trigger, leaves_fired, relaxes_then, trigger_end, undone_to}
-use Rattle.batch_meaning.specs.Meaning.{Meaning, branch, calls, concluded, concludes, decides, doomed_write, each_of, effect_of, fails_for, fires, goes_on, handled, is_refused_doomed, line_of, mean_by, mean_form, mean_of, returns_from, runs_body, runs_call, runs_fired, runs_trigger, runs_triggers, spends, statements_spent, succeeds, tries, turned, turns, turns_again, unless_stopped, writes, writes_in, written, written_in, written_with}
-use Rattle.batch_meaning.specs.Progress.{SessionProgress, SessionStep, counts, fires_from, sets, size_of, stands_with, tells_error, tells_rows}
+use Rattle.batch_meaning.specs.Meaning.{Meaning, begins_first, begun_unseen, behind_unseen, branch, calls, concluded, concludes, decides, doomed_write, each_of, effect_of, fails_for, fires, goes_on, handled, is_refused_doomed, line_of, mean_by, mean_form, mean_of, returns_from, runs_body, runs_call, runs_fired, runs_trigger, runs_triggers, spends, statements_spent, succeeds, tries, turned, turns, turns_again, unless_stopped, writes, writes_in, written, written_in, written_with}
+use Rattle.batch_meaning.specs.Progress.{SessionProgress, SessionStep, counts, fires_from, sends, sets, size_of, stands_with, tells_error, tells_rows}
 use Rattle.batch_meaning.specs.Raised.{Around, in_body, in_catch, in_try, raised_in}
 use Rattle.batch_meaning.specs.Selecting.{Effect, result_full}
 use Rattle.batch_meaning.specs.Statements.{vars_of}
 use Rattle.batch_meaning.specs.Tokens.{done_kind}
+use Rattle.batch_meaning.specs.Transactions.{begins_outermost, next_serial}
+use Rattle.batch_meaning.specs.Unseen.{is_unseen}
 use Rattle.batch_meaning.specs.Working.{asks_any, binds, enters, known_by, leaves, relaxes, tests}
 use Rattle.batch_meaning.specs.Writes.{Written, change_bound}
 use Rattle.statement_paths.proofs.Apart.{held_apart, held_then}
@@ -47,10 +50,10 @@ use Rattle.cause_laws.proofs.UsualValues.{Anything}
 use Rattle.cause_laws.proofs.Watch.{CaughtBy, Guard, LeavesBy, SaysAll, TellsNone, Watch}
 use Rattle.cause_laws.proofs.Clean.{Clean, held_clean}
 use Rattle.cause_laws.proofs.CleanParts.{done_other}
-use Rattle.cause_laws.proofs.Causes.{clean_by, clean_fails, clean_leaving, clean_raises, clean_returns, clean_succeeds}
+use Rattle.cause_laws.proofs.Causes.{clean_by, clean_fails, clean_leaving, clean_raises, clean_returns, clean_succeeds, clean_unseen}
 use Rattle.cause_laws.proofs.Locks.{lock_other, lock_watch}
 use Rattle.cause_laws.proofs.Passing.{passes_here, then_over}
-use Rattle.cause_laws.proofs.Silent.{IsSilent, OkIs, Silent, silent_binds, silent_call, silent_enters, silent_relaxes, silent_tests}
+use Rattle.cause_laws.proofs.Silent.{IsSilent, OkIs, Silent, silent_binds, silent_call, silent_enters, silent_outermost, silent_relaxes, silent_room, silent_tests}
 use Rattle.cause_laws.proofs.Unlocked.{unlocked_fails, unlocked_leaving, unlocked_raises, unlocked_returns, unlocked_succeeds}
 use Rattle.cause_laws.proofs.Shown.{Carried, Found, Ours, Shown, Shows, Told, View, all_each, at_zero, exits, found_behind, found_caught, plainly, shown_both, shown_end, shown_then, shows_clean, shows_end, shows_makes, shows_more, shows_over, shows_reads, shows_silent, shows_then}
 
@@ -99,11 +102,11 @@ module _ (error : LockError) where
       pub splits_shows : {A : Type 0} (view : View A) (tree : (Statement → Meaning) → Doing A) → Shows error caught Before view (tree one) → Splits caught Before view tree
       splits_shows view tree shows p new exchanges a held = inr (shows p new exchanges a held)
 
-      -- behind what sends nothing
-      pub splits_behind : {A B : Type 0} (P : A → Type 0) (view : View B) (work : Doing A) (go : (Statement → Meaning) → A → Doing B) → Silent P work → ((a : A) → P a → Splits caught Before view (λ m. go m a)) → Splits caught Before view (λ m. work then go m)
-      splits_behind {A = A} P view work go silent each p new exchanges b held =
+      -- behind what tells no error of a lock without its cause
+      splits_then : {A B : Type 0} (P : A → Type 0) (view : View B) (work : Doing A) (go : (Statement → Meaning) → A → Doing B) → Shows error caught Before (plainly P) work → ((a : A) → P a → Splits caught Before view (λ m. go m a)) → Splits caught Before view (λ m. work then go m)
+      splits_then {A = A} P view work go shows each p new exchanges b held =
           let on = held_apart work (go one) p new exchanges b held in
-          let s1 = shows_silent error caught Before P work silent p on.mid on.front on.came on.held in
+          let s1 = shows p on.mid on.front on.came on.held in
           by_rest on.front on.back on.came on.mid on.parts on.held on.rest s1 (each on.came s1.fine on.mid new on.back b on.rest)
         where
           by_rest : (front back : List Exchange) (came : A) (mid : SessionProgress) → exchanges ≡ front ++ back → Held work p front came mid → Held (go one came) mid back b new → Shown error caught Before (plainly P) work p front came mid
@@ -119,6 +122,10 @@ module _ (error : LockError) where
                   by_left : (raised : Raised) → Found error caught (Raises raised) (go one came) mid back b new ⊎ Before raised → Found error caught (Raises raised) (go one came) mid back b new ⊎ Carried error (plainly P) came Before raised
                   by_left raised (inl found) = inl found
                   by_left raised (inr before) = inr (inr before)
+
+      -- behind what sends nothing
+      pub splits_behind : {A B : Type 0} (P : A → Type 0) (view : View B) (work : Doing A) (go : (Statement → Meaning) → A → Doing B) → Silent P work → ((a : A) → P a → Splits caught Before view (λ m. go m a)) → Splits caught Before view (λ m. work then go m)
+      splits_behind P view work go silent each = splits_then P view work go (shows_silent error caught Before P work silent) each
 
       -- and in front of what runs no other
       splits_front : {A B : Type 0} (first : View A) (view : View B) (tree : (Statement → Meaning) → Doing A) (go : (Statement → Meaning) → A → Doing B) → ((a : A) → go one a ≡ go (λ inner at. never) a) → Splits caught Before first tree
@@ -142,6 +149,11 @@ module _ (error : LockError) where
       unfolding ◌then◌
       splits_makes view step next silent splits = splits_behind {A = Unit {0}} Anything view (makes step (over tt)) (λ m done. next m) (silent, tt) (λ done any. splits)
 
+      splits_sends : {A : Type 0} (view : View A) (tokens : List Token) (next : (Statement → Meaning) → Doing A) → TellsNone (at_zero error caught Before) tokens → Splits caught Before view next → Splits caught Before view (λ m. makes (sends tokens) (next m))
+      unfolding ◌then◌
+      splits_sends view tokens next none splits = splits_then {A = Unit {0}} Anything view (makes (sends tokens) (over tt)) (λ m done. next m)
+          (shows_clean error caught Before {A = Unit {0}} Anything (plainly {A = Unit {0}} Anything) (makes (sends tokens) (over tt)) (λ done any. tt) (λ done any raised way ours. way) (none, tt) (tt, tt)) (λ done any. splits)
+
       splits_room : {A : Type 0} (view : View A) (go : (Statement → Meaning) → Bool → Doing A) → ((enough : Bool) → Splits caught Before view (λ m. go m enough)) → Splits caught Before view (λ m. room (go m))
       unfolding ◌then◌
       splits_room view go each = splits_behind {A = Bool} Anything view (room λ enough. over enough) go (λ enough. tt) (λ enough any. each enough)
@@ -149,6 +161,17 @@ module _ (error : LockError) where
       splits_if : {A : Type 0} (view : View A) (test : Bool) (first other : (Statement → Meaning) → Doing A) → Splits caught Before view first → Splits caught Before view other → Splits caught Before view (λ m. if test then first m else other m)
       splits_if view true first other one two = one
       splits_if view false first other one two = two
+
+      -- behind a transaction that is begun unseen
+      splits_unseen : (wants : SessionProgress → Bool) (fails : Failure → Doing Exit) (next : (Statement → Meaning) → Doing Exit) → Splits caught Before exits next → Splits caught Before exits (λ m. begun_unseen wants fails (next m))
+      unfolding begun_unseen
+      splits_unseen wants fails next splits = splits_reads exits (λ m p. if wants p then begins_first fails (next m) p else next m) (λ p. splits_if exits (wants p) (λ m. begins_first fails (next m) p) next
+          (splits_behind (OkIs Untold) exits (with_room (begins_outermost None (next_serial p.txn))) (λ m came. behind_unseen fails (next m) came)
+          (silent_room Untold (begins_outermost None (next_serial p.txn)) (silent_outermost Untold None (next_serial p.txn) (tt, tt))) by_came) splits)
+        where
+          by_came : (came : Result Effect Failure) → OkIs Untold came → Splits caught Before exits (λ m. behind_unseen fails (next m) came)
+          by_came (Ok effect) untold = splits_sends exits effect.tokens next untold splits
+          by_came (Err failure) any = splits_same exits (fails failure)
 
     -- ---- statements that hold statements
 
@@ -425,15 +448,20 @@ module _ (error : LockError) where
         splits_form statement Form-F.ThrowAgain = splits_same around.caught Before exits (mean_form one around statement Form-F.ThrowAgain)
         splits_form statement form = splits_same around.caught Before exits (mean_form one around statement form)
 
-        pub splits_runs : (statement : Statement) → Splits around.caught Before exits (λ m. tree_by m (Runs statement around))
+        splits_mean : (statement : Statement) → Splits around.caught Before exits (λ m. mean_by m statement around)
         unfolding mean_by
-        splits_runs statement = splits_reads around.caught Before exits (λ m p. if p.statements_left == 0 then spends statement around else makes counts (mean_by m statement around))
-            (λ p. splits_if around.caught Before exits (p.statements_left == 0) (λ m. spends statement around) (λ m. makes counts (mean_by m statement around)) (splits_same around.caught Before exits (spends statement around))
-            (splits_makes around.caught Before exits counts (λ m. mean_by m statement around) tt (splits_reads around.caught Before exits by_doom (λ q. splits_if around.caught Before exits (q.txn.doomed && is_refused_doomed (form_of statement)) (λ m. fails_for around statement (plain doomed_write)) (λ m. mean_form m around statement (form_of statement))
-            (splits_same around.caught Before exits (fails_for around statement (plain doomed_write))) (splits_form statement (form_of statement))))))
+        splits_mean statement = splits_reads around.caught Before exits (λ m q. if q.txn.doomed && is_refused_doomed (form_of statement) then fails_for around statement (plain doomed_write) else mean_form m around statement (form_of statement))
+            (λ q. splits_if around.caught Before exits (q.txn.doomed && is_refused_doomed (form_of statement)) (λ m. fails_for around statement (plain doomed_write)) (λ m. mean_form m around statement (form_of statement))
+            (splits_same around.caught Before exits (fails_for around statement (plain doomed_write))) (splits_form statement (form_of statement)))
+
+        pub splits_runs : (statement : Statement) → Splits around.caught Before exits (λ m. tree_by m (Runs statement around))
+        splits_runs statement = splits_reads around.caught Before exits (λ m p. if p.statements_left == 0 then spends statement around else makes counts (begun m))
+            (λ p. splits_if around.caught Before exits (p.statements_left == 0) (λ m. spends statement around) (λ m. makes counts (begun m)) (splits_same around.caught Before exits (spends statement around))
+            (splits_makes around.caught Before exits counts begun tt
+            (splits_unseen around.caught Before (λ q. is_unseen q (form_of statement)) (fails_for around statement) (λ m. mean_by m statement around) (splits_mean statement))))
           where
-            by_doom : (Statement → Meaning) → SessionProgress → Doing Exit
-            by_doom m q = if q.txn.doomed && is_refused_doomed (form_of statement) then fails_for around statement (plain doomed_write) else mean_form m around statement (form_of statement)
+            begun : (Statement → Meaning) → Doing Exit
+            begun m = begun_unseen (λ q. is_unseen q (form_of statement)) (fails_for around statement) (mean_by m statement around)
 
 -- ---- one that runs no other
 
@@ -484,9 +512,13 @@ clean_runs : (watch : Watch) (statement : Statement) (around : Around) → (form
 clean_runs watch statement around thrown = λ p at. by_left p (watch.spent (LeavesBy watch) 1 p _ at) (p.statements_left == 0) refl
   where
     by_left : (p : SessionProgress) → ((p.statements_left == 0) ≡ true → watch.Other (pos statements_spent)) → (none : Bool) → (p.statements_left == 0) ≡ none
-        → Clean (beginning watch) (LeavesBy watch) (if none then spends statement around else makes counts (mean_by (λ inner at. never) statement around))
+        → Clean (beginning watch) (LeavesBy watch) (if none then spends statement around else makes counts (begun_unseen (λ q. is_unseen q (form_of statement)) (fails_for around statement) (mean_by (λ inner at. never) statement around)))
     by_left p spent true is = clean_raises (beginning watch) around statement (raised_in around.procedure (line_of statement) (plain statements_spent)) (spent is)
-    by_left p spent false is = (tt, clean_by (record { watch = watch; left = 0 }) (λ caught. Unit {0}) (λ raised other. tt) (λ inner at. never) (λ inner at is. tt) around statement tt thrown)
+    by_left p spent false is = (
+      tt,
+      clean_unseen (record { watch = watch; left = 0 }) (λ q. is_unseen q (form_of statement)) (fails_for around statement) (mean_by (λ inner at. never) statement around) (λ failure other. clean_fails (record { watch = watch; left = 0 }) around statement failure other)
+          (clean_by (record { watch = watch; left = 0 }) (λ caught. Unit {0}) (λ raised other. tt) (λ inner at. never) (λ inner at is. tt) around statement tt thrown),
+    )
 
 over_held : {A : Type 0} (a : A) (p : SessionProgress) → Held (over a) p [] a p
 unfolding Held

@@ -1,5 +1,5 @@
 -- What a statement does behind those that it has run asks for no lock: it ends transactions and locks alone. So no reply to that is the cause of an error of a lock.
-use Rattle.std.proofs.Common.{◌≡◌, refl, ℕ, ℤ, pos, List, [], ◌∷◌, Option, None, Bool, true, false, Result, Ok, Err, if◌then◌else◌, ◌==◌}
+use Rattle.std.proofs.Common.{◌≡◌, refl, ℕ, ℤ, pos, List, [], ◌∷◌, Option, None, Bool, true, false, Result, Ok, Err, if◌then◌else◌}
 use Rattle.std.specs.Prelude.{nat_lt}
 use Rattle.tsql_tree.specs.declared.statement.Argument.{Argument}
 use Rattle.tsql_tree.specs.declared.statement.Statement.{Statement}
@@ -25,7 +25,7 @@ use Rattle.batch_meaning.specs.Calls.{Call, given_back, uneven}
 use Rattle.batch_meaning.specs.Doing.{Doing, asks, makes, over, reads, ◌then◌}
 use Rattle.batch_meaning.specs.Failures.{plain}
 use Rattle.batch_meaning.specs.Firing.{closes_own, has_mark, leaves_fired, relaxes_then, settles, undone_to}
-use Rattle.batch_meaning.specs.Meaning.{caught_as, concluded, concludes, counted, ended_by, ends, ends_call, ends_doomed, ends_even, ends_uneven, ends_uneven_as, fails_for, gives_back, has_failed, leaves_rows, line_of, raises, raises_at, returns_from, rolls_back_told, sends_some, strikes, succeeds, told_as, told_unless_own, uneven_end, uneven_tokens, where_it_fits}
+use Rattle.batch_meaning.specs.Meaning.{caught_as, concluded, concludes, counted, ended_by, ends, ends_call, ends_doomed, ends_even, ends_uneven, ends_uneven_as, fails_for, gives_back, has_failed, is_even, leaves_rows, line_of, raises, raises_at, returns_from, rolls_back_told, sends_some, strikes, succeeds, told_as, told_unless_own, uneven_end, uneven_tokens, where_it_fits}
 use Rattle.batch_meaning.specs.Progress.{SessionProgress, fired_from, sends, size_of, tells_error, tells_rows}
 use Rattle.batch_meaning.specs.Raised.{Around, action_in, around_batch, is_caught_in, raised_at, raised_in}
 use Rattle.batch_meaning.specs.Rpc.{ending, ends_exec, ends_rpc, ends_rpc_doomed, error_or_full, fails_call, gives_call_back, goes_on_with, leaves_body, returned, returns_uneven, rpc_arguments, strikes_call, tells_returned, tells_well}
@@ -156,7 +156,7 @@ unlocked_uneven around statement status raised caught action = unlocked_where ar
 
 unlocked_ends_call : (around : Around) (statement : Statement) (count : ℕ) (status : ℤ) → Unlocked (ends_call around statement count status)
 unfolding ends_even ends_uneven
-unlocked_ends_call around statement count status = λ p. unlocked_if (p.txn.count == count) (ends_even around statement status) (ends_uneven around statement status raised)
+unlocked_ends_call around statement count status = λ p. unlocked_if (is_even p count) (ends_even around statement status) (ends_uneven around statement status raised)
     (unlocked_where around statement (procedure_done status) (succeeds statement (sending (procedure_done status)) (over On)) (unlocked_succeeds statement (sending (procedure_done status)) (over On) tt))
     (λ q. unlocked_uneven around statement status raised (is_caught_in around raised) (action_in around q.settings.xact_abort raised))
   where
@@ -242,7 +242,7 @@ unlocked_returned number tokens next unlocked = λ p. unlocked_if (nat_lt p.byte
 
 unlocked_ends_exec : (call : Errand) (count : ℕ) (status : ℤ) → Unlocked (ends_exec call count status)
 unfolding ends_exec
-unlocked_ends_exec call count status = λ p q. unlocked_if (q.txn.count == count) (tells_returned (pos 0) (returned call p.vars status) (over On)) (returns_uneven (returned call p.vars status) raised (action_in around_batch q.settings.xact_abort raised))
+unlocked_ends_exec call count status = λ p q. unlocked_if (is_even q count) (tells_returned (pos 0) (returned call p.vars status) (over On)) (returns_uneven (returned call p.vars status) raised (action_in around_batch q.settings.xact_abort raised))
     (unlocked_returned (pos 0) (returned call p.vars status) (over On) tt)
     (unlocked_returned raised.number _ (ended_by (action_in around_batch q.settings.xact_abort raised)) (unlocked_ended_by (action_in around_batch q.settings.xact_abort raised)))
   where

@@ -357,8 +357,7 @@ known_usual false settings = refl
 pub option_usual : (option : SessionOption) (settings : Settings) → UsualOr Anything (set_option option settings)
 option_usual (options.XactAbort is_on) settings = tt
 option_usual (options.NoCount is_on) settings = tt
-option_usual (options.ImplicitTransactions true) settings = refl
-option_usual (options.ImplicitTransactions false) settings = tt
+option_usual (options.ImplicitTransactions is_on) settings = tt
 option_usual (options.Fixed which is_on) settings = known_usual (is_setting which is_on) settings
 option_usual (options.Isolation isolation.ReadCommitted) settings = tt
 option_usual (options.Isolation isolation.Serializable) settings = tt

@@ -18,11 +18,12 @@ use Rattle.batch_meaning.specs.declared.exit.Exit.TheVariants.{Raise, RaiseUp}
 use Rattle.batch_meaning.specs.declared.form.ReadText.{ReadText}
 use Rattle.batch_meaning.specs.declared.raised.Raised.{Raised}
 use Rattle.batch_meaning.specs.Doing.{Doing, asks, defines, makes, never, over, reads, room, ◌then◌, Held}
-use Rattle.batch_meaning.specs.Meaning.{Meaning, batch, defines_object, mean_by, mean_of, spends}
+use Rattle.batch_meaning.specs.Meaning.{Meaning, batch, begun_unseen, defines_object, fails_for, mean_by, mean_of, spends}
 use Rattle.batch_meaning.specs.Progress.{SessionProgress, asked, counts, made}
 use Rattle.batch_meaning.specs.Raised.{Around}
 use Rattle.batch_meaning.specs.Rpc.{ReadsFor, execs, finds_named, rpc}
 use Rattle.batch_meaning.specs.Statements.{ReadsAs}
+use Rattle.batch_meaning.specs.Unseen.{is_unseen}
 use Rattle.cause_laws.specs.Causes.{CaughtOther, LockError, is_answer, number_of}
 
 -- ---- points of what was done
@@ -55,7 +56,7 @@ pub data Begun : Type 0 where
 -- what it does, by the meaning of the statements that it runs
 abbrev pub tree_by : (Statement → Meaning) → Begun → Doing Exit
 tree_by one (Runs statement around) = reads λ p. if p.statements_left == 0 then spends statement around
-    else makes counts (mean_by one statement around)
+    else makes counts (begun_unseen (λ q. is_unseen q (form_of statement)) (fails_for around statement) (mean_by one statement around))
 tree_by one (Defines line of units) = defines_object line of units
 tree_by one (Execs call name object) = execs one call (finds_named call name object)
 

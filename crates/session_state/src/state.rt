@@ -49,6 +49,7 @@ const GREATEST_COUNT: u32 = 2_147_483_647;
 const FIRST_SETTINGS: Settings = Settings {
     xact_abort: false,
     no_count: false,
+    implicit: false,
     level: Level::ReadCommitted,
     manner: Manner {
         patience: Patience::Forever,

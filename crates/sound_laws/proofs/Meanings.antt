@@ -47,7 +47,7 @@ use Rattle.batch_meaning.specs.Databases.{uses_database}
 use Rattle.batch_meaning.specs.Doing.{Doing, asks, makes, over, reads, room, ◌then◌}
 use Rattle.batch_meaning.specs.Failures.{naming, plain}
 use Rattle.batch_meaning.specs.Firing.{closes_own, has_mark, in_trigger, leaves_fired, relaxes_then, settles, trigger_end, undone_to}
-use Rattle.batch_meaning.specs.Meaning.{Meaning, batch, branch, calls, caught_as, concluded, concludes, counted, decides, defined, defines_object, does, doomed_write, each_of, effect_of, ended_by, ends, ends_call, ends_doomed, ends_even, ends_uneven, ends_uneven_as, fails_for, fires, gives_back, goes_on, handled, is_refused_doomed, leaves_rows, mean_by, mean_form, mean_of, raises, raises_again, raises_at, raises_or_tells, returns_from, rolls_back_open, rolls_back_told, runs_body, runs_call, runs_fired, runs_text, runs_trigger, runs_triggers, sends_some, set_by, sets_option, spends, strikes, succeeds, tells, tells_behind, told_as, told_unless_own, tries, turned, turns, turns_again, uneven_end, uneven_tokens, unless_stopped, where_it_fits, writes, writes_in, written, written_in, written_with}
+use Rattle.batch_meaning.specs.Meaning.{Meaning, batch, begins_first, begun_unseen, behind_unseen, branch, calls, caught_as, concluded, concludes, counted, decides, defined, defines_object, does, doomed_write, each_of, effect_of, ended_by, ends, ends_call, ends_doomed, ends_even, ends_uneven, ends_uneven_as, fails_for, fires, gives_back, goes_on, handled, is_even, is_refused_doomed, leaves_rows, mean_by, mean_form, mean_of, puts_object, raises, raises_again, raises_at, raises_or_tells, returns_from, rolls_back_open, rolls_back_told, runs_body, runs_call, runs_fired, runs_text, runs_trigger, runs_triggers, sends_some, set_by, sets_option, spends, strikes, succeeds, tells, tells_behind, told_as, told_unless_own, tries, turned, turns, turns_again, uneven_end, uneven_tokens, unless_stopped, where_it_fits, writes, writes_in, written, written_in, written_with}
 use Rattle.batch_meaning.specs.Rpc.{behind_batch, binds_call, ending, ends_exec, ends_rpc, ends_rpc_doomed, error_or_full, execs, fails_call, finds_named, finds_read as finds_defined, gives_call_back, goes_on_with, is_too_many, leaves_body, mismatch, no_statement, object_in, returned, returns_uneven, rpc, rpc_arguments, rpc_statement, runs_exec, runs_rpc, runs_sql, runs_way, skips_place, tells_returned, tells_unless, tells_well}
 use Rattle.batch_meaning.specs.Progress as step
 use Rattle.batch_meaning.specs.Progress.{SessionProgress, size_of, statement_limit}
@@ -57,6 +57,7 @@ use Rattle.batch_meaning.specs.Settings.{outside_profile, set_option}
 use Rattle.batch_meaning.specs.Statements.{vars_of}
 use Rattle.batch_meaning.specs.Tokens.{done_kind, procedure_done, transaction_begun, transaction_committed, transaction_rolled_back}
 use Rattle.batch_meaning.specs.Transactions.{begins_outermost, begins_over, begins_transaction, commits_by, commits_transaction, goes_back, named_first, next_serial, nothing_open, rolls_back_to, rolls_back_transaction, rolls_back_whole, saves_transaction, saves_unless, unless_own}
+use Rattle.batch_meaning.specs.Unseen.{is_unseen, wants_begin}
 use Rattle.batch_meaning.specs.Values.{is_message, outside_limits}
 use Rattle.batch_meaning.specs.Working.{asks_any, binds, composes, enters, known_by, leaves, own, relaxes, statuses, tests, works}
 use Rattle.batch_meaning.specs.Writes.{Written, change_bound, creates_definition, creates_table, drops, is_odd_procedure}
@@ -70,7 +71,7 @@ use Rattle.text_laws.specs.Laws.{BodyReadsBack, CallReadsBack, EachIn, Everywher
 use Rattle.sound_laws.proofs.Bringing.{brings_room, brings_then}
 use Rattle.sound_laws.proofs.Cursors.{closes_still, declares_still, fetches_still, first_still, opens_still, own_still, removes_still, uses_still}
 use Rattle.sound_laws.proofs.Defining.{defines_carry}
-use Rattle.sound_laws.proofs.Statements.{begun_still, bytes_still, carries_if, carries_makes, carries_reads, carries_then, change_carry, closes_still as own_closes_still, composes_carry, creates_carry, done_still, drops_carry, ended_still, enters_still, leaves_still, relaxes_still, statuses_carry, tests_carry, works_carry}
+use Rattle.sound_laws.proofs.Statements.{begun_still, bytes_still, carries_if, carries_makes, carries_reads, carries_room, carries_then, change_carry, closes_still as own_closes_still, composes_carry, creates_carry, done_still, drops_carry, ended_still, enters_still, leaves_still, relaxes_still, statuses_carry, tests_carry, works_carry}
 use Rattle.sound_laws.proofs.Steps.{IsStill}
 use Rattle.sound_laws.proofs.Targets.{target_of}
 use Rattle.sound_laws.proofs.Trees.{WritesNothing, carries_still, only_assigns, only_refused, reads_still}
@@ -303,7 +304,7 @@ uneven_still around statement status raised = λ p. by (is_caught_in around rais
     by caught what = fits_still around statement (uneven_tokens caught what status raised) _ (tt, (tt, (tt, uneven_end_still caught what raised)))
 
 call_ends_still : (around : Around) (statement : Statement) (count : ℕ) (status : ℤ) → WritesNothing (ends_call around statement count status)
-call_ends_still around statement count status = λ p. only_if AnyStep IsStill (p.txn.count == count) (ends_even around statement status) _ (even_still around statement status) (uneven_still around statement status _)
+call_ends_still around statement count status = λ p. only_if AnyStep IsStill (is_even p count) (ends_even around statement status) _ (even_still around statement status) (uneven_still around statement status _)
 
 back_given_still : (around : Around) (statement : Statement) (status : Option (List ℕ)) (arguments : List Argument) (call : Call) (count : ℕ) (inner : List Variable) (number : ℤ) → WritesNothing (gives_back around statement status arguments call count inner number)
 unfolding gives_back concludes
@@ -519,6 +520,18 @@ module _ (one : Statement → Meaning) (around : Around) (statement : Statement)
       (carries_still (fails_for around statement (plain doomed_write)) (fails_still around statement (plain doomed_write)))
       (form_carry carry (form_of statement) refl back each self))
 
+-- behind a transaction that is begun unseen
+unseen_carry : (wants : SessionProgress → Bool) (fails : Failure → Doing Exit) (next : Doing Exit) → ((failure : Failure) → WritesNothing (fails failure)) → Carries next → Carries (begun_unseen wants fails next)
+unfolding begun_unseen
+unseen_carry wants fails next still carries = carries_reads (λ p. if wants p then begins_first fails next p else next)
+    (λ p. carries_if (wants p) (begins_first fails next p) next
+    (carries_then (with_room (begins_outermost None (next_serial p.txn))) (λ came. behind_unseen fails next came)
+    (carries_room (begins_outermost None (next_serial p.txn)) (carries_still (begins_outermost None (next_serial p.txn)) (outermost_still None (next_serial p.txn)))) by_came) carries)
+  where
+    by_came : (came : Result Effect Failure) → Carries (behind_unseen fails next came)
+    by_came (Ok effect) = carries_makes (step.sends effect.tokens) next carries
+    by_came (Err failure) = carries_still (fails failure) (still failure)
+
 -- ---- the cycle
 
 all_every : {A : Type 0} (P : ℕ → A → Type 0) (Q : A → Type 0) (goes : (a : A) → ((levels : ℕ) → P levels a) → Q a) (xs : List A) → ((levels : ℕ) → AllByRecursion (P levels) xs) → AllByRecursion Q xs
@@ -543,12 +556,16 @@ pub mean_carry : (levels : ℕ) (statement : Statement) → Everywhere ReadsBack
 unfolding mean_of
 mean_carry zero statement back around = spends_carry statement around
 mean_carry (suc levels) statement back around =
-    carries_reads (λ p. if p.statements_left == 0 then spends statement around else makes step.counts (mean_by (λ inner at. mean_of levels inner at) statement around))
-    (λ p. carries_if (p.statements_left == 0) (spends statement around) (makes step.counts (mean_by (λ inner at. mean_of levels inner at) statement around)) (spends_carry statement around)
-    (carries_makes step.counts (mean_by (λ inner at. mean_of levels inner at) statement around)
+    carries_reads (λ p. if p.statements_left == 0 then spends statement around else makes step.counts Begun)
+    (λ p. carries_if (p.statements_left == 0) (spends statement around) (makes step.counts Begun) (spends_carry statement around)
+    (carries_makes step.counts Begun
+    (unseen_carry (λ q. is_unseen q (form_of statement)) (fails_for around statement) (mean_by (λ inner at. mean_of levels inner at) statement around) (λ failure. fails_still around statement failure)
     (by_carry (λ inner at. mean_of levels inner at) around statement (mean_carry levels) (back 1).0
     (each_every (λ levels inner. Within levels ReadsBack inner) (AllCarry (λ inner at. mean_of levels inner at)) (λ inner each. mean_carry levels inner each) (form_of statement) (λ levels. (back (suc levels)).1))
-    (mean_carry levels statement back))))
+    (mean_carry levels statement back)))))
+  where
+    Begun : Doing Exit
+    Begun = begun_unseen (λ q. is_unseen q (form_of statement)) (fails_for around statement) (mean_by (λ inner at. mean_of levels inner at) statement around)
 
 all_carry : (levels : ℕ) (statements : List Statement) → AllByRecursion (Everywhere ReadsBack) statements → AllByRecursion (AllCarry (λ inner at. mean_of levels inner at)) statements
 all_carry levels [] back = tt
@@ -565,10 +582,14 @@ defined_still : (line : ℤ) (came : Result Effect Failure) → WritesNothing (d
 defined_still line (Ok effect) = (tt, (tt, tt))
 defined_still line (Err failure) = (tt, raised_still around_batch line command_none _)
 
+puts_carry : (line : ℤ) (of : Definition) (kept : List ℕ) → TextReadsBack (text.Defines line of kept) → Carries (puts_object line of kept)
+unfolding puts_object
+puts_carry line of kept back = carries_reads _ (λ p. carries_if p.txn.doomed (defined line (Err (plain doomed_write))) (creates_definition of kept then defined line) (carries_still (defined line (Err (plain doomed_write))) (defined_still line (Err (plain doomed_write))))
+    (carries_then (creates_definition of kept) (defined line) (defines_carry of kept back) (λ came. carries_still (defined line came) (defined_still line came))))
+
 object_carry : (line : ℤ) (of : Definition) (kept : List ℕ) → TextReadsBack (text.Defines line of kept) → Carries (defines_object line of kept)
 unfolding defines_object
-object_carry line of kept back = carries_reads _ (λ p. carries_if p.txn.doomed (defined line (Err (plain doomed_write))) (creates_definition of kept then defined line) (carries_still (defined line (Err (plain doomed_write))) (defined_still line (Err (plain doomed_write))))
-    (carries_then (creates_definition of kept) (defined line) (defines_carry of kept back) (λ came. carries_still (defined line came) (defined_still line came))))
+object_carry line of kept back = unseen_carry (λ p. wants_begin p) (λ failure. defined line (Err failure)) (puts_object line of kept) (λ failure. defined_still line (Err failure)) (puts_carry line of kept back)
 
 text_carry : (read : ReadText) → TextReadsBack read → Carries (runs_text read)
 text_carry (text.Statements statements) back = each_carry (λ inner at. mean_of statement_limit inner at) statements around_batch (all_carry statement_limit statements back)
@@ -592,7 +613,7 @@ returned_still number tokens next still = λ p. only_if AnyStep IsStill (nat_lt 
 
 exec_ends_still : (call : Errand) (count : ℕ) (status : ℤ) → WritesNothing (ends_exec call count status)
 unfolding ends_exec
-exec_ends_still call count status = λ p q. only_if AnyStep IsStill (q.txn.count == count) (tells_returned (pos 0) (returned call p.vars status) (over On)) (returns_uneven (returned call p.vars status) raised (action_in around_batch q.settings.xact_abort raised))
+exec_ends_still call count status = λ p q. only_if AnyStep IsStill (is_even q count) (tells_returned (pos 0) (returned call p.vars status) (over On)) (returns_uneven (returned call p.vars status) raised (action_in around_batch q.settings.xact_abort raised))
     (returned_still (pos 0) (returned call p.vars status) (over On) tt) (returned_still raised.number _ (ended_by (action_in around_batch q.settings.xact_abort raised)) (ended_by_still (action_in around_batch q.settings.xact_abort raised)))
   where
     raised : Raised

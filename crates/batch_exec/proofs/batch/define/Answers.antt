@@ -1,21 +1,38 @@
-use Rattle.std.proofs.Common.{◌≡◌, to_z, of_z, refl, rules, sym}
+use Rattle.std.proofs.Common.{◌≡◌, Err, to_z, of_z, rules}
 use Rattle.std.specs.Int.{w32}
-use Rattle.batch_meaning.specs.Meaning.{defines_object}
-use Rattle.batch_meaning.proofs.Composed.{does_makes, does_no, does_over, does_reads, does_then, does_yes}
+use Rattle.batch_meaning.specs.declared.exit.Exit.{Exit}
+use Rattle.batch_meaning.specs.declared.failure.Failure.{Failure}
+use Rattle.batch_meaning.specs.Doing.{Doing}
+use Rattle.batch_meaning.specs.Meaning.{defined, defines_object, puts_object}
+use Rattle.batch_meaning.proofs.Composed.{leads_to}
+use Rattle.batch_exec.proofs.Begun.{did_out, seen_on, unseen_on}
 use Rattle.batch_exec.proofs.batch.define.Goals as goal
 
-pub returns-then-is_doomed-clause-does : goal.returns-then-is_doomed-clause-does
+pub returns-then-not-wants_begin-clause-does : goal.returns-then-not-wants_begin-clause-does
 unfolding defines_object
-returns-then-is_doomed-clause-does g c =
+returns-then-not-wants_begin-clause-does g c =
     let same : to_z w32 (of_z w32 c.args.line) ≡ c.args.line = search rules in
-    does_reads (does_yes _ _ _ (sym c.if-is_doomed.ensures) (rw (c.plain-failure.ensures, same) at c.fail_at.ensures.does))
+    leads_to (seen_on _ (λ failure. defined c.args.line (Err failure)) _ c.if-not-wants_begin.ensures) (rw same at c.put_object.ensures.does)
 
-pub returns-in-Ok-clause-does : goal.returns-in-Ok-clause-does
+pub returns-in_err-begin_told-clause-does : goal.returns-in_err-begin_told-clause-does
 unfolding defines_object
-returns-in-Ok-clause-does g c = does_reads (does_no _ _ _ (sym c.if-is_doomed.ensures) (does_then _ _ c.in-Ok.ensures.does (does_makes c.tell_rows.ensures (does_makes c.tell_error.ensures (does_over refl)))))
+returns-in_err-begin_told-clause-does g c =
+    let fails : Failure → Doing Exit = λ failure. defined c.args.line (Err failure) in
+    let next : Doing Exit = puts_object c.args.line c.args.of.now c.args.text.now in
+    did_out _ c.from_residual.ensures.0 (leads_to (unseen_on _ fails next c.if-not-wants_begin.ensures) (c.in_err-begin_told.ensures.does fails next))
 
-pub returns-clause-does : goal.returns-clause-does
+pub returns-in-None-clause-does : goal.returns-in-None-clause-does
 unfolding defines_object
-returns-clause-does g c =
+returns-in-None-clause-does g c =
     let same : to_z w32 (of_z w32 c.args.line) ≡ c.args.line = search rules in
-    does_reads (does_no _ _ _ (sym c.if-is_doomed.ensures) (does_then _ _ c.in-Err.ensures.does (rw same at c.fail_at-in-Err.ensures.does)))
+    let fails : Failure → Doing Exit = λ failure. defined c.args.line (Err failure) in
+    let next : Doing Exit = puts_object c.args.line c.args.of.now c.args.text.now in
+    leads_to (unseen_on _ fails next c.if-not-wants_begin.ensures) (leads_to (rw c.in-None.is at c.in_ok-begin_told.ensures.does fails next) (rw same at c.put_object-in-None.ensures.does))
+
+pub returns-in-Some-clause-does : goal.returns-in-Some-clause-does
+unfolding defines_object
+returns-in-Some-clause-does g c =
+    let same : to_z w32 (of_z w32 c.args.line) ≡ c.args.line = search rules in
+    let fails : Failure → Doing Exit = λ failure. defined c.args.line (Err failure) in
+    let next : Doing Exit = puts_object c.args.line c.args.of.now c.args.text.now in
+    leads_to (unseen_on _ fails next c.if-not-wants_begin.ensures) (leads_to (rw c.in-Some.is at c.in_ok-begin_told.ensures.does fails next) (rw same at c.fail_at.ensures.does))

@@ -2,13 +2,14 @@ use Rattle.std.proofs.Common.{◌≡◌, true, false, Err, refl, sym, ap, ◌∙
 use Rattle.batch_meaning.specs.Doing.{never}
 use Rattle.batch_meaning.specs.Firing.{in_trigger}
 use Rattle.batch_meaning.specs.Working.{relaxes}
-use Rattle.batch_meaning.specs.Meaning.{calls, fires, mean_form, mean_of, runs_body, runs_call, runs_fired, runs_trigger, tries}
+use Rattle.batch_meaning.specs.Meaning.{calls, fires, mean_by, mean_form, mean_of, runs_body, runs_call, runs_fired, runs_trigger, tries}
 use Rattle.batch_meaning.specs.Progress.{SessionProgress}
 use Rattle.batch_meaning.specs.Writes.{Written}
 use Rattle.std.proofs.lemmas.List.{drop_all}
 use Rattle.batch_meaning.proofs.Composed.{does_leave, does_makes, does_no, does_out, does_over, does_reads, does_room, does_then, does_yes, leads_here, leads_then, leads_to}
 use Rattle.batch_exec.proofs.Bodies.{fires_left, next_trigger, told_none, trigger_on, trigger_stopped, triggers_done}
 use Rattle.batch_exec.proofs.Fired.{ready_fires, relaxes_left, undone_left}
+use Rattle.batch_exec.proofs.Begun.{did_out}
 use Rattle.batch_exec.proofs.Worked.{does_form}
 use Rattle.statement_exec.proofs.Forms.{is_Block, is_Delete, is_Execute, is_If, is_Insert, is_TryCatch, is_Update, is_While}
 use Rattle.batch_exec.proofs.Runs.{begun_level, body_left, does_concluded, does_decided, does_undecided, each_done, formed_by, goes_out, leads_decided, leads_more, leads_turned, left_so, loops_behind, loops_left, next_one, not_raised, refused_by, none_left, spent_level}
@@ -21,11 +22,23 @@ use Rattle.batch_exec.proofs.running.+running.Goals as goal
 pub run_statement-returns-then-is_spent-clause-does : goal.run_statement-returns-then-is_spent-clause-does
 run_statement-returns-then-is_spent-clause-does g t c = λ levels below. spent_level levels _ _ c.if-is_spent.ensures c.spend.ensures.does
 
+pub run_statement-returns-in_err-exit-clause-does : goal.run_statement-returns-in_err-exit-clause-does
+run_statement-returns-in_err-exit-clause-does g t c = λ levels below. begun_level levels _ _ below c.if-is_spent.ensures c.begin_statement.ensures (λ fewer under.
+    did_out _ c.from_residual.ensures.0 (c.in_err-exit.ensures.does (mean_by (λ inner at. mean_of fewer inner at) c.args.statement.now c.args.around.now)))
+
+pub run_statement-returns-in-Some-clause-does : goal.run_statement-returns-in-Some-clause-does
+run_statement-returns-in-Some-clause-does g t c = λ levels below. begun_level levels _ _ below c.if-is_spent.ensures c.begin_statement.ensures (λ fewer under.
+    rw c.in-Some.is at c.in_ok-exit.ensures.does (mean_by (λ inner at. mean_of fewer inner at) c.args.statement.now c.args.around.now))
+
 pub run_statement-returns-then-is_refused-clause-does : goal.run_statement-returns-then-is_refused-clause-does
-run_statement-returns-then-is_refused-clause-does g t c = λ levels below. begun_level levels _ _ below c.if-is_spent.ensures c.begin_statement.ensures (λ fewer under. refused_by _ _ _ c.if-is_refused.ensures (rw c.plain-failure.ensures at c.fail.ensures.does))
+run_statement-returns-then-is_refused-clause-does g t c = λ levels below. begun_level levels _ _ below c.if-is_spent.ensures c.begin_statement.ensures (λ fewer under.
+    leads_to (rw c.in-None.is at c.in_ok-exit.ensures.does (mean_by (λ inner at. mean_of fewer inner at) c.args.statement.now c.args.around.now))
+    (refused_by _ _ _ c.if-is_refused.ensures (rw c.plain-failure.ensures at c.fail.ensures.does)))
 
 pub run_statement-returns-clause-does : goal.run_statement-returns-clause-does
-run_statement-returns-clause-does g t c = λ levels below. begun_level levels _ _ below c.if-is_spent.ensures c.begin_statement.ensures (λ fewer under. formed_by _ _ _ c.if-is_refused.ensures (c.run_form.ensures.does fewer under))
+run_statement-returns-clause-does g t c = λ levels below. begun_level levels _ _ below c.if-is_spent.ensures c.begin_statement.ensures (λ fewer under.
+    leads_to (rw c.in-None.is at c.in_ok-exit.ensures.does (mean_by (λ inner at. mean_of fewer inner at) c.args.statement.now c.args.around.now))
+    (formed_by _ _ _ c.if-is_refused.ensures (c.run_form.ensures.does fewer (omega (arith, c.in_ok-exit.ensures.left, under)))))
 
 -- ---- run_statements
 
