@@ -3,7 +3,7 @@
 //! `specs/Lib.antt` says in which order to read: what is sent, what tokens are printed as, which replies let the client go on,
 //! and how a query ends. The layer above may rely on [`run_query`]: what was taken, sent and printed at each end, and that a
 //! failure comes only with a risen count. It asks for a user and a password of at most 128 units each, and a text of at most
-//! 500,000. That a peer is a server of this repository no clause says; that memory suffices is shown by tests alone.
+//! 500,000. No clause says that the peer is a server of this repository, or that memory suffices.
 //!
 //! ```text
 //! let login = ClientLogin { user, password };

@@ -72,7 +72,7 @@ fn print_told<O: Sink>(alloc: Global, told: &Told, out: &mut O) -> ClientEnd
     };
     match write_printed(out, &printed) {
         Ok(()) => told_end(told.refused),
-        Err(end) => end,
+        Err(unprinted) => unprinted,
     }
 }
 
