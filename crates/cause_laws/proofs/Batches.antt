@@ -39,7 +39,8 @@ use Rattle.cause_laws.proofs.Locks.{lock_other, lock_watch}
 use Rattle.cause_laws.proofs.Silent.{OkIs, Silent, silent_call, silent_if}
 use Rattle.cause_laws.proofs.Unlocked.{IsUnlocked, Unlocked, unlocked_ends, unlocked_fails_call, unlocked_leaves_body, unlocked_rpc_end, unlocked_well}
 use Rattle.cause_laws.proofs.Shown.{AllFrom, Carried, Found, Shown, Shows, Told, View, all_at, at_zero, exits, plainly, shows_clean, shows_end, shows_more, shows_over, shows_reads, shows_then}
-use Rattle.cause_laws.proofs.Telling.{Splits, anything, beginning, bodies, definite_shown, shows_all, shows_body, shows_mean, splits_behind, splits_same, splits_shows}
+use Rattle.cause_laws.proofs.Alone.{anything, beginning, definite_shown}
+use Rattle.cause_laws.proofs.Telling.{Splits, bodies, shows_all, shows_body, shows_mean, splits_behind, splits_same, splits_shows}
 
 module _ (error : LockError) where
   -- what statements mean

@@ -16,6 +16,7 @@ pub mod Passing  -- points of what was done
 pub mod Silent  -- parts of statements that send nothing
 pub mod Unlocked  -- what ends statements asks for no lock
 pub mod Shown  -- what was done shows the cause of each error of a lock
+pub mod Alone  -- so does a statement that runs no other
 pub mod Telling  -- each statement shows the cause of what it tells
 pub mod Batches  -- so do batches and calls by RPC
 mod StandardFacts  -- worked exchanges
