@@ -42,7 +42,7 @@ Writes before after printed end status = ((status ≡ status_of end) × Appends 
 
 -- ---- the command
 
--- the input is not read, and nothing is written
+-- the input is not read whole, or memory was wanting, and nothing is written
 abbrev pub IsUnread : Option (List ℕ) → Option (List ℕ) → ℕ → Type 0
 IsUnread before after status = ((status ≡ read_fault) ⊎ (status ≡ no_memory)) × (after ≡ before)
 

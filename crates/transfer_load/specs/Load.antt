@@ -24,11 +24,12 @@ pub record ServesBytes (config : Config) (bytes written : List ℕ) (old new : E
   pub source : (first.left ≡ bytes) × (first.given ≡ [])
   pub served : ServedConnection config (Takes told_left told_given first last) (told_left last) (Some []) (Some written) old new Closed
 
--- all that the seats of a house did were connections, and it has the same desk
-pub record OnlyServes (old new : HouseState) : Type 0 where
+-- all that the first so many seats of a house did were connections, the others did nothing, and it has the same desk
+pub record OnlyServes (many : ℕ) (old new : HouseState) : Type 0 where
   pub desk : new.desk ≡ old.desk
   pub each : List (List Course)
   pub follow : AllFollow old.seats each new.seats
+  pub others : drop many new.seats ≡ drop many old.seats
 
 -- So many seats have served the connections of so many workers, one each in their order: these were the replies to the first worker's
 -- batches, to the second's, and so on. Each client closed its connection at the end; the other seats did nothing.

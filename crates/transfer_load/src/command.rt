@@ -42,7 +42,7 @@ pub fn load<R: Threads + Wait + Sync>(
 
     // The house is full again, and has the steps that were made, also where memory was wanting.
     ensures full { IsFull 64 house.new }
-    ensures only { OnlyServes house.old house.new }
+    ensures only { OnlyServes workers house.old house.new }
 {
     let summary = run(alloc, rt, house, workers, transfers)?;
     out.extend_from_slice(summary.as_bytes())?;
@@ -62,7 +62,7 @@ fn run<R: Threads + Wait + Sync>(
     requires transfers { transfers ≤ 10000 }
     ensures loaded { IfOk result (λ text. Loaded workers transfers house.old.seats house.new.seats (string_bytes text)) }
     ensures full { IsFull 64 house.new }
-    ensures only { OnlyServes house.old house.new }
+    ensures only { OnlyServes workers house.old house.new }
 {
     let config = bare_config(alloc);
     serve_bytes(alloc, rt, house, &config, opening_bytes(alloc)?)?;
@@ -97,7 +97,7 @@ fn serve_bytes<R: Wait>(
     requires full { IsFull 64 house.old }
     ensures served { IfOk result (λ written. ServesFirst (ServesBytes config.now bytes.items written.items) house.old.seats house.new.seats) }
     ensures full { IsFull 64 house.new }
-    ensures only { OnlyServes house.old house.new }
+    ensures only { OnlyServes 1 house.old house.new }
 {
     let mut line = Joined {
         source: MemorySource::new(bytes, u32::MAX, Vec::new(alloc)),

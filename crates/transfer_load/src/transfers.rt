@@ -33,7 +33,7 @@ pub(crate) fn transfer<R: Threads + Wait + Sync>(
     requires workers { (1 ≤ workers) × (workers ≤ 64) }
     requires transfers { transfers ≤ 10000 }
     ensures full { IsFull 64 house.new }
-    ensures only { OnlyServes house.old house.new }
+    ensures only { OnlyServes workers house.old house.new }
     ensures transferred { IfOk result (λ counts. (each : List (List (List Token))) × Transferred config.now workers transfers house.old.seats house.new.seats each
         × (counts.transfers ≡ transfers_in (all_replies each)) × (counts.refused ≡ refused_in (all_replies each))
         × (counts.transfers + counts.refused ≡ workers * transfers)) }

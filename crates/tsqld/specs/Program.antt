@@ -124,12 +124,12 @@ ServesAll rounds sink_before sink_after status = IfSome rounds (λ all. ((status
 
 -- ---- `load`
 
--- A load was run by so many of the first seats, and printed; or memory was wanting for it, and nothing was printed: what the seats did were
--- connections.
+-- A load was run by so many of the first seats, and printed; or memory was wanting for it, and nothing was printed: what these seats did were
+-- connections, and the others did nothing.
 abbrev pub PrintsLoad : ℕ → ℕ → Option (List ℕ) → Option (List ℕ) → List EngineSeat → List EngineSeat → ℕ → Type 0
 PrintsLoad workers transfers sink_before sink_after olds news status =
     ((printed : List ℕ) × Loaded workers transfers olds news printed × Prints sink_before sink_after printed 0 6 status)
-    ⊎ ((status ≡ 6) × (sink_after ≡ sink_before) × ((each : List (List Course)) × AllFollow olds each news))
+    ⊎ ((status ≡ 6) × (sink_after ≡ sink_before) × ((each : List (List Course)) × AllFollow olds each news × (drop workers news ≡ drop workers olds)))
 
 -- ---- `steps`
 

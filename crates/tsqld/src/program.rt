@@ -45,13 +45,13 @@ const HALL_FAULT: u8 = 7;
 
 /// Does all that the program does, for the words after its name (`program_words` has them): `pipe` serves one connection by the
 /// house's first seat; `listen` those of a hall, by so many of the first seats, each on a thread, and prints how many it has
-/// served; `steps` answers a script of engine steps over an engine of its own; and help or the version is printed where the
-/// words ask for that.
+/// served; `load` has so many of them make transfers between accounts, and prints what came of that; `steps` answers a script of
+/// engine steps over an engine of its own; and help or the version is printed where the words ask for that.
 ///
 /// The status is 0 where the run ended well: the connection was closed, the workers have ended, or every line was answered. It is 2 where
 /// the words are no command, 3 where reading failed, 4 where writing failed, 5 at any other end of the connection or where a line
-/// is none, 6 where memory was wanting, for a connection, the workers or what is printed, and 7 where the hall could not begin or
-/// a door of it failed.
+/// is none, 6 where memory was wanting, for the words, a connection, the workers or what is printed, and 7 where the hall could not
+/// begin or a door of it failed.
 pub fn run_program<S: Source, K: Sink, H: Hall, C: Clock, R: Threads + Wait + Sync>(
     alloc: Global,
     rt: &R,

@@ -3,7 +3,7 @@ use Rattle.std.specs.Prelude.{Option}
 use Rattle.seat_server.specs.House.{ServesFirst}
 use Rattle.transfer_load.specs.Load.{ServesBytes}
 use Rattle.transfer_load.specs.Replies.{summary_text}
-use Rattle.transfer_load.proofs.OnlyServing.{only_both, only_none}
+use Rattle.transfer_load.proofs.OnlyServing.{only_both, only_more, only_none}
 use Rattle.transfer_load.proofs.command.run.Goals as goal
 
 -- the summary of equal numbers
@@ -35,25 +35,33 @@ returns-clause-loaded g c =
     }
 
 pub returns-in_err-opening_bytes-clause-only : goal.returns-in_err-opening_bytes-clause-only
-returns-in_err-opening_bytes-clause-only g c = only_none c.args.house.now
+returns-in_err-opening_bytes-clause-only g c = only_none c.args.workers c.args.house.now
 
 pub returns-in_err-serve_bytes-clause-only : goal.returns-in_err-serve_bytes-clause-only
-returns-in_err-serve_bytes-clause-only g c = c.serve_bytes.ensures.only
+returns-in_err-serve_bytes-clause-only g c = only_more c.args.workers c.args.house.now c.serve_bytes.new.house c.requires.workers.0 c.serve_bytes.ensures.only
 
 pub returns-in_err-counts-clause-only : goal.returns-in_err-counts-clause-only
-returns-in_err-counts-clause-only g c = only_both c.args.house.now c.serve_bytes.new.house c.transfer.new.house c.serve_bytes.ensures.only c.transfer.ensures.only
+returns-in_err-counts-clause-only g c = only_both c.args.workers c.args.house.now c.serve_bytes.new.house c.transfer.new.house (only_more c.args.workers c.args.house.now c.serve_bytes.new.house c.requires.workers.0 c.serve_bytes.ensures.only) c.transfer.ensures.only
 
 pub returns-in_err-closing_bytes-clause-only : goal.returns-in_err-closing_bytes-clause-only
-returns-in_err-closing_bytes-clause-only g c = only_both c.args.house.now c.serve_bytes.new.house c.transfer.new.house c.serve_bytes.ensures.only c.transfer.ensures.only
+returns-in_err-closing_bytes-clause-only g c = only_both c.args.workers c.args.house.now c.serve_bytes.new.house c.transfer.new.house (only_more c.args.workers c.args.house.now c.serve_bytes.new.house c.requires.workers.0 c.serve_bytes.ensures.only) c.transfer.ensures.only
 
 pub returns-in_err-written-clause-only : goal.returns-in_err-written-clause-only
-returns-in_err-written-clause-only g c = only_both c.args.house.now c.transfer.new.house c.serve_bytes-2.new.house (only_both c.args.house.now c.serve_bytes.new.house c.transfer.new.house c.serve_bytes.ensures.only c.transfer.ensures.only) c.serve_bytes-2.ensures.only
+returns-in_err-written-clause-only g c = only_both c.args.workers c.args.house.now c.transfer.new.house c.serve_bytes-2.new.house
+    (only_both c.args.workers c.args.house.now c.serve_bytes.new.house c.transfer.new.house (only_more c.args.workers c.args.house.now c.serve_bytes.new.house c.requires.workers.0 c.serve_bytes.ensures.only) c.transfer.ensures.only)
+    (only_more c.args.workers c.transfer.new.house c.serve_bytes-2.new.house c.requires.workers.0 c.serve_bytes-2.ensures.only)
 
 pub returns-in_err-total-clause-only : goal.returns-in_err-total-clause-only
-returns-in_err-total-clause-only g c = only_both c.args.house.now c.transfer.new.house c.serve_bytes-2.new.house (only_both c.args.house.now c.serve_bytes.new.house c.transfer.new.house c.serve_bytes.ensures.only c.transfer.ensures.only) c.serve_bytes-2.ensures.only
+returns-in_err-total-clause-only g c = only_both c.args.workers c.args.house.now c.transfer.new.house c.serve_bytes-2.new.house
+    (only_both c.args.workers c.args.house.now c.serve_bytes.new.house c.transfer.new.house (only_more c.args.workers c.args.house.now c.serve_bytes.new.house c.requires.workers.0 c.serve_bytes.ensures.only) c.transfer.ensures.only)
+    (only_more c.args.workers c.transfer.new.house c.serve_bytes-2.new.house c.requires.workers.0 c.serve_bytes-2.ensures.only)
 
 pub returns-in_err-text-clause-only : goal.returns-in_err-text-clause-only
-returns-in_err-text-clause-only g c = only_both c.args.house.now c.transfer.new.house c.serve_bytes-2.new.house (only_both c.args.house.now c.serve_bytes.new.house c.transfer.new.house c.serve_bytes.ensures.only c.transfer.ensures.only) c.serve_bytes-2.ensures.only
+returns-in_err-text-clause-only g c = only_both c.args.workers c.args.house.now c.transfer.new.house c.serve_bytes-2.new.house
+    (only_both c.args.workers c.args.house.now c.serve_bytes.new.house c.transfer.new.house (only_more c.args.workers c.args.house.now c.serve_bytes.new.house c.requires.workers.0 c.serve_bytes.ensures.only) c.transfer.ensures.only)
+    (only_more c.args.workers c.transfer.new.house c.serve_bytes-2.new.house c.requires.workers.0 c.serve_bytes-2.ensures.only)
 
 pub returns-clause-only : goal.returns-clause-only
-returns-clause-only g c = only_both c.args.house.now c.transfer.new.house c.serve_bytes-2.new.house (only_both c.args.house.now c.serve_bytes.new.house c.transfer.new.house c.serve_bytes.ensures.only c.transfer.ensures.only) c.serve_bytes-2.ensures.only
+returns-clause-only g c = only_both c.args.workers c.args.house.now c.transfer.new.house c.serve_bytes-2.new.house
+    (only_both c.args.workers c.args.house.now c.serve_bytes.new.house c.transfer.new.house (only_more c.args.workers c.args.house.now c.serve_bytes.new.house c.requires.workers.0 c.serve_bytes.ensures.only) c.transfer.ensures.only)
+    (only_more c.args.workers c.transfer.new.house c.serve_bytes-2.new.house c.requires.workers.0 c.serve_bytes-2.ensures.only)

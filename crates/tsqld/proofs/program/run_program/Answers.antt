@@ -63,4 +63,4 @@ pub returns-in-Err-Memory-clause-steps : goal.returns-in-Err-Memory-clause-steps
 returns-in-Err-Memory-clause-steps g c = λ asks. (refl, refl, ([], record { from_left = search rules; to_given = search rules }, inl (inr refl, refl)))
 
 pub returns-in-Err-Memory-clause-load : goal.returns-in-Err-Memory-clause-load
-returns-in-Err-Memory-clause-load g c = λ transfers workers asks. let only = only_none c.args.house.now in (refl, refl, inr (refl, refl, (only.each, only.follow)))
+returns-in-Err-Memory-clause-load g c = λ transfers workers asks. let only = only_none workers c.args.house.now in (refl, refl, inr (refl, refl, (only.each, only.follow, only.others)))
