@@ -1,5 +1,5 @@
 -- What workers have done, from what each of them did: their courses one behind another, the counts of a tally and of a hall, and the shares.
-use Rattle.std.proofs.Common.{◌≡◌, ◌≢◌, ◌⊎◌, inl, inr, ℕ, zero, suc, ◌+◌, ◌-◌, ◌*◌, ◌/◌, ◌%◌, ◌^◌, ◌<◌, ◌≤◌, min, ltb, Bool, true, false, List, [], ◌∷◌, ◌++◌, length, reverse, Option, None, Some, IfSome, refl, sym, ap, ◌∙◌, subst, arith, length-append}
+use Rattle.std.proofs.Common.{◌≡◌, ◌≢◌, inl, inr, ℕ, zero, suc, ◌+◌, ◌-◌, ◌*◌, ◌/◌, ◌%◌, ◌^◌, ◌<◌, ◌≤◌, min, ltb, Bool, true, false, List, [], ◌∷◌, ◌++◌, length, reverse, Option, None, Some, IfSome, refl, sym, ap, ◌∙◌, subst, arith, length-append}
 use Rattle.std.specs.List.{All, AllZip}
 use Rattle.std.proofs.lemmas.List.Elements.{All-cons, All-nil}
 use Rattle.atomic_table.specs.Seated.{TableId}
@@ -12,7 +12,7 @@ use Rattle.seat_server.specs.declared.worker.Outcome.{Outcome}
 use Rattle.seat_server.specs.declared.worker.Outcome.TheVariants.{Going, Failed, Closed}
 use Rattle.seat_server.specs.declared.worker.Worker.{Worker}
 use Rattle.seat_server.specs.Served.{Course, Follow}
-use Rattle.seat_server.specs.Workers.{AllFollow, AreWithin, TellsCourses, all_courses, is_short, share_of, short_in, starved_in}
+use Rattle.seat_server.specs.Workers.{AllFollow, AreWithin, TellsCourses, all_courses, share_of, short_in, starved_in}
 use Rattle.seat_server.specs.Posts.{AreHired, IsHired, KeepsShare, TakesAll, Works, count_after, count_up, counted, is_closed, is_failed, one_more, seats_of, tally_after, with_seat}
 use Rattle.seat_server.proofs.Courses.{count_fresh, count_none, count_twice, some_is, starved_append, tells_append, tells_none}
 use Rattle.seat_server.proofs.Dismissing.{zip_reverse}
@@ -77,9 +77,13 @@ least_more each workers served here failed closed (suc ended) bound one rest who
     let product : each * (suc workers - (suc ended + (failed + closed))) ≡ each * (workers - (failed + closed)) = ap (λ n. each * n) same in
     omega (arith, product, rest)
 
-is_whole : (outcome : Outcome) (here share : ℕ) → (here ≡ share) ⊎ (outcome ≢ Going) → one_if (is_failed outcome) + one_if (is_closed outcome) ≡ 0 → here ≡ share
-is_whole outcome here share (inl same) none = same
-is_whole outcome here share (inr ended) none = let no : ⊥ = omega (arith, ended_one outcome ended, none) in absurd no
+is_whole : (outcome : Outcome) (here share : ℕ) → KeepsShare (Some share) here outcome → one_if (is_failed outcome) + one_if (is_closed outcome) ≡ 0 → here ≡ share
+is_whole outcome here share (inl all) none = all.0
+is_whole outcome here share (inr ended) none = let no : ⊥ = omega (arith, ended_one outcome ended.1, none) in absurd no
+
+has_most : (here most : ℕ) (outcome : Outcome) → KeepsShare (Some most) here outcome → here ≤ most
+has_most here most outcome (inl all) = omega (arith, all.0)
+has_most here most outcome (inr ended) = omega (arith, ended.0)
 
 shares_more : (rounds : Option ℕ) (many at workers served failed closed here : ℕ) (outcome : Outcome) → failed + closed ≤ workers → SharesSo rounds many (at + 1) workers served failed closed
     → KeepsShare (share_of rounds many at) here outcome
@@ -90,25 +94,39 @@ shares_more (Some all) many at workers served failed closed here outcome bound r
     let ended : ℕ = one_if (is_failed outcome) + one_if (is_closed outcome) in
     let turned : suc workers - ((one_if (is_failed outcome) + failed) + (one_if (is_closed outcome) + closed)) ≡ suc workers - (ended + (failed + closed)) = omega arith in
     let product : each * (suc workers - ((one_if (is_failed outcome) + failed) + (one_if (is_closed outcome) + closed))) ≡ each * (suc workers - (ended + (failed + closed))) = ap (λ n. each * n) turned in
-    let whole : ended ≡ 0 → here ≡ each + one_if (ltb at (all % many)) = is_whole outcome here (each + one_if (ltb at (all % many))) keeps.1 in
+    let whole : ended ≡ 0 → here ≡ each + one_if (ltb at (all % many)) = is_whole outcome here (each + one_if (ltb at (all % many))) keeps in
     let least : each * (suc workers - (ended + (failed + closed))) ≤ here + served = least_more each workers served here failed closed ended bound (at_most_one outcome) rest.1 (λ none. omega (arith, whole none)) in (
-      omega (arith, keeps.0, rest.0),
+      omega (arith, has_most here (each + one_if (ltb at (all % many))) outcome keeps, rest.0),
       omega (arith, product, least),
       λ none_failed none_closed. let none : ended ≡ 0 = omega (arith, none_failed, none_closed) in omega (arith, whole none, rest.2 (omega (arith, none_failed)) (omega (arith, none_closed))),
     )
 
--- one that keeps its share has no more, and is short of it only where its door has ended it
+-- one that keeps its share has no more, and is short of it just where its door has ended it
 within_one : (share : Option ℕ) (here : ℕ) (outcome : Outcome) → KeepsShare share here outcome → IfSome share (λ most. here ≤ most)
 within_one None here outcome keeps = tt
-within_one (Some most) here outcome keeps = keeps.0
+within_one (Some most) here outcome keeps = has_most here most outcome keeps
 
-short_by : (here most : ℕ) (outcome : Outcome) → (here ≡ most) ⊎ (outcome ≢ Going) → one_if (ltb here most) ≤ one_if (is_failed outcome) + one_if (is_closed outcome)
-short_by here most outcome (inl same) = omega (arith, one_below here most, same)
-short_by here most outcome (inr ended) = omega (arith, ended_one outcome ended, at_most (ltb here most))
+going_none : (outcome : Outcome) → outcome ≡ Going → one_if (is_failed outcome) + one_if (is_closed outcome) ≡ 0
+going_none outcome is = ap (λ (o : Outcome). one_if (is_failed o) + one_if (is_closed o)) is
 
-short_one : (share : Option ℕ) (here : ℕ) (outcome : Outcome) → KeepsShare share here outcome → one_if (is_short share here) ≤ one_if (is_failed outcome) + one_if (is_closed outcome)
-short_one None here outcome keeps = omega arith
-short_one (Some most) here outcome keeps = short_by here most outcome keeps.1
+short_by : (here most : ℕ) (outcome : Outcome) → KeepsShare (Some most) here outcome → one_if (ltb here most) ≡ one_if (is_failed outcome) + one_if (is_closed outcome)
+short_by here most outcome (inl all) = omega (arith, one_below here most, all.0, going_none outcome all.1)
+short_by here most outcome (inr ended) = omega (arith, one_below here most, ended.0, ended_one outcome ended.1)
+
+-- How many of the workers from a place on are short of their shares, where rounds are given.
+abbrev pub ShortSo : Option ℕ → ℕ → ℕ → List (List Course) → ℕ → Type 0
+ShortSo rounds many at each ended = IfSome rounds (λ all. short_in (Some all) many at each ≡ ended)
+
+short_none : (rounds : Option ℕ) (many at : ℕ) → ShortSo rounds many at [] 0
+short_none None many at = tt
+short_none (Some all) many at = refl
+
+short_more : (rounds : Option ℕ) (many at failed closed : ℕ) (courses : List Course) (each : List (List Course)) (outcome : Outcome) → KeepsShare (share_of rounds many at) (length courses) outcome
+    → ShortSo rounds many (at + 1) each (failed + closed) → ShortSo rounds many at (courses ∷ each) ((one_if (is_failed outcome) + failed) + (one_if (is_closed outcome) + closed))
+short_more None many at failed closed courses each outcome keeps rest = tt
+short_more (Some all) many at failed closed courses each outcome keeps rest =
+    let here : one_if (ltb (length courses) (all / many + one_if (ltb at (all % many)))) ≡ one_if (is_failed outcome) + one_if (is_closed outcome) = short_by (length courses) (all / many + one_if (ltb at (all % many))) outcome keeps in
+    omega (arith, here, rest)
 
 -- ---- faults
 
@@ -166,7 +184,7 @@ module _ {D : Type 0} (faults : D → ℕ) (is_out has_closed : D → Bool) {L :
     pub few : failed_in workers + closed_in workers ≤ length workers
     pub shares : SharesSo rounds many at (length workers) (length (all_courses each)) (failed_in workers) (closed_in workers)
     pub within : AreWithin rounds many at each
-    pub short : short_in rounds many at each ≤ failed_in workers + closed_in workers
+    pub short : ShortSo rounds many at each (failed_in workers + closed_in workers)
     pub as_many : length workers ≡ length olds
     pub closes : 0 < closed_in workers → closing
 
@@ -189,7 +207,7 @@ module _ {D : Type 0} (faults : D → ℕ) (is_out has_closed : D → Bool) {L :
     few = omega arith;
     shares = shares_none rounds many at;
     within = tt;
-    short = omega arith;
+    short = short_none rounds many at;
     as_many = refl;
     closes = λ some. absurd (let no : ⊥ = omega (arith, some) in no);
   }
@@ -222,7 +240,6 @@ module _ {D : Type 0} (faults : D → ℕ) (is_out has_closed : D → Bool) {L :
       let closed_so : one_if (has_closed worker.door) ≡ one_if (is_closed worker.outcome) = ap one_if worked.posted.closed in
       let one : one_if (is_failed worker.outcome) + one_if (is_closed worker.outcome) ≤ 1 = at_most_one worker.outcome in
       let keeps : KeepsShare (share_of rounds many at) here worker.outcome = subst (λ (share : Option ℕ). KeepsShare share here worker.outcome) new.share_is works.keeps in
-      let short : one_if (is_short (share_of rounds many at) here) ≤ one_if (is_failed worker.outcome) + one_if (is_closed worker.outcome) = short_one (share_of rounds many at) here worker.outcome keeps in
       record {
         each = works.courses ∷ rest.each;
         follow = subst (AllFollow (old ∷ olds) (works.courses ∷ rest.each)) (sym seat) (subst (λ (s : EngineSeat). Follow s works.courses works.new_seat) before worked.follow, rest.follow);
@@ -254,7 +271,7 @@ module _ {D : Type 0} (faults : D → ℕ) (is_out has_closed : D → Bool) {L :
         shares = subst (λ n. SharesSo rounds many at (suc (length workers)) n (one_if (is_failed worker.outcome) + failed_in workers) (one_if (is_closed worker.outcome) + closed_in workers)) (sym joined)
             (shares_more rounds many at (length workers) (length (all_courses rest.each)) (failed_in workers) (closed_in workers) here worker.outcome rest.few rest.shares keeps);
         within = (within_one (share_of rounds many at) here worker.outcome keeps, rest.within);
-        short = omega (arith, rest.short, short);
+        short = short_more rounds many at (failed_in workers) (closed_in workers) works.courses rest.each worker.outcome keeps rest.short;
         as_many = ap suc rest.as_many;
         closes = λ some. closes_one worker.outcome closing (closed_in workers) some works.closes rest.closes;
       }

@@ -231,24 +231,28 @@ module _ {D : Type 0} (faults : D → ℕ) (is_out has_closed : D → Bool) {L :
 
       by_share : (share : Option ℕ) → IfSome share (λ many. length goes.courses ≤ many) → is_served share new.served ≡ true → KeepsShare share (length goes.courses) new.outcome
       by_share None within served = absurd (let no : false ≡ true = served in cc)
-      by_share (Some many) within served = (within, inl (grind (arith, within, counted_so, served)))
+      by_share (Some many) within served = inl (grind (arith, within, counted_so, served), goes.going)
 
-  -- or where its door lets it serve no more
-  pub stops_ended : (desk : TableId) (closing : Type 0) (old mid new : Worker D) → GoesOn desk old mid → new.outcome ≢ Going → (new.outcome ≡ Closed → closing) → ((seat : EngineSeat) → IsPosted faults is_out has_closed desk seat mid → WorkedNone faults is_out has_closed left given read_faults written write_faults finished told config desk seat mid new)
+  -- or below its share, where its door lets it serve no more
+  pub stops_ended : (desk : TableId) (closing : Type 0) (old mid new : Worker D) → old.served ≡ 0 → IfSome mid.share (λ share. share < 2 ^ 32) → GoesOn desk old mid → is_served mid.share mid.served ≡ false → new.outcome ≢ Going → (new.outcome ≡ Closed → closing) → ((seat : EngineSeat) → IsPosted faults is_out has_closed desk seat mid → WorkedNone faults is_out has_closed left given read_faults written write_faults finished told config desk seat mid new)
       → Works faults is_out has_closed left given read_faults written write_faults finished told config desk closing old new
-  stops_ended desk closing old mid new goes ended closes none = record {
+  stops_ended desk closing old mid new begun range goes more ended closes none = record {
     old_seat = goes.old_seat;
     new_seat = goes.new_seat;
     had = goes.had;
     courses = goes.courses ++ [];
     worked = worked_on desk goes.courses [] goes.old_seat goes.new_seat goes.new_seat old mid new goes.worked (none goes.new_seat goes.worked.posted);
-    keeps = subst (λ (courses : List Course). KeepsShare old.share (length courses) new.outcome) (sym (append-nil goes.courses)) (by_share old.share goes.within);
+    keeps = subst (λ (courses : List Course). KeepsShare old.share (length courses) new.outcome) (sym (append-nil goes.courses))
+        (by_share old.share (subst (λ (share : Option ℕ). IfSome share (λ many. many < 2 ^ 32)) goes.worked.share range) goes.within (subst (λ (share : Option ℕ). is_served share mid.served ≡ false) goes.worked.share more));
     closes = closes;
   }
     where
-      by_share : (share : Option ℕ) → IfSome share (λ many. length goes.courses ≤ many) → KeepsShare share (length goes.courses) new.outcome
-      by_share None within = ended
-      by_share (Some many) within = (within, inr ended)
+      counted_so : mid.served ≡ count_on 0 (length goes.courses)
+      counted_so = goes.worked.served (omega (arith, begun)) ∙ ap (λ n. count_on n (length goes.courses)) begun
+
+      by_share : (share : Option ℕ) → IfSome share (λ many. many < 2 ^ 32) → IfSome share (λ many. length goes.courses ≤ many) → is_served share mid.served ≡ false → KeepsShare share (length goes.courses) new.outcome
+      by_share None small within served = ended
+      by_share (Some many) small within served = inr (grind (arith, within, small, counted_so, served), ended)
 
   -- it goes on behind one more
   pub goes_more : (desk : TableId) (old mid new : Worker D) → old.served ≡ 0 → IfSome mid.share (λ share. share < 2 ^ 32) → GoesOn desk old mid → is_served mid.share mid.served ≡ false → new.outcome ≡ Going

@@ -8,7 +8,7 @@ use Rattle.shared_port.specs.Asked.{EngineSeat}
 use Rattle.seat_server.specs.declared.tally.Tally.{Tally}
 use Rattle.seat_server.specs.declared.worker.Worker.{Worker}
 use Rattle.seat_server.specs.Served.{Course}
-use Rattle.seat_server.specs.Workers.{AllFollow, AllWorked, AreWithin, HallNumbers, RisesBy, Tallied, TellsCourses, all_courses, share_of, starved_in}
+use Rattle.seat_server.specs.Workers.{AllFollow, AllWorked, AreWithin, HallNumbers, RisesBy, Tallied, TellsCourses, all_courses, share_of, short_in, starved_in}
 use Rattle.seat_server.specs.Posts.{AreBack, StaysTold, TakesAll, count_after, no_tally, seats_of, tally_after}
 use Rattle.seat_server.proofs.Courses.{count_fresh, count_none, none_some, tells_none}
 use Rattle.seat_server.proofs.Dismissed.{Dismissal, SharesSo, closed_in, failed_in}
@@ -111,6 +111,9 @@ module _ {D : Type 0} (faults : D → ℕ) (is_out has_closed : D → Bool) {L :
   closed_are : length olds ≤ 64 → tally.closed ≡ closed_in workers
   closed_are few = omega (arith, ap (λ (t : Tally). t.closed) is, done.closed no_tally (omega (arith, done.as_many, few)))
 
+  ended_are : length olds ≤ 64 → failed_in workers + closed_in workers ≡ tally.failed + tally.closed
+  ended_are few = omega (arith, failed_are few, closed_are few)
+
   pub all_worked : (before mid after : Option (List L)) → length olds ≤ 64 → StaysTold before mid → TakesAll told mid workers after → news ≡ [] ++ seats_of workers
       → AllWorked left given read_faults written write_faults config rounds olds news before after tally
   all_worked before mid after few stays takes seats = record {
@@ -120,7 +123,7 @@ module _ {D : Type 0} (faults : D → ℕ) (is_out has_closed : D → Bool) {L :
     connections = connections_are;
     starved = ap (λ (t : Tally). t.starved) is ∙ done.starved no_tally (omega arith);
     within = done.within;
-    short = λ plenty. omega (arith, done.short, failed_are few, closed_are few);
+    short = λ plenty. subst (λ (ended : ℕ). IfSome rounds (λ all. short_in (Some all) (length olds) 0 done.each ≡ ended)) (ended_are few) done.short;
   }
 
   pub all_closes : length olds ≤ 64 → 0 < tally.closed → closing

@@ -1,5 +1,5 @@
 -- Own: one worker at its post, with a seat and a door. It is said of all that it served; the code serves one connection after another.
-use Rattle.std.specs.Prelude.{◌≡◌, ℕ, ◌+◌, ◌-◌, ◌^◌, ◌≤◌, ◌⊎◌, ◌≢◌, min, nat_le, Bool, true, false, List, [], ◌∷◌, length, Option, None, Some, IfSome, IsSome, IsTrue}
+use Rattle.std.specs.Prelude.{◌≡◌, ℕ, ◌+◌, ◌-◌, ◌^◌, ◌<◌, ◌⊎◌, ◌≢◌, min, nat_le, Bool, true, false, List, [], ◌∷◌, length, Option, None, Some, IfSome, IsSome, IsTrue}
 use Rattle.atomic_table.specs.Seated.{TableId}
 use Rattle.tds_login.specs.declared.config.Config.{Config}
 use Rattle.outside_io.specs.Doors.{IsUntouched, TakesOver, count_on, has_failed, one_if}
@@ -14,10 +14,11 @@ use Rattle.seat_server.specs.Workers.{RisesBy, TellsCourses, is_memory, share_of
 
 -- ---- shares
 
--- Where rounds are given a worker serves its share of them, or its door lets it serve no more. Without rounds only its door ends it.
+-- Where rounds are given a worker serves its share of them while its door goes on, or fewer until that has failed or closed. Without
+-- rounds only its door ends it.
 abbrev pub KeepsShare : Option ℕ → ℕ → Outcome → Type 0
 KeepsShare None many outcome = outcome ≢ Going
-KeepsShare (Some share) many outcome = (many ≤ share) × ((many ≡ share) ⊎ (outcome ≢ Going))
+KeepsShare (Some share) many outcome = ((many ≡ share) × (outcome ≡ Going)) ⊎ ((many < share) × (outcome ≢ Going))
 
 -- there is a door that may close
 abbrev pub SomeMayClose : {D : Type 0} → (D → Bool) → Type 0

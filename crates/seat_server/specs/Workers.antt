@@ -90,7 +90,7 @@ short_in rounds many at (courses ∷ each) = one_if (is_short (share_of rounds m
 
 module _ {L : Type 0} (left given : L → Option (List ℕ)) (read_faults : L → ℕ) (written : L → Option (List ℕ)) (write_faults : L → ℕ) where
   -- Each seat served the connections of one of these lists, and all of them are what the hall was given back since. None served more than
-  -- its share of the rounds, and as many at most are short of it as doors failed or closed, unless memory was wanting before they began.
+  -- its share of the rounds, and just as many are short of it as doors failed or closed, unless memory was wanting before they began.
   pub record AllWorked (config : Config) (rounds : Option ℕ) (olds news : List EngineSeat) (told_old told_new : Option (List L)) (tally : Tally) : Type 0 where
     pub each : List (List Course)
     pub follow : AllFollow olds each news
@@ -98,7 +98,7 @@ module _ {L : Type 0} (left given : L → Option (List ℕ)) (read_faults : L �
     pub connections : tally.connections ≡ count_on 0 (length (all_courses each))
     pub starved : tally.starved ≡ count_on 0 (starved_in (all_courses each))
     pub within : AreWithin rounds (length olds) 0 each
-    pub short : tally.memory ≡ false → short_in rounds (length olds) 0 each ≤ tally.failed + tally.closed
+    pub short : tally.memory ≡ false → IfSome rounds (λ all. short_in (Some all) (length olds) 0 each ≡ tally.failed + tally.closed)
 
 -- a count has risen by so many, if it was one of its type
 abbrev pub RisesBy : ℕ → ℕ → ℕ → Type 0

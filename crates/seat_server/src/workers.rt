@@ -28,9 +28,9 @@ const MOST_WORKERS: usize = 64;
 /// after another, beside the others. It gives the seats back in their order, and how much was done ([`Tally`]).
 ///
 /// Where rounds are given, none of W workers serves more than its share of them, `rounds / W` and one more of the first `rounds % W`, and
-/// no more of them are short of it than have a door that failed or closed. Without rounds each worker goes on until its door has failed
-/// or closed. Where memory is wanting for the doors or the list of workers, which are made first, no worker begins. That workers run at
-/// once no clause says.
+/// just as many of them are short of it as have a door that failed or closed. Without rounds each worker goes on until its door has
+/// failed or closed. Where memory is wanting for the doors or the list of workers, which are made first, no worker begins. That workers
+/// run at once no clause says.
 pub fn serve_workers<H: Hall, R: Threads + Wait + Sync>(
     alloc: Global,
     rt: &R,
