@@ -35,14 +35,14 @@ pub first_still : (statement : Statement) (go : SessionProgress → Doing (Resul
 first_still statement go still =
     only_bind AnyStep IsStill (reads λ p. comes_to (bound_over [] p.vars statement)) (λ of. with_room (reads go)) (λ p. only_comes AnyStep IsStill (bound_over [] p.vars statement)) (λ of. only_room AnyStep IsStill (reads go) still)
 
-fault_still : (A : Type 0) (name : List ℕ) (fault : CursorFault) → WritesNothing (fails_for_cursor {A = A} name fault)
+pub fault_still : (A : Type 0) (name : List ℕ) (fault : CursorFault) → WritesNothing (fails_for_cursor {A = A} name fault)
 fault_still A name Present = only_naming AnyStep IsStill A already_there name
 fault_still A name NoSuch = only_naming AnyStep IsStill A no_such_cursor name
 fault_still A name AlreadyFilled = tt
 fault_still A name NotFilled = tt
 fault_still A name Memory = tt
 
-answer_still : {A B : Type 0} (name : List ℕ) (go : A → Doing (Result B Failure)) (answer : Result A CursorFault) → ((a : A) → WritesNothing (go a)) → WritesNothing (answered name go answer)
+pub answer_still : {A B : Type 0} (name : List ℕ) (go : A → Doing (Result B Failure)) (answer : Result A CursorFault) → ((a : A) → WritesNothing (go a)) → WritesNothing (answered name go answer)
 answer_still name go (Ok a) still = still a
 answer_still {B = B} name go (Err fault) still = fault_still B name fault
 
@@ -52,7 +52,7 @@ pub declares_still : (statement : Statement) (name : List ℕ) (select : Select)
 unfolding declares_cursor
 declares_still statement name select = first_still statement _ (λ p. answer_still name (λ done. makes (step.declares name select) (over (Ok no_effect))) (declare_answer name p.cursors) (λ done. (tt, tt)))
 
-row_still : (p : SessionProgress) (name : List ℕ) (variables : List (List ℕ)) (row : Option (List Value)) → WritesNothing (fetches_row p name variables row)
+pub row_still : (p : SessionProgress) (name : List ℕ) (variables : List (List ℕ)) (row : Option (List Value)) → WritesNothing (fetches_row p name variables row)
 row_still p name variables None = (tt, tt)
 row_still p name variables (Some row) = only_room AnyStep IsStill (makes (step.fetches name) (assigns_row (assigned_to p.vars variables row))) (tt, by_sets (assigned_to p.vars variables row))
   where
@@ -60,7 +60,7 @@ row_still p name variables (Some row) = only_room AnyStep IsStill (makes (step.f
     by_sets (Ok sets) = (tt, tt)
     by_sets (Err failure) = tt
 
-into_still : (p : SessionProgress) (name : List ℕ) (variables : List (List ℕ)) (kinds : List SqlType) → WritesNothing (fetches_into p name variables kinds)
+pub into_still : (p : SessionProgress) (name : List ℕ) (variables : List (List ℕ)) (kinds : List SqlType) → WritesNothing (fetches_into p name variables kinds)
 into_still p name variables kinds = only_if AnyStep IsStill (length variables == length kinds) (answered name (fetches_row p name variables) (next_of name p.cursors)) (fails other_count)
     (answer_still name (fetches_row p name variables) (next_of name p.cursors) (row_still p name variables)) tt
 
@@ -90,12 +90,12 @@ unfolding own
 own_still asking work still = only_bind AnyStep IsStill (enters asking) _ (enters_still asking)
     (λ home. only_then AnyStep IsStill work _ still (λ came. left_still home came))
 
-within_still : {A : Type 0} (around : Around) (statement : Statement) (go : List TableTree → Bound → Doing (Result A Failure)) → ((shapes : List TableTree) (of : Bound) → WritesNothing (go shapes of)) → WritesNothing (within around statement go)
+pub within_still : {A : Type 0} (around : Around) (statement : Statement) (go : List TableTree → Bound → Doing (Result A Failure)) → ((shapes : List TableTree) (of : Bound) → WritesNothing (go shapes of)) → WritesNothing (within around statement go)
 unfolding within binds
 within_still around statement go still = only_room AnyStep IsStill (own (asks_any (known_by around statement) (looked_up statement)) (binds around statement go)) (own_still (asks_any (known_by around statement) (looked_up statement)) (binds around statement go)
     (only_bind AnyStep IsStill (prepares around statement) (λ made. go made.0 made.1) (reads_still (prepares around statement) (prepares_read around statement)) (λ made. still made.0 made.1)))
 
-bound_still : (around : Around) (name : List ℕ) (shapes : List TableTree) (of : Bound) → WritesNothing (opens_bound around name shapes of)
+pub bound_still : (around : Around) (name : List ℕ) (shapes : List TableTree) (of : Bound) → WritesNothing (opens_bound around name shapes of)
 unfolding fills_with
 bound_still around name shapes (bound.Query query) = only_bind AnyStep IsStill (answers around shapes query) _ (answers_still around shapes query)
     (λ rows. only_room AnyStep IsStill (makes (step.fills name (kinds_of query) rows) (over (Ok no_effect))) (tt, tt))

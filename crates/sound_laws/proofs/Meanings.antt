@@ -79,11 +79,11 @@ use Rattle.sound_laws.proofs.Yields.{CallBack, FiresBack, TriggerBack, Well, Yie
 
 -- ---- BEGIN TRANSACTION, COMMIT, ROLLBACK and SAVE TRANSACTION
 
-marked_still : {A : Type 0} (next : ℕ → Doing (Result A Failure)) → ((mark : ℕ) → WritesNothing (next mark)) → (reply : Reply) → WritesNothing (marked next reply)
+pub marked_still : {A : Type 0} (next : ℕ → Doing (Result A Failure)) → ((mark : ℕ) → WritesNothing (next mark)) → (reply : Reply) → WritesNothing (marked next reply)
 marked_still next still (replies.Marked mark) = still mark
 marked_still next still reply = tt
 
-outermost_still : (name : Option (List ℕ)) (serial : ℕ) → WritesNothing (begins_outermost name serial)
+pub outermost_still : (name : Option (List ℕ)) (serial : ℕ) → WritesNothing (begins_outermost name serial)
 unfolding begins_outermost
 outermost_still name serial =
     bytes_still (transaction_begun serial ∷ []) (with_room (asks ops.Begin (unless_refused (where_begun Begun)))) (only_room AnyStep IsStill (asks ops.Begin (unless_refused (where_begun Begun)))
@@ -92,16 +92,16 @@ outermost_still name serial =
     Begun : Doing (Result Effect Failure)
     Begun = makes (step.opens name) (over (Ok (sending (transaction_begun serial ∷ []))))
 
-begins_still : (statement : Statement) (name : Option (List ℕ)) → WritesNothing (begins_transaction statement name)
+pub begins_still : (statement : Statement) (name : Option (List ℕ)) → WritesNothing (begins_transaction statement name)
 unfolding begins_transaction
 begins_still statement name = first_still statement (begins_over name)
     (λ p. only_if AnyStep IsStill (not p.is_open) (begins_outermost name (next_serial p.txn)) (if nat_le count_limit p.txn.count then fails outside_profile else makes (step.opens name) (over (Ok no_effect)))
     (outermost_still name (next_serial p.txn)) (only_if AnyStep IsStill (nat_le count_limit p.txn.count) (fails outside_profile) (makes (step.opens name) (over (Ok no_effect))) tt (tt, tt)))
 
-named_still : (name : Option (List ℕ)) (go : SessionProgress → Doing (Result Effect Failure)) → ((p : SessionProgress) → WritesNothing (go p)) → WritesNothing (named_first name go)
+pub named_still : (name : Option (List ℕ)) (go : SessionProgress → Doing (Result Effect Failure)) → ((p : SessionProgress) → WritesNothing (go p)) → WritesNothing (named_first name go)
 named_still name go still = only_if AnyStep IsStill (is_maybe_long name) (fails outside_limits) (reads go) tt still
 
-commits_still : (name : Option (List ℕ)) → WritesNothing (commits_transaction name)
+pub commits_still : (name : Option (List ℕ)) → WritesNothing (commits_transaction name)
 unfolding commits_transaction
 commits_still name = named_still name (λ p. commits_by p (commit_answer p.txn)) (λ p. by_answer p (commit_answer p.txn))
   where
@@ -111,25 +111,25 @@ commits_still name = named_still name (λ p. commits_by p (commit_answer p.txn))
     by_answer p (Ok true) = bytes_still (unless_own p.is_own (transaction_committed p.txn.serial)) (asks ops.Commit (where_ended (over (Ok (sending (unless_own p.is_own (transaction_committed p.txn.serial)))))))
         (tt, λ reply can. ended_still (over (Ok (sending (unless_own p.is_own (transaction_committed p.txn.serial))))) tt reply)
 
-whole_still : (p : SessionProgress) → WritesNothing (rolls_back_whole p)
+pub whole_still : (p : SessionProgress) → WritesNothing (rolls_back_whole p)
 unfolding rolls_back_whole
 whole_still p = bytes_still (unless_own p.is_own (transaction_rolled_back p.txn.serial)) (asks ops.Rollback (where_ended (over (Ok (sending (unless_own p.is_own (transaction_rolled_back p.txn.serial)))))))
     (tt, λ reply can. ended_still (over (Ok (sending (unless_own p.is_own (transaction_rolled_back p.txn.serial))))) tt reply)
 
-back_still : (name : List ℕ) (p : SessionProgress) (answer : Result BackKind ℤ) → WritesNothing (goes_back name p answer)
+pub back_still : (name : List ℕ) (p : SessionProgress) (answer : Result BackKind ℤ) → WritesNothing (goes_back name p answer)
 back_still name p (Err number) = only_room AnyStep IsStill (over (Err (record { number = number; name = Some name }))) tt
 back_still name p (Ok Whole) = whole_still p
 back_still name p (Ok (Mark mark)) = (tt, λ reply can. done_still (over (Ok no_effect)) tt reply)
 
-to_still : (name : Option (List ℕ)) (p : SessionProgress) → WritesNothing (rolls_back_to name p)
+pub to_still : (name : Option (List ℕ)) (p : SessionProgress) → WritesNothing (rolls_back_to name p)
 to_still None p = only_if AnyStep IsStill (is_closed p.txn) (fails nothing_open) (rolls_back_whole p) tt (whole_still p)
 to_still (Some name) p = back_still name p (rollback_answer name p.txn)
 
-rolls_still : (name : Option (List ℕ)) → WritesNothing (rolls_back_transaction name)
+pub rolls_still : (name : Option (List ℕ)) → WritesNothing (rolls_back_transaction name)
 unfolding rolls_back_transaction
 rolls_still name = named_still name (rolls_back_to name) (to_still name)
 
-saves_still : (statement : Statement) (name : List ℕ) → WritesNothing (saves_transaction statement name)
+pub saves_still : (statement : Statement) (name : List ℕ) → WritesNothing (saves_transaction statement name)
 unfolding saves_transaction
 saves_still statement name = first_still statement (λ p. saves_unless name (save_refusal p.txn)) (λ p. by_refusal (save_refusal p.txn))
   where
@@ -143,7 +143,7 @@ saves_still statement name = first_still statement (λ p. saves_unless name (sav
 
 -- ---- errors, and how statements end
 
-told_still : WritesNothing rolls_back_told
+pub told_still : WritesNothing rolls_back_told
 unfolding rolls_back_told
 told_still = λ p. only_if AnyStep IsStill p.is_open (asks ops.Rollback (where_ended (told_unless_own p.is_own p.txn.serial))) (over tt) (tt, λ reply can. ended_still (told_unless_own p.is_own p.txn.serial) (told p.is_own p.txn.serial) reply) tt
   where
@@ -155,45 +155,45 @@ pub open_still : WritesNothing rolls_back_open
 unfolding rolls_back_open
 open_still = λ p. only_if AnyStep IsStill p.is_open (asks ops.Rollback (where_ended (over tt))) (over tt) (tt, λ reply can. ended_still (over tt) tt reply) tt
 
-ended_by_still : (what : Action) → WritesNothing (ended_by what)
+pub ended_by_still : (what : Action) → WritesNothing (ended_by what)
 unfolding ended_by
 ended_by_still action.Statement = tt
 ended_by_still action.Doom = tt
 ended_by_still action.Batch = tt
 ended_by_still action.BatchAndTransaction = only_then AnyStep IsStill rolls_back_told (λ done. over End) told_still (λ done. tt)
 
-caught_still : (what : Action) (raised : Raised) → WritesNothing (caught_as what raised)
+pub caught_still : (what : Action) (raised : Raised) → WritesNothing (caught_as what raised)
 caught_still action.Doom raised = (tt, tt)
 caught_still action.Statement raised = tt
 caught_still action.Batch raised = tt
 caught_still action.BatchAndTransaction raised = tt
 
-strikes_still : (around : Around) (xact_abort : Bool) (command : ℕ) (raised : Raised) → WritesNothing (strikes around xact_abort command raised)
+pub strikes_still : (around : Around) (xact_abort : Bool) (command : ℕ) (raised : Raised) → WritesNothing (strikes around xact_abort command raised)
 strikes_still around xact_abort command raised =
     (tt, only_if AnyStep IsStill (is_caught_in around raised) (caught_as What raised) (told_as (done_kind around) What command raised) (caught_still What raised) (tt, ended_by_still What))
   where
     What : Action
     What = action_in around xact_abort raised
 
-raised_still : (around : Around) (line : ℤ) (command : ℕ) (raised : Raised) → WritesNothing (raises_at around line command raised)
+pub raised_still : (around : Around) (line : ℤ) (command : ℕ) (raised : Raised) → WritesNothing (raises_at around line command raised)
 unfolding raises_at
 raised_still around line command raised = λ p. strikes_still around p.settings.xact_abort command _
 
-raises_still : (around : Around) (statement : Statement) (raised : Raised) → WritesNothing (raises around statement raised)
+pub raises_still : (around : Around) (statement : Statement) (raised : Raised) → WritesNothing (raises around statement raised)
 raises_still around statement raised = raised_still around _ _ raised
 
-counted_still : (form : Layer) (rows : ℕ) (next : Doing Exit) → WritesNothing next → WritesNothing (counted form rows next)
+pub counted_still : (form : Layer) (rows : ℕ) (next : Doing Exit) → WritesNothing next → WritesNothing (counted form rows next)
 counted_still form rows next still = only_if AnyStep IsStill (leaves_rows form) next (makes (step.tells_rows rows) next) still (tt, still)
 
-fails_still : (around : Around) (statement : Statement) (failure : Failure) → WritesNothing (fails_for around statement failure)
+pub fails_still : (around : Around) (statement : Statement) (failure : Failure) → WritesNothing (fails_for around statement failure)
 unfolding fails_for
 fails_still around statement failure = counted_still (form_of statement) 0 (raises around statement _) (raises_still around statement _)
 
-sends_still : (tokens : List Token) (next : Doing Exit) → WritesNothing next → WritesNothing (sends_some tokens next)
+pub sends_still : (tokens : List Token) (next : Doing Exit) → WritesNothing next → WritesNothing (sends_some tokens next)
 sends_still [] next still = still
 sends_still (token ∷ tokens) next still = (tt, still)
 
-succeeds_still : (statement : Statement) (effect : Effect) (next : Doing Exit) → WritesNothing next → WritesNothing (succeeds statement effect next)
+pub succeeds_still : (statement : Statement) (effect : Effect) (next : Doing Exit) → WritesNothing next → WritesNothing (succeeds statement effect next)
 unfolding succeeds
 succeeds_still statement effect next still = only_assigns IsStill effect.sets (counted (form_of statement) effect.rows Last) (counted_still (form_of statement) effect.rows Last (tt, sends_still effect.tokens next still))
   where
@@ -220,11 +220,11 @@ tells_carry around statement = concludes_carry around statement (raises_or_tells
     (λ raised. carries_still (raises_or_tells around statement raised) (only_if AnyStep IsStill (is_message raised) (succeeds statement _ (over On)) (counted (form_of statement) 0 (raises around statement raised))
     (succeeds_still statement _ (over On) tt) (counted_still (form_of statement) 0 (raises around statement raised) (raises_still around statement raised))))
 
-again_still : (around : Around) (statement : Statement) (caught : Option Raised) → WritesNothing (raises_again around statement caught)
+pub again_still : (around : Around) (statement : Statement) (caught : Option Raised) → WritesNothing (raises_again around statement caught)
 again_still around statement None = fails_still around statement (plain outside_profile)
 again_still around statement (Some raised) = counted_still (form_of statement) 0 (raises around statement _) (raises_still around statement _)
 
-option_still : (around : Around) (statement : Statement) (option : SessionOption) → WritesNothing (sets_option around statement option)
+pub option_still : (around : Around) (statement : Statement) (option : SessionOption) → WritesNothing (sets_option around statement option)
 option_still around statement option = λ p. by_settings (set_option option p.settings)
   where
     by_settings : (came : Result Settings Failure) → WritesNothing (set_by around statement came)
@@ -285,28 +285,28 @@ carries_any {A} next each session begin log mine tied = brings_room log mine (St
 
 -- ---- the end of a call
 
-fits_still : (around : Around) (statement : Statement) (tokens : List Token) (next : Doing Exit) → WritesNothing next → WritesNothing (where_it_fits around statement tokens next)
+pub fits_still : (around : Around) (statement : Statement) (tokens : List Token) (next : Doing Exit) → WritesNothing next → WritesNothing (where_it_fits around statement tokens next)
 fits_still around statement tokens next still = λ p. only_if AnyStep IsStill (nat_lt p.bytes_left (size_of tokens)) (fails_for around statement (plain result_full)) next (fails_still around statement (plain result_full)) still
 
-even_still : (around : Around) (statement : Statement) (status : ℤ) → WritesNothing (ends_even around statement status)
+pub even_still : (around : Around) (statement : Statement) (status : ℤ) → WritesNothing (ends_even around statement status)
 unfolding ends_even
 even_still around statement status = fits_still around statement (procedure_done status) (succeeds statement (sending (procedure_done status)) (over On)) (succeeds_still statement (sending (procedure_done status)) (over On) tt)
 
-uneven_end_still : (caught : Bool) (what : Action) (raised : Raised) → WritesNothing (uneven_end caught what raised)
+pub uneven_end_still : (caught : Bool) (what : Action) (raised : Raised) → WritesNothing (uneven_end caught what raised)
 uneven_end_still true what raised = caught_still what raised
 uneven_end_still false what raised = ended_by_still what
 
-uneven_still : (around : Around) (statement : Statement) (status : ℤ) (raised : Raised) → WritesNothing (ends_uneven around statement status raised)
+pub uneven_still : (around : Around) (statement : Statement) (status : ℤ) (raised : Raised) → WritesNothing (ends_uneven around statement status raised)
 unfolding ends_uneven
 uneven_still around statement status raised = λ p. by (is_caught_in around raised) (action_in around p.settings.xact_abort raised)
   where
     by : (caught : Bool) (what : Action) → WritesNothing (ends_uneven_as around statement status raised caught what)
     by caught what = fits_still around statement (uneven_tokens caught what status raised) _ (tt, (tt, (tt, uneven_end_still caught what raised)))
 
-call_ends_still : (around : Around) (statement : Statement) (count : ℕ) (status : ℤ) → WritesNothing (ends_call around statement count status)
+pub call_ends_still : (around : Around) (statement : Statement) (count : ℕ) (status : ℤ) → WritesNothing (ends_call around statement count status)
 call_ends_still around statement count status = λ p. only_if AnyStep IsStill (is_even p count) (ends_even around statement status) _ (even_still around statement status) (uneven_still around statement status _)
 
-back_given_still : (around : Around) (statement : Statement) (status : Option (List ℕ)) (arguments : List Argument) (call : Call) (count : ℕ) (inner : List Variable) (number : ℤ) → WritesNothing (gives_back around statement status arguments call count inner number)
+pub back_given_still : (around : Around) (statement : Statement) (status : Option (List ℕ)) (arguments : List Argument) (call : Call) (count : ℕ) (inner : List Variable) (number : ℤ) → WritesNothing (gives_back around statement status arguments call count inner number)
 unfolding gives_back concludes
 back_given_still around statement status arguments call count inner number =
     only_then AnyStep IsStill (reads λ p. comes_to (given_back p.vars status arguments call number inner)) _ (λ p. only_comes AnyStep IsStill (given_back p.vars status arguments call number inner)) by_came
@@ -315,7 +315,7 @@ back_given_still around statement status arguments call count inner number =
     by_came (Ok sets) = only_assigns IsStill sets (ends_call around statement count number) (call_ends_still around statement count number)
     by_came (Err failure) = fails_still around statement failure
 
-returns_still : (around : Around) (statement : Statement) (status : Option (List ℕ)) (arguments : List Argument) (call : Call) (count : ℕ) (inner : List Variable) (exit : Exit) → WritesNothing (returns_from around statement status arguments call count inner exit)
+pub returns_still : (around : Around) (statement : Statement) (status : Option (List ℕ)) (arguments : List Argument) (call : Call) (count : ℕ) (inner : List Variable) (exit : Exit) → WritesNothing (returns_from around statement status arguments call count inner exit)
 returns_still around statement status arguments call count inner (Raise raised) = (tt, tt)
 returns_still around statement status arguments call count inner (RaiseUp raised) = (tt, tt)
 returns_still around statement status arguments call count inner End = (tt, tt)
@@ -325,7 +325,7 @@ returns_still around statement status arguments call count inner Leave = back_gi
 returns_still around statement status arguments call count inner Again = back_given_still around statement status arguments call count inner (pos 0)
 
 -- what is called is looked up
-finds_call_still : (around : Around) (statement : Statement) (status : Option (List ℕ)) (name : List ℕ) (arguments : List Argument) → WritesNothing (finds_call around statement status name arguments)
+pub finds_call_still : (around : Around) (statement : Statement) (status : Option (List ℕ)) (name : List ℕ) (arguments : List Argument) → WritesNothing (finds_call around statement status name arguments)
 unfolding finds_call
 finds_call_still around statement status name arguments = only_room AnyStep IsStill (own (asks_any (known_by around statement) (name ∷ [])) Finding) (own_still (asks_any (known_by around statement) (name ∷ [])) Finding
     (only_bind AnyStep IsStill (finds_by (known_by around statement name) name) _ (reads_still (finds_by (known_by around statement name) name) (finds_read (known_by around statement name) name))
@@ -339,24 +339,24 @@ finds_call_still around statement status name arguments = only_room AnyStep IsSt
 
 -- ---- the end of a write whose triggers have run
 
-own_end_still : (home : Home) (succeeded : Bool) → WritesNothing (closes_own home succeeded)
+pub own_end_still : (home : Home) (succeeded : Bool) → WritesNothing (closes_own home succeeded)
 own_end_still Own succeeded = own_closes_still succeeded
 own_end_still Open succeeded = tt
 own_end_still Nowhere succeeded = tt
 
-undone_still : (mark : ℕ) (there : Bool) (next : Doing (Unit {0})) → WritesNothing next → WritesNothing (undone_to mark there next)
+pub undone_still : (mark : ℕ) (there : Bool) (next : Doing (Unit {0})) → WritesNothing next → WritesNothing (undone_to mark there next)
 undone_still mark true next still = (tt, λ reply can. done_still next still reply)
 undone_still mark false next still = still
 
-then_relaxed_still : (next : Doing (Unit {0})) → WritesNothing next → WritesNothing (relaxes_then next)
+pub then_relaxed_still : (next : Doing (Unit {0})) → WritesNothing next → WritesNothing (relaxes_then next)
 unfolding relaxes_then
 then_relaxed_still next still = (tt, λ reply can. done_still next still reply)
 
-settles_still : (home : Home) (mark : ℕ) (succeeded : Bool) (p : SessionProgress) → WritesNothing (settles home mark succeeded p)
+pub settles_still : (home : Home) (mark : ℕ) (succeeded : Bool) (p : SessionProgress) → WritesNothing (settles home mark succeeded p)
 settles_still home mark true p = leaves_still home true
 settles_still home mark false p = undone_still mark (has_mark mark p) (relaxes_then (closes_own home false)) (then_relaxed_still (closes_own home false) (own_end_still home false))
 
-fired_left_still : (home : Home) (mark : ℕ) (stood succeeded : Bool) → WritesNothing (leaves_fired home mark stood succeeded)
+pub fired_left_still : (home : Home) (mark : ℕ) (stood succeeded : Bool) → WritesNothing (leaves_fired home mark stood succeeded)
 unfolding leaves_fired
 fired_left_still home mark stood succeeded = λ p. only_then AnyStep IsStill (if p.stands then settles home mark succeeded p else over tt) _
     (only_if AnyStep IsStill p.stands (settles home mark succeeded p) (over tt) (settles_still home mark succeeded p) tt) (λ done. (tt, tt))
@@ -573,12 +573,12 @@ all_carry levels (statement ∷ others) back = (mean_carry levels statement back
 
 -- ---- batches
 
-ends_still : (exit : Exit) → WritesNothing (ends exit)
+pub ends_still : (exit : Exit) → WritesNothing (ends exit)
 unfolding ends ends_doomed
 ends_still exit = λ p. only_if AnyStep IsStill p.txn.doomed ends_doomed (makes (step.sends _) (over tt))
     (tt, only_then AnyStep IsStill rolls_back_told (λ done. makes (step.sends _) (over tt)) told_still (λ done. (tt, tt))) (tt, tt)
 
-defined_still : (line : ℤ) (came : Result Effect Failure) → WritesNothing (defined line came)
+pub defined_still : (line : ℤ) (came : Result Effect Failure) → WritesNothing (defined line came)
 defined_still line (Ok effect) = (tt, (tt, tt))
 defined_still line (Err failure) = (tt, raised_still around_batch line command_none _)
 
@@ -603,15 +603,15 @@ batch_carry read back = carries_makes (step.begins _) (runs_text read then ends)
 
 -- ---- calls by RPC
 
-fails_call_still : (failure : Failure) → WritesNothing (fails_call failure)
+pub fails_call_still : (failure : Failure) → WritesNothing (fails_call failure)
 unfolding fails_call
 fails_call_still failure = (tt, λ p. (tt, (tt, ended_by_still (ending (action_in around_batch p.settings.xact_abort (error_or_full p (raised_at (pos 1) failure)))))))
 
-returned_still : (number : ℤ) (tokens : List Token) (next : Doing Exit) → WritesNothing next → WritesNothing (tells_returned number tokens next)
+pub returned_still : (number : ℤ) (tokens : List Token) (next : Doing Exit) → WritesNothing next → WritesNothing (tells_returned number tokens next)
 returned_still number tokens next still = λ p. only_if AnyStep IsStill (nat_lt p.bytes_left (size_of tokens)) (fails_call (plain result_full)) (makes (step.tells_rows 0) (makes (step.tells_error number) (makes (step.sends tokens) next)))
     (fails_call_still (plain result_full)) (tt, (tt, (tt, still)))
 
-exec_ends_still : (call : Errand) (count : ℕ) (status : ℤ) → WritesNothing (ends_exec call count status)
+pub exec_ends_still : (call : Errand) (count : ℕ) (status : ℤ) → WritesNothing (ends_exec call count status)
 unfolding ends_exec
 exec_ends_still call count status = λ p q. only_if AnyStep IsStill (is_even q count) (tells_returned (pos 0) (returned call p.vars status) (over On)) (returns_uneven (returned call p.vars status) raised (action_in around_batch q.settings.xact_abort raised))
     (returned_still (pos 0) (returned call p.vars status) (over On) tt) (returned_still raised.number _ (ended_by (action_in around_batch q.settings.xact_abort raised)) (ended_by_still (action_in around_batch q.settings.xact_abort raised)))
@@ -619,7 +619,7 @@ exec_ends_still call count status = λ p q. only_if AnyStep IsStill (is_even q c
     raised : Raised
     raised = raised_at (pos 1) (plain uneven)
 
-gives_call_still : (call : Errand) (of : Call) (count : ℕ) (inner : List Variable) (status : ℤ) → WritesNothing (gives_call_back call of count inner status)
+pub gives_call_still : (call : Errand) (of : Call) (count : ℕ) (inner : List Variable) (status : ℤ) → WritesNothing (gives_call_back call of count inner status)
 unfolding gives_call_back
 gives_call_still call of count inner status = only_then AnyStep IsStill (reads λ p. comes_to (given_back p.vars None (rpc_arguments call) of status inner)) _ (λ p. only_comes AnyStep IsStill (given_back p.vars None (rpc_arguments call) of status inner)) by_came
   where
@@ -627,7 +627,7 @@ gives_call_still call of count inner status = only_then AnyStep IsStill (reads �
     by_came (Ok sets) = only_assigns IsStill sets (ends_exec call count status) (exec_ends_still call count status)
     by_came (Err failure) = fails_call_still failure
 
-leaves_still_call : (call : Errand) (of : Call) (count : ℕ) (inner : List Variable) (exit : Exit) → WritesNothing (leaves_body call of count inner exit)
+pub leaves_still_call : (call : Errand) (of : Call) (count : ℕ) (inner : List Variable) (exit : Exit) → WritesNothing (leaves_body call of count inner exit)
 leaves_still_call call of count inner (Raise raised) = (tt, tt)
 leaves_still_call call of count inner (RaiseUp raised) = (tt, tt)
 leaves_still_call call of count inner End = (tt, tt)
@@ -663,7 +663,7 @@ module _ (call : Errand) where
       (carries_still (finds_call around_batch (rpc_statement object (rpc_arguments call)) None object (rpc_arguments call)) (finds_call_still around_batch (rpc_statement object (rpc_arguments call)) None object (rpc_arguments call)))
       (call_yields around_batch (rpc_statement object (rpc_arguments call)) None object (rpc_arguments call))
 
-  binds_still : (procedure : ProcedureTree) → WritesNothing (finds_defined call (Some procedure))
+  pub binds_still : (procedure : ProcedureTree) → WritesNothing (finds_defined call (Some procedure))
   unfolding binds_call
   binds_still procedure = only_if AnyStep IsStill (is_odd_procedure procedure) (over (Err (plain outside_limits))) _ tt (only_room AnyStep IsStill _ (only_bind AnyStep IsStill (reads λ p. comes_to (bound_over [] p.vars (rpc_statement procedure.name (rpc_arguments call)))) _
       (λ p. only_comes AnyStep IsStill (bound_over [] p.vars (rpc_statement procedure.name (rpc_arguments call))))
@@ -694,15 +694,15 @@ module _ (call : Errand) where
 
   -- ---- where no procedure is run
 
-  well_still : WritesNothing (tells_well call)
+  pub well_still : WritesNothing (tells_well call)
   well_still = λ p. returned_still (pos 0) (returned call p.vars (pos 0)) (over On) tt
 
-  unless_still : (read : ReadText) → WritesNothing (tells_unless call read)
+  pub unless_still : (read : ReadText) → WritesNothing (tells_unless call read)
   unless_still (text.Statements statements) = well_still
   unless_still (text.Defines line of kept) = well_still
   unless_still (text.Refused line code near) = (tt, tt)
 
-  behind_still : (exit : Exit) → WritesNothing (behind_batch call exit)
+  pub behind_still : (exit : Exit) → WritesNothing (behind_batch call exit)
   behind_still On = well_still
   behind_still Leave = tt
   behind_still Again = tt
@@ -719,7 +719,7 @@ module _ (call : Errand) where
   way_carry read way.Unmatched back = carries_still (fails_call mismatch) (fails_call_still mismatch)
   way_carry read (way.Unknown handle) back = naming_carry no_statement handle
 
-rpc_ends_still : (exit : Exit) → WritesNothing (ends_rpc exit)
+pub rpc_ends_still : (exit : Exit) → WritesNothing (ends_rpc exit)
 unfolding ends_rpc ends_rpc_doomed
 rpc_ends_still exit = λ p. only_if AnyStep IsStill p.txn.doomed ends_rpc_doomed (makes (step.sends _) (over tt))
     (tt, only_then AnyStep IsStill rolls_back_told (λ done. makes (step.sends _) (over tt)) told_still (λ done. (tt, tt))) (tt, tt)

@@ -158,7 +158,7 @@ within_carries around statement go brings = carries_room (own (asks_any (known_b
 pub bytes_still : {A : Type 0} (tokens : List _) (next : Doing (Result A Failure)) → WritesNothing next → WritesNothing (if_bytes_left tokens next)
 bytes_still tokens next still = λ p. only_if AnyStep IsStill (nat_lt p.bytes_left (size_of tokens)) (fails result_full) next tt still
 
-rows_still : (count : ℕ) (came : List Assigned × Option Failure) → WritesNothing (assigns_rows count came)
+pub rows_still : (count : ℕ) (came : List Assigned × Option Failure) → WritesNothing (assigns_rows count came)
 rows_still count (sets, None) = tt
 rows_still count (sets, Some failure) = only_assigns IsStill sets (over (Err failure)) tt
 
@@ -168,39 +168,39 @@ module _ (around : Around) where
   answers_still shapes query = only_bind AnyStep IsStill (reads_images (given_in around.fired) shapes (bound.Query query)) (λ images. reads λ p. comes_to (answer_in around p query images)) (reads_still (reads_images (given_in around.fired) shapes (bound.Query query)) (images_fetched (given_in around.fired) shapes (bound.Query query)))
       (λ images p. only_comes AnyStep IsStill (answer_in around p query images))
 
-  selects_still : (shapes : List TableTree) (query : BoundQuery) → WritesNothing (selects around shapes query)
+  pub selects_still : (shapes : List TableTree) (query : BoundQuery) → WritesNothing (selects around shapes query)
   unfolding selects
   selects_still shapes query =
       only_bind AnyStep IsStill (answers around shapes query) (λ rows. (reads λ p. comes_to (result_of (done_kind around) p.settings.no_count query rows)) >>= λ effect. if_it_fits effect) (answers_still shapes query)
       (λ rows. only_bind AnyStep IsStill (reads λ p. comes_to (result_of (done_kind around) p.settings.no_count query rows)) (λ effect. if_it_fits effect) (λ p. only_comes AnyStep IsStill (result_of (done_kind around) p.settings.no_count query rows)) (λ effect. fits_still effect))
 
-  into_still : (shapes : List TableTree) (query : BoundQuery) (places : List ℕ) → WritesNothing (selects_into around shapes query places)
+  pub into_still : (shapes : List TableTree) (query : BoundQuery) (places : List ℕ) → WritesNothing (selects_into around shapes query places)
   unfolding selects_into
   into_still shapes query places =
       only_bind AnyStep IsStill (answers around shapes query) (λ rows. reads λ p. with_room (assigns_rows (length rows) (rows_assigned p.vars places [] rows))) (answers_still shapes query)
       (λ rows p. only_room AnyStep IsStill (assigns_rows (length rows) (rows_assigned p.vars places [] rows)) (rows_still (length rows) (rows_assigned p.vars places [] rows)))
 
-  select_still : (shapes : List TableTree) (of : Bound) → WritesNothing (select_bound around shapes of)
+  pub select_still : (shapes : List TableTree) (of : Bound) → WritesNothing (select_bound around shapes of)
   select_still shapes (bound.Query query) = selects_still shapes query
   select_still shapes (bound.Assign query places) = into_still shapes query places
   select_still shapes bound.Plain = tt
   select_still shapes (bound.Write write) = tt
 
-  values_still : (shapes : List TableTree) (of : Bound) → WritesNothing (values_bound around shapes of)
+  pub values_still : (shapes : List TableTree) (of : Bound) → WritesNothing (values_bound around shapes of)
   values_still shapes (bound.Query query) = answers_still shapes query
   values_still shapes bound.Plain = tt
   values_still shapes (bound.Write write) = tt
   values_still shapes (bound.Assign query places) = tt
 
-  computes_still : (form : Layer) (shapes : List TableTree) (of : Bound) → WritesNothing (computes around form shapes of)
+  pub computes_still : (form : Layer) (shapes : List TableTree) (of : Bound) → WritesNothing (computes around form shapes of)
   unfolding computes
   computes_still form shapes of = only_bind AnyStep IsStill (values_bound around shapes of) (λ rows. reads λ p. comes_to (made_of form p.vars (first_row rows))) (values_still shapes of) (λ rows p. only_comes AnyStep IsStill (made_of form p.vars (first_row rows)))
 
-  tests_still : (shapes : List TableTree) (of : Bound) → WritesNothing (tests_bound around shapes of)
+  pub tests_still : (shapes : List TableTree) (of : Bound) → WritesNothing (tests_bound around shapes of)
   unfolding tests_bound
   tests_still shapes of = only_bind AnyStep IsStill (values_bound around shapes of) (λ rows. over (Ok (is_one (first_of (first_row rows))))) (values_still shapes of) (λ rows. tt)
 
-  composes_still : (statement : Statement) (shapes : List TableTree) (of : Bound) → WritesNothing (composes_bound around statement shapes of)
+  pub composes_still : (statement : Statement) (shapes : List TableTree) (of : Bound) → WritesNothing (composes_bound around statement shapes of)
   unfolding composes_bound
   composes_still statement shapes of =
       only_bind AnyStep IsStill (values_bound around shapes of) (λ rows. comes_to (Composed rows) >>= Sent) (values_still shapes of)
@@ -224,7 +224,7 @@ module _ (around : Around) where
       within_carries around statement (composes_bound around statement) (λ session begin log mine tied shapes of. still_on around statement shapes of (composes_bound around statement shapes of) (carries_still (composes_bound around statement shapes of) (composes_still statement shapes of)) session begin log mine tied)
 
   -- the status of RETURN
-  status_still : (shapes : List TableTree) (of : Bound) → WritesNothing (status_bound around shapes of)
+  pub status_still : (shapes : List TableTree) (of : Bound) → WritesNothing (status_bound around shapes of)
   unfolding status_bound
   status_still shapes of = only_bind AnyStep IsStill (values_bound around shapes of) (λ rows. comes_to (status_of (first_row rows))) (values_still shapes of) (λ rows. only_comes AnyStep IsStill (status_of (first_row rows)))
 
@@ -232,7 +232,7 @@ module _ (around : Around) where
   unfolding statuses
   statuses_carry statement = within_carries around statement (status_bound around) (λ session begin log mine tied shapes of. still_on around statement shapes of (status_bound around shapes of) (carries_still (status_bound around shapes of) (status_still shapes of)) session begin log mine tied)
 
-  work_still : (form : Layer) (shapes : List TableTree) (of : Bound) → WritesNothing (works_bound around form shapes of)
+  pub work_still : (form : Layer) (shapes : List TableTree) (of : Bound) → WritesNothing (works_bound around form shapes of)
   work_still (Form-F.Select select) shapes of = select_still shapes of
   work_still form shapes of = computes_still form shapes of
 

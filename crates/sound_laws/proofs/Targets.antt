@@ -145,10 +145,10 @@ first_stays name done (next ∷ rest) = by_test (is_among next (name ∷ done)) 
     by_test true as_was longer = as_was
     by_test false as_was longer = longer
 
-abbrev StartsWith : Layer → List ℕ → Type 0
+abbrev pub StartsWith : Layer → List ℕ → Type 0
 StartsWith form table = (more : List (List ℕ)) × (distinct_onto [] (table_names form ++ object_names form) ≡ table ∷ more)
 
-first_in : (form : Layer) (table : List ℕ) → target_of form ≡ Some table → StartsWith form table
+pub first_in : (form : Layer) (table : List ℕ) → target_of form ≡ Some table → StartsWith form table
 first_in (Form-F.Insert name columns given) table of = subst (StartsWith (Form-F.Insert name columns given)) (some_same name table of) (first_stays name [] (in_rows given ++ object_names (Form-F.Insert name columns given)))
 first_in (Form-F.Update name sets filter) table of = subst (StartsWith (Form-F.Update name sets filter)) (some_same name table of) (first_stays name [] ((in_sets sets ++ in_maybe_test filter) ++ object_names (Form-F.Update name sets filter)))
 first_in (Form-F.Delete name filter) table of = subst (StartsWith (Form-F.Delete name filter)) (some_same name table of) (first_stays name [] (in_maybe_test filter ++ object_names (Form-F.Delete name filter)))
@@ -168,17 +168,17 @@ shape_itself shape = by_test (is_shape_of (rows_table shape.name) shape) (same_s
     by_test false is = cc
 
 -- the table that a form writes is none that it reads of a trigger
-not_read : (form : Layer) (table : List ℕ) → target_of form ≡ Some table → is_read_by form table ≡ false
+pub not_read : (form : Layer) (table : List ℕ) → target_of form ≡ Some table → is_read_by form table ≡ false
 not_read (Form-F.Insert name columns given) table of = let same : name ≡ table = some_same name table of in ap not (ap (λ (n : List ℕ). same_units n table) same ∙ same_self table)
 not_read (Form-F.Update name sets filter) table of = let same : name ≡ table = some_same name table of in ap not (ap (λ (n : List ℕ). same_units n table) same ∙ same_self table)
 not_read (Form-F.Delete name filter) table of = let same : name ≡ table = some_same name table of in ap not (ap (λ (n : List ℕ). same_units n table) same ∙ same_self table)
 not_read _ table of = absurd (none_some table of)
 
 -- what is known of it is that it stands for nothing, and then its rows are given; else its rows are not given
-abbrev KnownSo : Option Fired → Layer → List ℕ → Type 0
+abbrev pub KnownSo : Option Fired → Layer → List ℕ → Type 0
 KnownSo fired form table = (known_in fired form table ≡ Some None) ⊎ (given_in fired (rows_table table) ≡ None)
 
-known_so : (fired : Option Fired) (form : Layer) (table : List ℕ) → is_read_by form table ≡ false → KnownSo fired form table
+pub known_so : (fired : Option Fired) (form : Layer) (table : List ℕ) → is_read_by form table ≡ false → KnownSo fired form table
 known_so None form table other = inr refl
 known_so (Some fired) form table other = by_names (same_units table inserted_name) (same_units table deleted_name)
   where
